@@ -1,0 +1,35 @@
+#!/bin/sh
+# Times ten million calls of `civil` and the same loop in plain Rust, and prints the nanoseconds a
+# call of each, the best of five runs. It needs `rt` and `rustc` on the PATH.
+set -eu
+cd "$(dirname "$0")/.."
+calls=10000000
+work=$(mktemp -d)
+trap 'rm -rf "$work"' EXIT
+
+(cd crates/civil_bench && rt run) >"$work/proved.out" 2>"$work/build.log" || {
+    cat "$work/build.log" >&2
+    exit 1
+}
+rustc -O -o "$work/plain" bench/civil.rs
+"$work/plain" >"$work/plain.out"
+cmp "$work/proved.out" "$work/plain.out"
+
+best() {
+    least=
+    for _ in 1 2 3 4 5; do
+        start=$(date +%s%N)
+        "$1" >"$work/out"
+        took=$(($(date +%s%N) - start))
+        if [ -z "$least" ] || [ "$took" -lt "$least" ]; then least=$took; fi
+    done
+    echo "$least"
+}
+
+show() {
+    tenths=$(($2 * 10 / calls))
+    echo "$1: $((tenths / 10)).$((tenths % 10)) ns a call"
+}
+
+show 'proved civil' "$(best crates/civil_bench/out/civil_bench)"
+show 'plain Rust' "$(best "$work/plain")"

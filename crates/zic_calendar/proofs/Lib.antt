@@ -1,0 +1,4 @@
+pub mod YearLemmas
+pub mod DateLemmas
+pub mod WeekdayLemmas
+pub mod FormLemmas

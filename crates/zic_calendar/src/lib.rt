@@ -1,0 +1,17 @@
+//! The proleptic Gregorian calendar: day numbers, weekdays, the day forms of time zone rules, and
+//! civil time. Nothing here takes memory or fails.
+#![tactic(auto)]
+
+mod civil_time;
+mod clock;
+mod day_form;
+pub mod laws;
+mod month;
+
+pub use civil_time::Civil;
+pub use clock::civil;
+pub use day_form::{On, day_of, weekday};
+pub use month::{days_in_month, is_leap_year};
+
+#[cfg(test)]
+mod tests;
