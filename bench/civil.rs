@@ -1,4 +1,4 @@
-//! The sum of `crates/civil_bench` in plain Rust, with the usual algorithm for dates.
+//! The sums of `crates/civil_bench` in plain Rust, with the usual algorithm for dates.
 
 const FIRST_DAY: i64 = -719_162;
 const DAYS: u32 = 3_652_059;
@@ -40,10 +40,19 @@ fn digits(call: u32) -> u64 {
     date + time
 }
 
+fn weekday(day: i64) -> u8 {
+    (day + 4).rem_euclid(7) as u8
+}
+
 fn main() {
-    let mut total = 0u64;
-    for call in 0..CALLS {
-        total = total.wrapping_add(digits(call));
+    let word = std::env::args().nth(1);
+    if word.as_deref() != Some("weekday") {
+        let total = (0..CALLS).fold(0u64, |total, call| total.wrapping_add(digits(call)));
+        println!("civil {total}");
     }
-    println!("{total}");
+    if word.as_deref() != Some("civil") {
+        let day = |call| FIRST_DAY + i64::from(call % DAYS);
+        let total = (0..CALLS).fold(0u64, |total, call| total.wrapping_add(u64::from(weekday(day(call)))));
+        println!("weekday {total}");
+    }
 }

@@ -1,6 +1,6 @@
 #!/bin/sh
-# Times ten million calls of `civil` and the same loop in plain Rust, and prints the nanoseconds a
-# call of each, the best of five runs. It needs `rt` and `rustc` on the PATH.
+# Times ten million calls of `civil` and of `weekday` and the same loops in plain Rust, and prints the
+# nanoseconds a call of each, the best of five runs. It needs `rt` and `rustc` on the PATH.
 set -eu
 cd "$(dirname "$0")/.."
 calls=10000000
@@ -19,7 +19,7 @@ best() {
     least=
     for _ in 1 2 3 4 5; do
         start=$(date +%s%N)
-        "$1" >"$work/out"
+        "$1" "$2" >"$work/out"
         took=$(($(date +%s%N) - start))
         if [ -z "$least" ] || [ "$took" -lt "$least" ]; then least=$took; fi
     done
@@ -31,5 +31,7 @@ show() {
     echo "$1: $((tenths / 10)).$((tenths % 10)) ns a call"
 }
 
-show 'proved civil' "$(best crates/civil_bench/out/civil_bench)"
-show 'plain Rust' "$(best "$work/plain")"
+for call in civil weekday; do
+    show "proved $call" "$(best crates/civil_bench/out/civil_bench "$call")"
+    show "plain Rust $call" "$(best "$work/plain" "$call")"
+done

@@ -1,8 +1,9 @@
-//! Sums `civil` over ten million days and prints the sum, for `bench/civil.sh` to time.
+//! Sums `civil` and `weekday` over ten million days and prints the sums, for `bench/civil.sh` to time. The word
+//! `civil` or `weekday` asks for one of the two.
 #![tactic(auto)]
 
-use std::io;
-use zic_calendar::civil;
+use std::{env, io};
+use zic_calendar::{civil, weekday};
 
 /// The day number of 0001-01-01.
 const FIRST_DAY: i64 = -719_162;
@@ -13,11 +14,33 @@ const DAYS: u32 = 3_652_059;
 const CALLS: u32 = 10_000_000;
 
 fn main(rt: HostRuntime) -> io::Result<()> {
+    let word = env::args(&rt)?.nth(1);
+    let word = word.as_ref().map(|w| w.as_str());
+    if word != Some("weekday") {
+        let total = civil_sum();
+        println!(rt; "civil {total}")?;
+    }
+    if word != Some("civil") {
+        let total = weekday_sum();
+        println!(rt; "weekday {total}")?;
+    }
+    Ok(())
+}
+
+fn civil_sum() -> u64 {
     let mut total = 0u64;
     for call in 0..CALLS {
         total = total.wrapping_add(digits(call));
     }
-    println!(rt; "{total}")
+    total
+}
+
+fn weekday_sum() -> u64 {
+    let mut total = 0u64;
+    for call in 0..CALLS {
+        total = total.wrapping_add(weekday(FIRST_DAY + (call % DAYS) as i64) as u64);
+    }
+    total
 }
 
 /// The digits of the date of one day, as YYYYMMDD, plus those of one time of day, as HHMMSS.
