@@ -1,0 +1,76 @@
+-- The files of a source.
+use Rattle.std.specs.Prelude.{◌≡◌, ◌<◌, ℕ, ℤ, ◌↔◌, List, length, slice_get, Some, ◌⊎◌, IsSomeAnd}
+use Rattle.zic_source.specs.declared.fault.Stop.{Stop}
+use Rattle.zic_source.specs.declared.fault.Stop.TheVariants as stop
+use Rattle.zic_source.specs.Source.{SourceLines}
+use Rattle.zic_rules.specs.Fault.{StopsZone, IsSound}
+use Rattle.zic_rules.specs.State.{Shown}
+use Rattle.zic_rules.specs.Zone.{Zone, Shows, lines_of}
+use Rattle.zic_footer.specs.Footer.{TzString}
+use Rattle.zic_footer.specs.Making.{IsMade, StopsFooter}
+use Rattle.zic_table.specs.Content.{Content}
+use Rattle.zic_table.specs.Image.{IsContentOf}
+use Rattle.zic_tzif.specs.Answer.{Gives}
+use Rattle.zic_tzif.specs.Reading.{IsFile}
+use Rattle.zic_tzif.specs.Writing.{written}
+use Rattle.zic_main.specs.declared.compile.Compiled.{Compiled}
+
+-- a zone's name, the octets of its file, and what a reader makes of them
+pub record File : Type 0 where
+  pub name : List ℕ
+  pub octets : List ℕ
+  pub content : Content
+
+-- a file without where it lies in memory
+abbrev pub file_of : Compiled → File
+file_of c = record { name = c.name.items; octets = c.octets.items; content = c.zone }
+
+-- The octets are the image of the zone: the written form of all its changes before the explicit end and of the footer
+-- that is made for it.
+pub record IsImage (zone : Zone) (octets : List ℕ) (content : Content) : Type 0 where
+  pub footer : TzString
+  pub is_made : IsMade zone footer
+  pub is_content : IsContentOf zone footer content
+  pub are_written : octets ≡ written content
+
+-- a reader of TZif accepts the octets, and what they give at an instant is what the zone shows
+pub record ReadsAs (zone : Zone) (octets : List ℕ) (content : Content) : Type 0 where
+  pub read : IsFile octets content
+  pub gives : (t : ℤ) (state : Shown) → Gives content t state ↔ Shows zone t state
+
+-- the octets of a zone's file: its image, read as the zone
+abbrev pub AreOctetsOf : Zone → List ℕ → Type 0
+AreOctetsOf zone octets = (content : Content) × IsImage zone octets content × ReadsAs zone octets content
+
+-- the octets are a file
+abbrev pub IsSomeFile : List ℕ → Type 0
+IsSomeFile octets = (content : Content) × IsFile octets content
+
+-- the file of a zone: its name, its image, and what a reader makes of that
+pub record IsFileOf (zone : Zone) (file : File) : Type 0 where
+  pub name : IsSomeAnd (lines_of zone) (λ lines. file.name ≡ lines.name)
+  pub image : IsImage zone file.octets file.content
+  pub reads : ReadsAs zone file.octets file.content
+
+-- the zone of this number
+abbrev pub nth_zone : SourceLines → ℕ → Zone
+nth_zone source n = record { source = source; number = n }
+
+-- one file for each zone, in line order
+pub record AreFilesOf (source : SourceLines) (files : List File) : Type 0 where
+  pub count : length files ≡ length source.zones
+  pub each : (n : ℕ) (file : File) → slice_get files n ≡ Some file → IsFileOf (nth_zone source n) file
+
+-- why one zone gets no file: a fault of its states, or else of its footer
+abbrev pub StopsFile : Zone → Stop → Type 0
+StopsFile zone stop.Memory = Unit {0}
+StopsFile zone (stop.Fault fault) =
+    StopsZone zone (stop.Fault fault)
+    ⊎ (IsSound zone × IsSomeAnd (lines_of zone) (λ lines. StopsFooter zone lines.first.place (stop.Fault fault)))
+
+-- why a source gets no files: what stops the first zone in line order that has a fault; of want of memory nothing is said
+abbrev pub StopsFiles : SourceLines → Stop → Type 0
+StopsFiles source stop.Memory = Unit {0}
+StopsFiles source (stop.Fault fault) =
+    (n : ℕ) × (n < length source.zones) × StopsFile (nth_zone source n) (stop.Fault fault)
+    × ((m : ℕ) → m < n → (file : File) × IsFileOf (nth_zone source m) file)

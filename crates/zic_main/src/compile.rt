@@ -1,0 +1,73 @@
+//! The files of a source.
+
+ghost use Rattle.std.specs.Prelude.{◌<◌, length, map, IfOk, IfErr};
+ghost use Rattle.zic_tzif.specs.Reading.{IsFile};
+ghost use Rattle.zic_main.specs.File.{file_of, nth_zone, AreFilesOf, AreOctetsOf, IsFileOf, IsSomeFile, StopsFile, StopsFiles};
+
+use std::alloc::{AllocError, Global};
+use zic_footer::make;
+use zic_rules::timeline;
+use zic_source::{Source, Stop};
+use zic_table::table;
+use zic_tzif::{ReadStop, Zone, read, write};
+
+/// The file of a zone.
+#[derive(Debug, Drop)]
+pub struct Compiled {
+    /// The name of the Zone line.
+    pub name: Vec<u8>,
+    pub octets: Vec<u8>,
+    /// What a reader makes of the octets.
+    pub zone: Zone,
+}
+
+/// The files of all zones, in line order, or the first fault.
+pub fn compile(alloc: Global, source: &Source) -> Result<Vec<Compiled>, Stop>
+    ensures ok { IfOk result (λ files. AreFilesOf source.now (map file_of files.items)) }
+    ensures err { IfErr result (StopsFiles source.now) }
+{
+    let mut files = Vec::new(alloc);
+    for zone in 0..source.zones() {
+        let file = compile_zone(alloc, source, zone)?;
+        files.push(file)?;
+    }
+    Ok(files)
+}
+
+/// The file of a zone, and what a reader makes of it.
+fn compile_zone(alloc: Global, source: &Source, zone: usize) -> Result<Compiled, Stop>
+    requires { zone < length source.now.zones }
+    ensures ok { IfOk result (λ file. IsFileOf (nth_zone source.now zone) (file_of file)) }
+    ensures err { IfErr result (StopsFile (nth_zone source.now zone)) }
+{
+    let octets = zone_octets(alloc, source, zone)?;
+    let name = Vec::from_slice(alloc, source.zone_name(zone))?;
+    let zone = read_back(alloc, &octets)?;
+    Ok(Compiled { name, octets, zone })
+}
+
+/// The octets of a zone's file.
+fn zone_octets(alloc: Global, source: &Source, zone: usize) -> Result<Vec<u8>, Stop>
+    requires { zone < length source.now.zones }
+    ensures ok { IfOk result (λ octets. AreOctetsOf (nth_zone source.now zone) octets.items) }
+    ensures err { IfErr result (StopsFile (nth_zone source.now zone)) }
+{
+    let place = source.line(zone, 0).place;
+    let states = timeline(alloc, source, zone)?;
+    let footer = make(alloc, place, &states)?;
+    let table = table(alloc, place, &states, &footer)?;
+    let octets = write(alloc, &table)?;
+    Ok(octets)
+}
+
+/// What a reader makes of octets that are a file.
+fn read_back(alloc: Global, octets: &[u8]) -> Result<Zone, AllocError>
+    requires { IsSomeFile octets.now }
+    ensures { IfOk result (IsFile octets.now) }
+{
+    match read(alloc, octets) {
+        Ok(zone) => Ok(zone),
+        Err(ReadStop::Memory) => Err(AllocError),
+        Err(ReadStop::Bad(_)) => unreachable!(),
+    }
+}

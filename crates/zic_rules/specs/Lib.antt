@@ -1,0 +1,7 @@
+pub mod Change
+pub mod Fault
+pub mod State
+pub mod Tail
+pub mod Zone
+pub use Rattle.zic_source.specs.Source
+pub use Rattle.zic_source.specs.Stop

@@ -1,0 +1,47 @@
+-- What a zone's lines say of an instant: zic(8), FILES.
+use Rattle.std.specs.Prelude.{◌≡◌, ◌≢◌, ℕ, ℤ, pos, ◌-ℤ◌, ◌<ℤ◌, ◌≤ℤ◌, false, Option, IsSomeAnd}
+use Rattle.zic_source.specs.declared.source.ZoneLine.{ZoneLine}
+use Rattle.zic_source.specs.Source.{SourceLines, ZoneLines, zone_at}
+use Rattle.zic_rules.specs.State.{Shown}
+
+-- a zone of a source, by its number from 0
+pub record Zone : Type 0 where
+  pub source : SourceLines
+  pub number : ℕ
+
+-- the lines of the zone
+abbrev pub lines_of : Zone → Option ZoneLines
+lines_of zone = zone_at zone.source zone.number
+
+-- A line of standard time shows its own offset, the standard flag and its FORMAT: zic(8), RULES `-`.
+abbrev pub line_state : ZoneLine → Shown
+line_state line = record { offset = line.offset; daylight = false; name = line.format }
+
+-- The zone shows this state at the instant. While no line has an UNTIL, the Zone line governs at every instant.
+abbrev pub Shows : Zone → ℤ → Shown → Type 0
+Shows zone t state = IsSomeAnd (lines_of zone) (λ lines. state ≡ line_state lines.first)
+
+-- The explicit end, from which on the footer says what the zone shows: the epoch, where the only line has no rules. Own choice.
+abbrev pub end_of : Zone → ℤ
+end_of zone = pos 0
+
+-- an instant before the explicit end at which the zone shows another state than one second earlier
+pub record IsChange (zone : Zone) (t : ℤ) : Type 0 where
+  pub before_end : t <ℤ end_of zone
+  pub state : Shown
+  pub earlier : Shown
+  pub shows : Shows zone t state
+  pub showed : Shows zone (t -ℤ pos 1) earlier
+  pub differs : state ≢ earlier
+
+-- every change comes after the instant
+abbrev pub IsBeforeChanges : Zone → ℤ → Type 0
+IsBeforeChanges zone t = (u : ℤ) → IsChange zone u → t <ℤ u
+
+-- no change comes after the instant
+abbrev pub IsAfterChanges : Zone → ℤ → Type 0
+IsAfterChanges zone t = (u : ℤ) → IsChange zone u → u ≤ℤ t
+
+-- the state that the zone shows before every change
+abbrev pub IsFirstState : Zone → Shown → Type 0
+IsFirstState zone state = (t : ℤ) → t <ℤ end_of zone → IsBeforeChanges zone t → Shows zone t state

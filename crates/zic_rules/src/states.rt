@@ -1,0 +1,104 @@
+//! The states of a zone in the order of time.
+
+ghost use Rattle.std.specs.Prelude.{◌≡◌, ℤ, List, ◌<ℤ◌, length};
+ghost use Rattle.zic_rules.specs.Change.{Change, AreChanges};
+ghost use Rattle.zic_rules.specs.Fault.{IsLimited};
+ghost use Rattle.zic_rules.specs.State.{shown};
+ghost use Rattle.zic_rules.specs.Tail.{IsTail, HasLimits};
+ghost use Rattle.zic_rules.specs.Zone.{Shows, IsFirstState, end_of, line_state};
+
+use crate::state::State;
+use std::marker::Model;
+use zic_source::{Source, ZoneLine};
+
+pub mod checks;
+
+/// A zone of a source, which has passed all checks of its states.
+#[derive(Drop)]
+pub struct Timeline<'a> {
+    source: &'a Source,
+    zone: usize,
+}
+
+impl<'a> Model for Timeline<'a> {
+    ghost use Rattle.zic_rules.specs.Zone.{Zone};
+
+    ghost Value = { Zone };
+
+    ghost use Rattle.zic_rules.specs.Fault.{IsSound};
+
+    ghost view = { λ t. record { source = t.source.now; number = t.zone } };
+
+    ghost invariant = { λ t. IsSound (record { source = t.source.now; number = t.zone }) };
+}
+
+/// 1970-01-01T00:00:00 UT: the explicit end of a zone whose only line has no rules.
+const EPOCH: i64 = 0;
+
+/// What a zone shows from its last change before the explicit end on, or at every instant if there is none.
+#[derive(Clone, Copy, Debug, PartialEq, Eq)]
+pub enum Tail<'a> {
+    /// One state for ever.
+    Constant(State<'a>),
+}
+
+impl<'a> Timeline<'a> {
+    /// The state of the zone's only line, at every instant.
+    fn only_state(&self) -> State<'a>
+        ensures shows { (t : ℤ) → Shows self.now t (shown result) }
+        ensures limited { IsLimited (shown result) }
+    {
+        state_of(self.source.line(self.zone, 0))
+    }
+
+    /// The explicit end: the instant from which on `tail` says what the zone shows.
+    pub fn end(&self) -> i64
+        ensures { result ≡ end_of self.now }
+    {
+        EPOCH
+    }
+
+    /// The state before every change.
+    pub fn first(&self) -> State<'a>
+        ensures shows { IsFirstState self.now (shown result) }
+        ensures limited { IsLimited (shown result) }
+    {
+        self.only_state()
+    }
+
+    /// How many changes there are before the explicit end. While zones have one line of standard time, none.
+    pub fn len(&self) -> usize
+        ensures { (changes : List Change) × AreChanges self.now changes × (result ≡ length changes) }
+    {
+        0usize
+    }
+
+    /// The state at an instant before the explicit end.
+    pub fn state(&self, t: i64) -> State<'a>
+        requires { t <ℤ end_of self.now }
+        ensures shows { Shows self.now t (shown result) }
+        ensures limited { IsLimited (shown result) }
+    {
+        let _instant = t;
+        self.only_state()
+    }
+
+    /// What the zone shows from its last change before the explicit end on, or at every instant if there is none.
+    pub fn tail(&self) -> Tail<'a>
+        ensures shows { IsTail self.now result }
+        ensures limited { HasLimits result }
+    {
+        Tail::Constant(self.only_state())
+    }
+}
+
+/// What a line of standard time shows.
+fn state_of(line: &ZoneLine) -> State<'_>
+    ensures { shown result ≡ line_state line.now }
+{
+    State {
+        offset: line.offset,
+        daylight: false,
+        name: line.format.octets(),
+    }
+}

@@ -1,0 +1,11 @@
+pub mod Splits
+pub mod Scan
+pub mod Words
+pub mod Laws
+pub mod Entries
+pub mod Times
+pub mod FirstLines
+pub mod Digits
+pub mod Loops
+pub mod Buffer
+pub mod SourceLemmas

@@ -1,0 +1,13 @@
+pub mod Source
+pub mod Zone
+pub mod Stop
+pub mod Parts
+pub mod Line
+pub mod Field
+pub mod Taken
+pub mod Word
+pub mod Name
+pub mod Time
+pub mod ZoneLine
+pub mod Grammar
+pub mod Reading

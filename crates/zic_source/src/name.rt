@@ -1,0 +1,51 @@
+//! Names of zones and links.
+
+ghost use Rattle.std.specs.Prelude.{◌≡◌, ◌==◌};
+ghost use Rattle.std.specs.List.{list_all, slice_split};
+ghost use Rattle.zic_source.specs.Name.{is_name, is_name_byte, is_name_part};
+
+use crate::field::is_dash;
+
+/// How many bytes a name may have.
+const LONGEST_NAME: usize = 255;
+
+fn is_name_byte(byte: u8) -> bool
+    ensures { result ≡ is_name_byte byte }
+{
+    byte.is_ascii_alphanumeric() || matches!(byte, b'_' | b'-' | b'+' | b'.' | b'/')
+}
+
+/// Whether each byte may stand in a name.
+fn are_name_bytes(field: &[u8]) -> bool
+    ensures { result ≡ list_all is_name_byte field.now }
+{
+    field.iter().all(|byte| is_name_byte(*byte))
+}
+
+/// Whether this may stand between the slashes of a name.
+fn is_name_part(part: &[u8]) -> bool
+    ensures { result ≡ is_name_part part.now }
+{
+    match part {
+        [] => false,
+        [a] => *a != b'.',
+        [a, b] => *a != b'.' || *b != b'.',
+        _ => true,
+    }
+}
+
+/// Whether each part between slashes may stand there.
+fn are_name_parts(field: &[u8]) -> bool
+    ensures { result ≡ list_all is_name_part (slice_split (λ byte. byte == 47) field.now) }
+{
+    field
+        .split(|byte| *byte == b'/')
+        .all(|part| is_name_part(part))
+}
+
+/// Whether the field is the name of a zone or a link.
+pub(crate) fn is_name(field: &[u8]) -> bool
+    ensures { result ≡ is_name field.now }
+{
+    field.len() <= LONGEST_NAME && !is_dash(field) && are_name_bytes(field) && are_name_parts(field)
+}

@@ -1,0 +1,154 @@
+//! Times and offsets.
+
+ghost use Rattle.std.specs.Prelude.{◌≡◌, ◌+◌, ◌*◌, ◌^◌, ◌<◌, ◌≤◌, List, IfSome, length, option_map, pos, ◌==◌};
+ghost use Rattle.std.specs.List.{slice_split};
+ghost use Rattle.zic_source.specs.Time.{number, sixtieths, decimals, seconds_from, magnitude, whole_seconds, offset_of, rounded, IsNearestSecond};
+
+use crate::field::is_dash;
+use crate::split::split_once;
+use std::cmp::Ordering;
+
+/// How many digits hours and decimals of a second may have.
+const MOST_DIGITS: usize = 9;
+
+/// The greatest STDOFF either way, in seconds.
+const DAY: u32 = 86400;
+
+/// Billionths in a second.
+const BILLION: u128 = 1_000_000_000;
+
+/// The number that the text spells in decimal digits: at least one, and at most so many.
+#[tactic(auto, unfolding(crate::specs::Time::number))]
+fn number(text: &[u8], most: usize) -> Option<u32>
+    requires { most ≤ 9 }
+    ensures value { result ≡ number most text.now }
+    ensures digits { IfSome result (λ n. n < 10 ^ length text.now) }
+    ensures length { IfSome result (λ _. length text.now ≤ most) }
+{
+    if text.is_empty() || text.len() > most {
+        return None;
+    }
+    let mut n = 0;
+    for byte in text {
+        if !byte.is_ascii_digit() {
+            return None;
+        }
+        n = 10 * n + u32::from(*byte - b'0');
+    }
+    Some(n)
+}
+
+/// Minutes or seconds: 0 to 59, in one or two digits.
+#[tactic(auto, unfolding(crate::specs::Time::sixtieths))]
+fn sixtieths(text: &[u8]) -> Option<u64>
+    ensures value { result ≡ sixtieths text.now }
+    ensures fits { IfSome result (λ n. n < 60) }
+{
+    let n = number(text, 2)?;
+    if n < 60 { Some(u64::from(n)) } else { None }
+}
+
+/// One to nine decimals of a second, in billionths.
+#[tactic(auto, unfolding(crate::specs::Time::decimals))]
+fn decimals(text: &[u8]) -> Option<u32>
+    ensures value { result ≡ decimals text.now }
+    ensures fits { IfSome result (λ n. n < 10 ^ 9) }
+{
+    let n = number(text, MOST_DIGITS)?;
+    Some(n * 10u32.pow((MOST_DIGITS - text.len()) as u32))
+}
+
+/// Seconds below 60, with decimals where there is a point, in billionths.
+#[tactic(auto, unfolding(crate::specs::Time::seconds_from))]
+fn seconds(text: &[u8]) -> Option<u64>
+    ensures value { result ≡ seconds_from (slice_split (λ byte. byte == 46) text.now) }
+    ensures fits { IfSome result (λ time. time < 10 ^ 11) }
+{
+    let (whole, fraction) = split_once(text, b'.');
+    let whole = 1_000_000_000 * sixtieths(whole)?;
+    let Some(fraction) = fraction else {
+        return Some(whole);
+    };
+    let (fraction, more) = split_once(fraction, b'.');
+    match more {
+        None => {
+            let fraction = decimals(fraction)?;
+            Some(whole + u64::from(fraction))
+        }
+        Some(_) => None,
+    }
+}
+
+/// Hours, or hours and minutes, or hours, minutes and seconds, without a sign, in billionths of a second.
+#[tactic(auto, unfolding(crate::specs::Time::magnitude_from))]
+fn magnitude(text: &[u8]) -> Option<u128>
+    ensures { result ≡ magnitude text.now }
+{
+    let (hours, minutes) = split_once(text, b':');
+    let hours = 3600 * u64::from(number(hours, MOST_DIGITS)?);
+    let Some(minutes) = minutes else {
+        return Some(BILLION * u128::from(hours));
+    };
+    let (minutes, rest) = split_once(minutes, b':');
+    let minutes = hours + 60 * sixtieths(minutes)?;
+    let Some(rest) = rest else {
+        return Some(BILLION * u128::from(minutes));
+    };
+    let (rest, more) = split_once(rest, b':');
+    match more {
+        None => {
+            let rest = seconds(rest)?;
+            Some(BILLION * u128::from(minutes) + u128::from(rest))
+        }
+        Some(_) => None,
+    }
+}
+
+/// The whole second that is nearest to so many billionths, and of two that are as near the even one.
+fn nearest_second(time: u128) -> u128
+    ensures value { result ≡ rounded time }
+    ensures nearest { IsNearestSecond time result }
+{
+    let whole = time / BILLION;
+    let rest = time % BILLION;
+    match (2 * rest).cmp(&BILLION) {
+        Ordering::Less => whole,
+        Ordering::Equal => whole + whole % 2,
+        Ordering::Greater => whole + 1,
+    }
+}
+
+/// A time without its sign in whole seconds, where it is within the limit.
+#[tactic(auto, unfolding(crate::specs::Time::whole_seconds))]
+fn whole_seconds(text: &[u8], limit: u32) -> Option<u32>
+    ensures value { result ≡ whole_seconds limit text.now }
+    ensures fits { IfSome result (λ s. s ≤ limit) }
+{
+    let time = magnitude(text)?;
+    let seconds = nearest_second(time);
+    if seconds <= u128::from(limit) {
+        Some(seconds as u32)
+    } else {
+        None
+    }
+}
+
+/// STDOFF in seconds, positive east, at most 24 hours either way.
+#[tactic(auto, unfolding(crate::specs::Time::offset_of))]
+pub(crate) fn offset(field: &[u8]) -> Option<i32>
+    ensures { result ≡ offset_of field.now }
+{
+    if is_dash(field) {
+        return Some(0);
+    }
+    match field {
+        [b'-', text @ ..] => {
+            let seconds = whole_seconds(text, DAY)?;
+            Some(-(seconds as i32))
+        }
+        _ => {
+            let seconds = whole_seconds(field, DAY)?;
+            Some(seconds as i32)
+        }
+    }
+}

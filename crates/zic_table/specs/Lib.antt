@@ -1,0 +1,11 @@
+pub mod Content
+pub mod Designation
+pub mod Image
+pub mod Stop
+pub use Rattle.zic_footer.specs.Footer
+pub use Rattle.zic_footer.specs.Grammar
+pub use Rattle.zic_footer.specs.Making
+pub use Rattle.zic_footer.specs.Meaning
+pub use Rattle.zic_footer.specs.Printing
+pub use Rattle.zic_rules.specs.State
+pub use Rattle.zic_rules.specs.Zone

@@ -1,0 +1,9 @@
+pub mod ReadChecks
+pub mod ReadFiles
+pub mod ReadParts
+pub mod ReadRecords
+pub mod WriteBlock
+pub mod WriteFile
+pub mod WriteLists
+pub mod WriteParts
+pub mod WriteText

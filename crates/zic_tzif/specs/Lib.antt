@@ -1,0 +1,14 @@
+pub mod Answer
+pub mod Block
+pub mod Header
+pub mod Kept
+pub mod Laws
+pub mod Parts
+pub mod Reading
+pub mod Writing
+pub use Rattle.zic_footer.specs.Footer
+pub use Rattle.zic_footer.specs.Grammar
+pub use Rattle.zic_footer.specs.Meaning
+pub use Rattle.zic_rules.specs.State
+pub use Rattle.zic_table.specs.Content
+pub use Rattle.zic_table.specs.Designation

@@ -1,0 +1,52 @@
+-- What a reader finds in octets that pass a group of checks.
+use Rattle.std.specs.Prelude.{◌≡◌, ℕ, ◌+◌, ◌-◌, ◌≤◌, ◌⊎◌, List, [], slice_index, length, Option, Some, None, Result, Ok, Err}
+use Rattle.zic_footer.specs.declared.footer.Footer.{Footer}
+use Rattle.zic_footer.specs.Grammar.{Spells}
+use Rattle.zic_tzif.specs.declared.data_block.DataBlock.{DataBlock}
+use Rattle.zic_tzif.specs.declared.reading.FirstPart.{FirstPart}
+use Rattle.zic_tzif.specs.declared.reason.Reason.{Reason}
+use Rattle.zic_tzif.specs.declared.reason.Reason.TheVariants as reason
+use Rattle.zic_tzif.specs.declared.reason.ReadStop.{ReadStop}
+use Rattle.zic_tzif.specs.declared.reason.ReadStop.TheVariants as stop
+use Rattle.zic_tzif.specs.Header.{second_header, second_counts, footer_place}
+use Rattle.zic_tzif.specs.Block.{sixes, type_records, names_in, indicators_in, footer_text}
+use Rattle.zic_tzif.specs.Reading.{Check, first_failed, IsFooterText}
+
+-- the checks pass, and this was found; or this is the reason of the first that fails
+abbrev pub Checks : {A : Type 0} → List Check → (A → Type 0) → Result A Reason → Type 0
+Checks cs Found (Ok x) = (first_failed cs ≡ None) × Found x
+Checks cs Found (Err r) = first_failed cs ≡ Some r
+
+-- the version, 2 or 3, and where the second header is
+pub record IsFirstPart (octets : List ℕ) (s : FirstPart) : Type 0 where
+  pub version : s.version ≡ slice_index octets 4 - 48
+  pub known : (s.version ≡ 2) ⊎ (s.version ≡ 3)
+  pub second_header : s.second_header ≡ second_header octets
+  pub inside : s.second_header + 44 ≤ length octets
+
+-- the parts of the second data block
+pub record HasParts (octets : List ℕ) (b : DataBlock) : Type 0 where
+  pub types : b.types ≡ (second_counts octets).types
+  pub records : sixes b.types b.records.now ≡ type_records octets
+  pub names : b.names.now ≡ names_in octets
+  pub indicators : b.indicators.now ≡ indicators_in octets
+  pub end : b.end ≡ footer_place octets
+
+-- of which there is at least one type
+abbrev pub IsBlock : List ℕ → DataBlock → Type 0
+IsBlock octets b = HasParts octets b × (1 ≤ b.types)
+
+-- the text between the newlines, both of which are inside
+pub record IsText (octets text : List ℕ) : Type 0 where
+  pub is : text ≡ footer_text octets
+  pub inside : footer_place octets + length text + 2 ≤ length octets
+
+-- the footer that the text spells, or none for no text
+abbrev pub IsFooterOf : ℕ → List ℕ → Option Footer → Type 0
+IsFooterOf version text footer =
+    ((footer ≡ None) × (text ≡ [])) ⊎ ((f : Footer) × (footer ≡ Some f) × Spells version text f)
+
+-- the text is neither empty nor a TZ string; of want of memory nothing is said
+abbrev pub StopsFooter : ℕ → List ℕ → ReadStop → Type 0
+StopsFooter version text stop.Memory = Unit {0}
+StopsFooter version text (stop.Bad r) = (r ≡ reason.Footer) × (IsFooterText version text → ⊥)

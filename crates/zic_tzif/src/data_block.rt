@@ -1,0 +1,79 @@
+//! The second data block.
+
+ghost use Rattle.std.specs.Prelude.{◌≡◌, ◌+◌, ◌*◌, ◌≤◌, nat_le, length};
+ghost use Rattle.std.specs.List.{list_all};
+
+use crate::header::Counts;
+use crate::reason::Reason;
+use crate::type_record::{RECORD_LENGTH, are_designated, are_type_records};
+
+/// A data block without leap seconds, cut into its parts.
+#[derive(Clone, Copy)]
+pub struct DataBlock<'a> {
+    /// How many local time types there are.
+    pub types: u32,
+    /// Their records.
+    pub records: &'a [u8],
+    /// The octets of designations.
+    pub names: &'a [u8],
+    /// The standard and UT indicators.
+    pub indicators: &'a [u8],
+    /// The place behind the block.
+    pub end: usize,
+    ghost enough: { types * 6 ≤ length records.now },
+}
+
+impl<'a> DataBlock<'a> {
+    ghost use Rattle.zic_tzif.specs.Block.{sixes};
+    ghost use Rattle.zic_tzif.specs.Header.{block_length, second_block, second_counts};
+    ghost use Rattle.zic_tzif.specs.Parts.{Checks, HasParts};
+    ghost use Rattle.zic_tzif.specs.Reading.{block_checks};
+
+    /// The second data block, which begins at `place`.
+    pub fn second(octets: &'a [u8], place: usize, counts: Counts) -> Self
+        requires place { place ≡ second_block octets.now }
+        requires counts { counts ≡ second_counts octets.now }
+        requires inside { place + block_length 8 counts ≤ length octets.now }
+        ensures { HasParts octets.now result }
+    {
+        let types = counts.types;
+        let (_, rest) = octets.split_at(place + counts.transitions as usize * 9);
+        let (records, rest) = rest.split_at(types as usize * RECORD_LENGTH);
+        let (names, rest) = rest.split_at(counts.characters as usize);
+        let number = counts.standard_indicators as usize + counts.ut_indicators as usize;
+        let (indicators, _) = rest.split_at(number);
+        let end = place + counts.block_length(8);
+        DataBlock {
+            types,
+            records,
+            names,
+            indicators,
+            end,
+        }
+    }
+
+    /// Checks the designations, then the other octets of the records, then the indicators.
+    pub fn check(&self) -> Result<(), Reason>
+        ensures { Checks
+            (block_checks self.now.names.now (sixes self.now.types self.now.records.now)
+            self.now.indicators.now) (λ _. Unit {0}) result }
+    {
+        if !are_designated(self.types, self.records, self.names) {
+            return Err(Reason::Designation);
+        }
+        if !are_type_records(self.types, self.records) {
+            return Err(Reason::TypeRecord);
+        }
+        if !are_indicators(self.indicators) {
+            return Err(Reason::Indicators);
+        }
+        Ok(())
+    }
+}
+
+/// Whether each indicator is 0 or 1.
+fn are_indicators(octets: &[u8]) -> bool
+    ensures { result ≡ list_all (λ b. nat_le b 1) octets.now }
+{
+    octets.iter().all(|b| *b <= 1)
+}

@@ -1,0 +1,61 @@
+//! Headers.
+
+ghost use Rattle.std.specs.Prelude.{◌≡◌, ◌+◌, ◌≤◌, length};
+ghost use Rattle.zic_tzif.specs.Header.{counts_at, block_length};
+ghost use Rattle.zic_tzif.specs.Reading.{are_counts};
+
+use byteorder::{BigEndian, ByteOrder};
+
+/// How many octets a header has.
+pub const HEADER_LENGTH: usize = 44;
+
+/// The six counts of a header, in their order.
+#[derive(Clone, Copy)]
+pub struct Counts {
+    pub ut_indicators: u32,
+    pub standard_indicators: u32,
+    pub leap_seconds: u32,
+    pub transitions: u32,
+    pub types: u32,
+    pub characters: u32,
+}
+
+/// The counts of the header at a place.
+pub fn counts_at(octets: &[u8], place: usize) -> Counts
+    requires { place + 44 ≤ length octets.now }
+    ensures { result ≡ counts_at octets.now place }
+{
+    Counts {
+        ut_indicators: BigEndian::read_u32(&octets[place + 20..]),
+        standard_indicators: BigEndian::read_u32(&octets[place + 24..]),
+        leap_seconds: BigEndian::read_u32(&octets[place + 28..]),
+        transitions: BigEndian::read_u32(&octets[place + 32..]),
+        types: BigEndian::read_u32(&octets[place + 36..]),
+        characters: BigEndian::read_u32(&octets[place + 40..]),
+    }
+}
+
+impl Counts {
+    /// How many octets a data block without leap seconds has, where a time has `width`.
+    pub fn block_length(self, width: usize) -> usize
+        requires { width ≤ 8 }
+        ensures { result ≡ block_length width self }
+    {
+        self.transitions as usize * (width + 1)
+            + self.types as usize * 6
+            + self.characters as usize
+            + self.standard_indicators as usize
+            + self.ut_indicators as usize
+    }
+
+    /// Whether a second data block may have these counts: until transitions are read, it has none.
+    pub fn are_readable(self) -> bool
+        ensures { result ≡ are_counts self }
+    {
+        self.types > 0
+            && self.characters > 0
+            && (self.standard_indicators == 0 || self.standard_indicators == self.types)
+            && (self.ut_indicators == 0 || self.ut_indicators == self.types)
+            && self.transitions == 0
+    }
+}

@@ -1,0 +1,18 @@
+//! Laws about the definitions that the contracts cite. These functions do nothing.
+
+ghost use Rattle.zic_tzif.specs.Laws.{FilesHaveNoFault, FilesSayOne, FaultsAreOne};
+
+/// No octets are both a file and faulty.
+pub fn files_have_no_fault()
+    ensures { FilesHaveNoFault }
+{}
+
+/// A file says one thing.
+pub fn files_say_one()
+    ensures { FilesSayOne }
+{}
+
+/// Faulty octets have one reason.
+pub fn faults_are_one()
+    ensures { FaultsAreOne }
+{}

@@ -1,0 +1,80 @@
+//! Why octets are no TZif file.
+
+use std::alloc::{AllocError, AllocFailed};
+
+/// The check of a reader that fails first.
+#[derive(Clone, Copy, Debug, PartialEq, Eq)]
+pub enum Reason {
+    /// The octets end before the file does.
+    Short = 1,
+    /// They do not begin with `TZif`.
+    Magic = 2,
+    /// The version is neither 2 nor 3.
+    Version = 3,
+    /// The second header's first five octets are not those of the first.
+    HeadersDiffer = 4,
+    /// There is no type or no designation, or the number of indicators is neither 0 nor that of the types.
+    /// Until transitions are read, also where there are some.
+    Counts = 5,
+    /// There are leap seconds.
+    LeapSeconds = 6,
+    /// The transition times do not rise.
+    TimesNotRising = 7,
+    /// A transition has a type that is not there.
+    TypeIndex = 8,
+    /// A type's designation is not there, or not printable ASCII ended by NUL.
+    Designation = 9,
+    /// A type's flag is neither 0 nor 1, or its offset passes 25:59:59 either way.
+    TypeRecord = 10,
+    /// An indicator is neither 0 nor 1.
+    Indicators = 11,
+    /// No newline and TZ string stand where the footer does, or it disagrees with the last transition.
+    /// Until daylight parts are read, also where the string has one.
+    Footer = 12,
+    /// Octets follow the footer.
+    TrailingBytes = 13,
+    /// There are more than 1,048,576 octets.
+    TooLarge = 14,
+}
+
+/// Why a file isn't read.
+#[derive(Clone, Copy, Debug, PartialEq, Eq)]
+pub enum ReadStop {
+    /// The first check that fails.
+    Bad(Reason),
+    /// A growth of memory was refused.
+    Memory,
+}
+
+impl From<Reason> for ReadStop {
+    ghost use Rattle.std.specs.Prelude.{◌≡◌};
+    ghost use Rattle.zic_tzif.specs.declared.reason.ReadStop.TheVariants.{Bad};
+
+    ghost from_gives = { λ r e. e ≡ Bad r };
+
+    fn from(reason: Reason) -> ReadStop {
+        ReadStop::Bad(reason)
+    }
+}
+
+impl From<AllocError> for ReadStop {
+    ghost use Rattle.std.specs.Prelude.{◌≡◌};
+    ghost use Rattle.zic_tzif.specs.declared.reason.ReadStop.TheVariants.{Memory};
+
+    ghost from_gives = { λ _ e. e ≡ Memory };
+
+    fn from(_e: AllocError) -> ReadStop {
+        ReadStop::Memory
+    }
+}
+
+impl<T: Drop> From<AllocFailed<T>> for ReadStop {
+    ghost use Rattle.std.specs.Prelude.{◌≡◌};
+    ghost use Rattle.zic_tzif.specs.declared.reason.ReadStop.TheVariants.{Memory};
+
+    ghost from_gives = { λ _ e. e ≡ Memory };
+
+    fn from(_e: AllocFailed<T>) -> ReadStop {
+        ReadStop::Memory
+    }
+}

@@ -1,0 +1,85 @@
+//! Records of local time types.
+
+ghost use Rattle.std.specs.Prelude.{◌≡◌, ◌*◌, ◌≤◌, length, map, IfOk};
+ghost use Rattle.std.specs.List.{list_all};
+ghost use Rattle.zic_table.specs.Designation.{is_designated};
+ghost use Rattle.zic_tzif.specs.Block.{sixes, type_in, is_type_record};
+
+use crate::designation::is_designated;
+use byteorder::{BigEndian, ByteOrder};
+use std::alloc::{AllocError, Global};
+use zic_table::LocalType;
+
+/// How many octets a record has.
+pub const RECORD_LENGTH: usize = 6;
+
+/// The greatest offset either way, 25:59:59, in seconds.
+const MAX_OFFSET: u32 = 93_599;
+
+/// The local time type of a record.
+fn local_type(octets: &[u8]) -> LocalType
+    requires { 6 ≤ length octets.now }
+    ensures { result ≡ type_in octets.now }
+{
+    LocalType {
+        offset: BigEndian::read_i32(octets),
+        daylight: octets[4] == 1,
+        place: octets[5],
+    }
+}
+
+/// Whether a record's flag is 0 or 1, and its offset within 25:59:59 either way.
+fn is_type_record(octets: &[u8]) -> bool
+    requires { 6 ≤ length octets.now }
+    ensures { result ≡ is_type_record octets.now }
+{
+    octets[4] <= 1 && BigEndian::read_i32(octets).unsigned_abs() <= MAX_OFFSET
+}
+
+/// Whether each of so many records has a designation.
+pub fn are_designated(count: u32, records: &[u8], names: &[u8]) -> bool
+    requires { count * 6 ≤ length records.now }
+    ensures { result
+        ≡ list_all (λ r. is_designated names.now (type_in r).place) (sixes count records.now) }
+{
+    let mut rest = records;
+    for _ in 0..count {
+        let (record, after) = rest.split_at(RECORD_LENGTH);
+        if !is_designated(names, record[5]) {
+            return false;
+        }
+        rest = after;
+    }
+    true
+}
+
+/// Whether the flags and offsets of so many records are right.
+pub fn are_type_records(count: u32, records: &[u8]) -> bool
+    requires { count * 6 ≤ length records.now }
+    ensures { result ≡ list_all is_type_record (sixes count records.now) }
+{
+    let mut rest = records;
+    for _ in 0..count {
+        let (record, after) = rest.split_at(RECORD_LENGTH);
+        if !is_type_record(record) {
+            return false;
+        }
+        rest = after;
+    }
+    true
+}
+
+/// The local time types of so many records.
+pub fn local_types(alloc: Global, count: u32, records: &[u8]) -> Result<Vec<LocalType>, AllocError>
+    requires { count * 6 ≤ length records.now }
+    ensures { IfOk result (λ v. v.items ≡ map type_in (sixes count records.now)) }
+{
+    let mut types = Vec::with_capacity(alloc, count as usize)?;
+    let mut rest = records;
+    for _ in 0..count {
+        let (record, after) = rest.split_at(RECORD_LENGTH);
+        types.push(local_type(record))?;
+        rest = after;
+    }
+    Ok(types)
+}

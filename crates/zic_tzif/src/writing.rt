@@ -1,0 +1,155 @@
+//! Octets out.
+
+ghost use Rattle.std.specs.Prelude.{◌≡◌, ◌≤◌, ◌++◌, length, map, OnOk, IfOk};
+ghost use Rattle.std.specs.List.{flat_map};
+ghost use Rattle.zic_tzif.specs.Reading.{IsFile};
+ghost use Rattle.zic_tzif.specs.Writing.{header, time_octets, type_octets, written, WrittenIsFile};
+
+use crate::header::HEADER_LENGTH;
+use std::alloc::{AllocError, Global};
+use zic_table::{Change, LocalType, Table};
+
+/// The file of a table, which a reader accepts with the table's content.
+///
+/// Memory is asked for once, for the whole file.
+pub fn write(alloc: Global, t: &Table) -> Result<Vec<u8>, AllocError>
+    ensures written { IfOk result (λ v. v.items ≡ written t.now) }
+    ensures read { IfOk result (λ v. IsFile v.items t.now) }
+{
+    let version = t.version();
+    let mut out = Vec::with_capacity(alloc, file_length(t))?;
+    put_header(&mut out, version, 0, 1, 1)?;
+    out.extend_from_slice(&FIRST_BLOCK)?;
+    let (changes, types, names) = (t.changes(), t.types(), t.names());
+    put_header(
+        &mut out,
+        version,
+        changes.len() as u32,
+        types.len() as u32,
+        names.len() as u32,
+    )?;
+    put_times(&mut out, changes)?;
+    put_numbers(&mut out, changes)?;
+    put_types(&mut out, types)?;
+    out.extend_from_slice(names)?;
+    out.push(b'\n')?;
+    out.extend_from_slice(t.footer_text())?;
+    out.push(b'\n')?;
+    Ok(out)
+}
+
+/// What is written is read: the written form of a content is a file (RFC 9636, 3), and says that content.
+pub fn written_is_file()
+    ensures { WrittenIsFile }
+{}
+
+/// The first data block: one type of zeros, and one empty designation.
+const FIRST_BLOCK: [u8; 7] = [0; 7];
+
+/// The number of octets of a table's file.
+fn file_length(t: &Table) -> usize
+    ensures { result ≡ length (written t.now) }
+{
+    let _version = t.version();
+    let front = HEADER_LENGTH + FIRST_BLOCK.len() + HEADER_LENGTH;
+    let block = t.changes().len() * 9 + t.types().len() * 6 + t.names().len();
+    front + block + 1 + t.footer_text().len() + 1
+}
+
+/// Appends a header without indicators and leap seconds.
+fn put_header(
+    out: &mut Vec<u8>,
+    version: u8,
+    transitions: u32,
+    types: u32,
+    characters: u32,
+) -> Result<(), AllocError>
+    requires { version ≤ 3 }
+    ensures { OnOk result (out.new.items ≡ out.old.items ++ header version transitions types characters) }
+{
+    out.extend_from_slice(b"TZif")?;
+    out.push(b'0' + version)?;
+    // 15 reserved octets, then no UT indicators, standard indicators and leap seconds
+    out.extend_from_slice(&[0; 15 + 4 + 4 + 4])?;
+    out.extend_from_slice(&transitions.to_be_bytes())?;
+    out.extend_from_slice(&types.to_be_bytes())?;
+    out.extend_from_slice(&characters.to_be_bytes())?;
+    Ok(())
+}
+
+/// Appends the transition times.
+fn put_times(out: &mut Vec<u8>, changes: &[Change]) -> Result<(), AllocError>
+    ensures { OnOk result (out.new.items ≡ out.old.items ++ flat_map time_octets changes.now) }
+{
+    for change in changes {
+        out.extend_from_slice(&change.instant.to_be_bytes())?;
+    }
+    Ok(())
+}
+
+/// Appends the numbers of the transitions' types.
+fn put_numbers(out: &mut Vec<u8>, changes: &[Change]) -> Result<(), AllocError>
+    ensures { OnOk result (out.new.items ≡ out.old.items ++ map (λ c. c.number) changes.now) }
+{
+    for change in changes {
+        out.push(change.number)?;
+    }
+    Ok(())
+}
+
+/// Appends the local time types: offset, flag, and place of the designation.
+fn put_types(out: &mut Vec<u8>, types: &[LocalType]) -> Result<(), AllocError>
+    ensures { OnOk result (out.new.items ≡ out.old.items ++ flat_map type_octets types.now) }
+{
+    for local_type in types {
+        out.extend_from_slice(&local_type.offset.to_be_bytes())?;
+        out.push(u8::from(local_type.daylight))?;
+        out.push(local_type.place)?;
+    }
+    Ok(())
+}
+
+#[cfg(test)]
+mod tests {
+    use super::*;
+    use std::test::Fail;
+
+    /// The second data block of a zone on US rules from 2007 to 2009, in standard time of -5:00.
+    #[test]
+    fn block(rt: HostRuntime) -> Result<(), Fail> {
+        let instants = [
+            1173596400, 1194156000, 1205046000, 1225605600, 1236495600, 1257055200,
+        ];
+        let mut changes = Vec::new(rt.alloc());
+        for (i, instant) in instants.iter().enumerate() {
+            changes.push(Change {
+                instant: *instant,
+                number: 1 - (i % 2) as u8,
+            })?;
+        }
+        let types = [
+            LocalType {
+                offset: -18000,
+                daylight: false,
+                place: 0,
+            },
+            LocalType {
+                offset: -14400,
+                daylight: true,
+                place: 4,
+            },
+        ];
+        let mut out = Vec::new(rt.alloc());
+        put_header(&mut out, 2, 6, 2, 8)?;
+        put_times(&mut out, &changes)?;
+        put_numbers(&mut out, &changes)?;
+        put_types(&mut out, &types)?;
+        let wanted =
+            b"TZif2\0\0\0\0\0\0\0\0\0\0\0\0\0\0\0\0\0\0\0\0\0\0\0\0\0\0\0\0\0\0\x06\0\0\0\x02\0\0\0\x08\
+            \0\0\0\0\x45\xf3\xa8\xf0\0\0\0\0\x47\x2d\x5f\xe0\0\0\0\0\x47\xd3\x8a\xf0\
+            \0\0\0\0\x49\x0d\x41\xe0\0\0\0\0\x49\xb3\x6c\xf0\0\0\0\0\x4a\xed\x23\xe0\
+            \x01\0\x01\0\x01\0\xff\xff\xb9\xb0\0\0\xff\xff\xc7\xc0\x01\x04";
+        assert_eq!(rt; out.as_slice(), wanted.as_slice());
+        Ok(())
+    }
+}
