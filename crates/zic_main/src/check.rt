@@ -1,5 +1,11 @@
 //! `check`: compiles a source, and lists its files.
 
+ghost use Rattle.std.specs.Prelude.{◌≡◌, ℕ, List, ◌++◌, map, IfOk, IfSome, OnOk};
+ghost use Rattle.std.specs.Io.KnownBytes.{Appends};
+ghost use Rattle.std.specs.List.{flat_map};
+ghost use Rattle.zic_main.specs.File.{file_of};
+ghost use Rattle.zic_main.specs.Text.{check_line, IsListing};
+
 use crate::compile::{Compiled, compile};
 use crate::failure::{Failure, cannot_read};
 use crate::input::{InputStop, read_up_to};
@@ -17,35 +23,73 @@ pub fn check<R: Read + Drop, W: Write>(
     path: &str,
     reader: R,
     writer: &mut W,
-) -> Result<(), Failure> {
-    let text = match read_up_to(alloc, reader, MAX_SOURCE + 1) {
-        Ok(text) if text.len() as u64 <= MAX_SOURCE => text,
-        Ok(_) | Err(InputStop::Unreadable) => return Err(cannot_read(alloc, path)),
-        Err(InputStop::Memory) => return Err(Failure::Memory),
-    };
-    let source = read_source(alloc, &[text])?;
-    let files = compile(alloc, &source)?;
-    let lines = listing(alloc, &files)?;
+) -> Result<(), Failure>
+    ensures { OnOk result (IfSome (R.remaining reader)
+        (λ text. (lines : List ℕ) × IsListing text lines × Appends (W.contents writer.old) (W.contents writer.new) lines)) }
+{
+    let text = read_source_text(alloc, path, reader)?;
+    let lines = lines_of(alloc, text)?;
     write_all(writer, &lines)
 }
 
+/// The whole text of a source, if it is within its limit.
+fn read_source_text<R: Read + Drop>(
+    alloc: Global,
+    path: &str,
+    reader: R,
+) -> Result<Vec<u8>, Failure>
+    ensures { IfOk result (λ text. IfSome (R.remaining reader) (λ all. text.items ≡ all)) }
+{
+    match read_up_to(alloc, reader, MAX_SOURCE + 1) {
+        Ok(text) if text.len() as u64 <= MAX_SOURCE => Ok(text),
+        Ok(_) | Err(InputStop::Unreadable) => Err(cannot_read(alloc, path)),
+        Err(InputStop::Memory) => Err(Failure::Memory),
+    }
+}
+
+/// The lines for the files of a source text.
+fn lines_of(alloc: Global, text: Vec<u8>) -> Result<Vec<u8>, Failure>
+    ensures { IfOk result (λ lines. IsListing text.items lines.items) }
+{
+    let texts = [text];
+    let source = read_source(alloc, &texts)?;
+    let files = compile(alloc, &source)?;
+    let lines = listing(alloc, &files)?;
+    Ok(lines)
+}
+
 /// Writes and flushes, or tells that the output can't be written.
-pub fn write_all<W: Write>(writer: &mut W, octets: &[u8]) -> Result<(), Failure> {
+pub fn write_all<W: Write>(writer: &mut W, octets: &[u8]) -> Result<(), Failure>
+    ensures { OnOk result (Appends (W.contents writer.old) (W.contents writer.new) octets.now) }
+{
     if writer.write_all(octets).is_err() || writer.flush().is_err() {
         return Err(Failure::CannotWriteOutput);
     }
     Ok(())
 }
 
-fn listing(alloc: Global, files: &[Compiled]) -> Result<Vec<u8>, AllocError> {
+/// A line for each file, in order.
+fn listing(alloc: Global, files: &[Compiled]) -> Result<Vec<u8>, AllocError>
+    ensures { IfOk result (λ lines. lines.items ≡ flat_map check_line (map file_of files.now)) }
+{
     let mut lines = Vec::new(alloc);
     for file in files {
-        let len = file.octets.len();
-        let len = format!(in alloc; " {len} ")?;
-        lines.extend_from_slice(&file.name)?;
-        lines.extend_from_slice(len.as_bytes())?;
-        lines.extend_from_slice(file.zone.footer_text())?;
-        lines.push(b'\n')?;
+        push_line(alloc, &mut lines, file)?;
     }
     Ok(lines)
+}
+
+/// A file's name, its number of octets and its footer.
+fn push_line(alloc: Global, lines: &mut Vec<u8>, file: &Compiled) -> Result<(), AllocError>
+    ensures { OnOk result (lines.new.items ≡ lines.old.items ++ check_line (file_of file.now)) }
+{
+    let len = file.octets.len();
+    let len = len.to_string(alloc)?;
+    lines.extend_from_slice(&file.name)?;
+    lines.push(b' ')?;
+    lines.extend_from_slice(len.as_bytes())?;
+    lines.push(b' ')?;
+    lines.extend_from_slice(file.zone.footer_text())?;
+    lines.push(b'\n')?;
+    Ok(())
 }

@@ -1,5 +1,7 @@
 //! What a reader gives, up to a limit.
 
+ghost use Rattle.std.specs.Prelude.{◌≡◌, take, IfOk, IfSome};
+
 use std::alloc::Global;
 use std::io::{self, ErrorKind, Read};
 
@@ -17,7 +19,9 @@ pub fn read_up_to<R: Read + Drop>(
     alloc: Global,
     reader: R,
     limit: u64,
-) -> Result<Vec<u8>, InputStop> {
+) -> Result<Vec<u8>, InputStop>
+    ensures { IfOk result (λ octets. IfSome (R.remaining reader) (λ all. octets.items ≡ take limit all)) }
+{
     let mut octets = Vec::new(alloc);
     match reader.take(limit).read_to_end(&mut octets) {
         Ok(_) => Ok(octets),

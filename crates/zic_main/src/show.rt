@@ -1,5 +1,10 @@
 //! `show`: what a file says of an instant.
 
+ghost use Rattle.std.specs.Prelude.{◌≡◌, ℕ, List, ◌++◌, take, IfOk, IfSome, OnOk};
+ghost use Rattle.std.specs.Io.KnownBytes.{Appends};
+ghost use Rattle.zic_rules.specs.State.{shown};
+ghost use Rattle.zic_main.specs.Text.{answer_line, state_line, offset_text, two_digits, IsShowing};
+
 use crate::check::write_all;
 use crate::failure::{Failure, cannot_read};
 use crate::input::{InputStop, read_up_to};
@@ -19,34 +24,76 @@ pub fn show<R: Read + Drop, W: Write>(
     reader: R,
     instant: i64,
     writer: &mut W,
-) -> Result<(), Failure> {
+) -> Result<(), Failure>
+    ensures { OnOk result (IfSome (R.remaining reader)
+        (λ octets. (line : List ℕ) × IsShowing (take 1048577 octets) instant line × Appends (W.contents writer.old) (W.contents writer.new) line)) }
+{
     let octets = match read_up_to(alloc, reader, MORE_THAN_A_FILE) {
         Ok(octets) => octets,
         Err(InputStop::Unreadable) => return Err(cannot_read(alloc, path)),
         Err(InputStop::Memory) => return Err(Failure::Memory),
     };
-    let zone = match read(alloc, &octets) {
+    let line = line_of(alloc, &octets, instant)?;
+    write_all(writer, &line)
+}
+
+/// The line for the octets of a file.
+fn line_of(alloc: Global, octets: &[u8], instant: i64) -> Result<Vec<u8>, Failure>
+    ensures { IfOk result (λ line. IsShowing octets.now instant line.items) }
+{
+    let zone = match read(alloc, octets) {
         Ok(zone) => zone,
         Err(ReadStop::Bad(reason)) => return Err(Failure::File(reason)),
         Err(ReadStop::Memory) => return Err(Failure::Memory),
     };
-    let line = match zone.at(instant) {
-        Answer::Known(state) => state_line(alloc, state)?,
-        Answer::Unspecified => Vec::from_slice(alloc, b"unspecified\n")?,
-    };
-    write_all(writer, &line)
+    let answer = zone.at(instant);
+    let line = answer_line(alloc, &answer)?;
+    Ok(line)
 }
 
-fn state_line(alloc: Global, state: State<'_>) -> Result<Vec<u8>, AllocError> {
-    let sign = if state.offset < 0 { '-' } else { '+' };
-    let seconds = state.offset.unsigned_abs();
-    let hours = seconds / 3600;
-    let minutes = seconds / 60 % 60;
-    let seconds = seconds % 60;
-    let flag = u8::from(state.daylight);
-    let front = format!(in alloc; "{sign}{hours:02}:{minutes:02}:{seconds:02} {flag} ")?;
-    let mut line = Vec::from_slice(alloc, front.as_bytes())?;
+fn answer_line(alloc: Global, answer: &Answer<'_>) -> Result<Vec<u8>, AllocError>
+    ensures { IfOk result (λ line. line.items ≡ answer_line answer.now) }
+{
+    match answer {
+        Answer::Known(state) => state_line(alloc, state),
+        Answer::Unspecified => Vec::from_slice(alloc, b"unspecified\n"),
+    }
+}
+
+fn state_line(alloc: Global, state: &State<'_>) -> Result<Vec<u8>, AllocError>
+    ensures { IfOk result (λ line. line.items ≡ state_line (shown state.now)) }
+{
+    let mut line = offset_text(alloc, state)?;
+    let flag = if state.daylight { b'1' } else { b'0' };
+    line.extend_from_slice(&[b' ', flag, b' '])?;
     line.extend_from_slice(state.name)?;
     line.push(b'\n')?;
     Ok(line)
+}
+
+/// The offset of a state, as `-05:00:00`.
+fn offset_text(alloc: Global, state: &State<'_>) -> Result<Vec<u8>, AllocError>
+    ensures { IfOk result (λ text. text.items ≡ offset_text state.now.offset) }
+{
+    let mut text = Vec::new(alloc);
+    text.push(if state.offset < 0 { b'-' } else { b'+' })?;
+    let seconds = state.offset.unsigned_abs();
+    push_two_digits(alloc, &mut text, seconds / 3600)?;
+    text.push(b':')?;
+    push_two_digits(alloc, &mut text, seconds / 60 % 60)?;
+    text.push(b':')?;
+    push_two_digits(alloc, &mut text, seconds % 60)?;
+    Ok(text)
+}
+
+/// A number in two digits at least.
+fn push_two_digits(alloc: Global, text: &mut Vec<u8>, n: u32) -> Result<(), AllocError>
+    ensures { OnOk result (text.new.items ≡ text.old.items ++ two_digits n) }
+{
+    if n < 10 {
+        text.push(b'0')?;
+    }
+    let digits = n.to_string(alloc)?;
+    text.extend_from_slice(digits.as_bytes())?;
+    Ok(())
 }

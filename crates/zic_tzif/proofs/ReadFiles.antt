@@ -16,8 +16,8 @@ use Rattle.zic_tzif.specs.declared.reason.Reason.{Reason}
 use Rattle.zic_tzif.specs.declared.reason.Reason.TheVariants as reason
 use Rattle.zic_tzif.specs.Header.{footer_place}
 use Rattle.zic_tzif.specs.Block.{sixes, type_in, type_records, names_in, indicators_in, is_type_record, footer_text}
-use Rattle.zic_tzif.specs.Kept.{plain}
-use Rattle.zic_tzif.specs.Parts.{HasParts, IsFooterOf, StopsFooter}
+use Rattle.zic_tzif.specs.Kept.{plain, IsFooterOf}
+use Rattle.zic_tzif.specs.Parts.{HasParts, StopsFooter}
 use Rattle.zic_tzif.specs.Reading.{Check, first_failed, first_checks, second_checks, block_checks, footer_checks, checks, content_in, IsFooterText, IsWhole, IsFile, IsFault, ReadsTo, StopsReading}
 use Rattle.zic_tzif.proofs.ReadChecks.{first_failed-append, first_failed_early}
 

@@ -9,8 +9,13 @@ use Rattle.zic_table.specs.Content.{Content, IsLocalType}
 abbrev pub plain : ℕ → List LocalType → List ℕ → List ℕ → Content
 plain version types names text = record { version = version; changes = []; types = types; names = names; text = text }
 
--- the footer is what the text spells, or there is neither; there is a type, and each type has a designation
+-- the footer that the text spells, or none for no text
+abbrev pub IsFooterOf : ℕ → List ℕ → Option Footer → Type 0
+IsFooterOf version text footer =
+    ((footer ≡ None) × (text ≡ [])) ⊎ ((f : Footer) × (footer ≡ Some f) × Spells version text f)
+
+-- the footer is that of the text; there is a type, and each type has a designation
 pub record IsKept (content : Content) (footer : Option Footer) : Type 0 where
-  pub footer_is : ((footer ≡ None) × (content.text ≡ [])) ⊎ ((f : Footer) × (footer ≡ Some f) × Spells content.version content.text f)
+  pub footer_is : IsFooterOf content.version content.text footer
   pub some_type : 1 ≤ length content.types
   pub types : All (IsLocalType content.names) content.types

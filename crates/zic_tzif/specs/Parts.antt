@@ -1,7 +1,5 @@
 -- What a reader finds in octets that pass a group of checks.
-use Rattle.std.specs.Prelude.{◌≡◌, ℕ, ◌+◌, ◌-◌, ◌≤◌, ◌⊎◌, List, [], slice_index, length, Option, Some, None, Result, Ok, Err}
-use Rattle.zic_footer.specs.declared.footer.Footer.{Footer}
-use Rattle.zic_footer.specs.Grammar.{Spells}
+use Rattle.std.specs.Prelude.{◌≡◌, ℕ, ◌+◌, ◌-◌, ◌≤◌, ◌⊎◌, List, slice_index, length, Some, None, Result, Ok, Err}
 use Rattle.zic_tzif.specs.declared.data_block.DataBlock.{DataBlock}
 use Rattle.zic_tzif.specs.declared.reading.FirstPart.{FirstPart}
 use Rattle.zic_tzif.specs.declared.reason.Reason.{Reason}
@@ -40,11 +38,6 @@ IsBlock octets b = HasParts octets b × (1 ≤ b.types)
 pub record IsText (octets text : List ℕ) : Type 0 where
   pub is : text ≡ footer_text octets
   pub inside : footer_place octets + length text + 2 ≤ length octets
-
--- the footer that the text spells, or none for no text
-abbrev pub IsFooterOf : ℕ → List ℕ → Option Footer → Type 0
-IsFooterOf version text footer =
-    ((footer ≡ None) × (text ≡ [])) ⊎ ((f : Footer) × (footer ≡ Some f) × Spells version text f)
 
 -- the text is neither empty nor a TZ string; of want of memory nothing is said
 abbrev pub StopsFooter : ℕ → List ℕ → ReadStop → Type 0

@@ -24,7 +24,7 @@ abbrev pub first_failed : List Check → Option Reason
 first_failed [] = None
 first_failed (c ∷ cs) = if c.passes then first_failed cs else Some c.reason
 
--- the checks of the first header and its data block, which isn't looked at
+-- the checks of the first header, and that its data block, which isn't looked at, and a second header are there
 abbrev pub first_checks : List ℕ → List Check
 first_checks octets =
     record { passes = nat_le (length octets) 1048576; reason = reason.TooLarge }

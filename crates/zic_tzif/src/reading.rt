@@ -3,7 +3,8 @@
 ghost use Rattle.std.specs.Prelude.{◌≡◌, ◌+◌, ◌≤◌, ◌⊎◌, length, take, drop, IfOk, IfErr};
 ghost use Rattle.zic_table.specs.Content.{Content};
 ghost use Rattle.zic_tzif.specs.Header.{second_header, footer_place};
-ghost use Rattle.zic_tzif.specs.Parts.{Checks, IsFirstPart, IsBlock, IsText, IsFooterOf, StopsFooter};
+ghost use Rattle.zic_tzif.specs.Kept.{IsFooterOf};
+ghost use Rattle.zic_tzif.specs.Parts.{Checks, IsFirstPart, IsBlock, IsText, StopsFooter};
 ghost use Rattle.zic_tzif.specs.Reading.{first_checks, second_checks, footer_checks, IsFile, ReadsTo, StopsReading};
 
 use crate::data_block::DataBlock;

@@ -4,7 +4,7 @@ use Rattle.zic_tzif.proofs.ReadFiles.{fails_first, fails_second, fails_third, fa
 use Rattle.zic_table.specs.declared.content.LocalType.{LocalType}
 use Rattle.zic_table.specs.Content.{IsLocalType}
 use Rattle.zic_tzif.specs.Block.{sixes, type_in}
-use Rattle.zic_tzif.specs.Parts.{IsFooterOf}
+use Rattle.zic_tzif.specs.Kept.{IsFooterOf}
 use Rattle.zic_tzif.specs.Reading.{first_failed, IsFooterText}
 use Rattle.zic_tzif.proofs.reading.read_zone.Goals as goal
 
