@@ -5,6 +5,7 @@ use crate::command_line::{Request, parse};
 use crate::compile::compile;
 use crate::failure::Failure;
 use crate::show::show;
+use crate::{check_source, show_file};
 use std::alloc::Global;
 use std::io::{self, ErrorKind, Read, Write};
 use std::test::Fail;
@@ -113,6 +114,21 @@ fn check_tells_what_cannot_be_read_or_written(rt: HostRuntime) -> Result<(), Fai
         told(alloc, unwritten)?.as_str(),
         "cannot write output, status 3"
     );
+    Ok(())
+}
+
+#[test]
+fn a_path_that_is_not_there_cannot_be_read(rt: HostRuntime) -> Result<(), Fail> {
+    let alloc = rt.alloc();
+    let unread = check_source(&rt, "no/such/source")
+        .err()
+        .ok_or("it was read")?;
+    assert_eq!(rt;
+        told(alloc, unread)?.as_str(),
+        "cannot read no/such/source, status 3"
+    );
+    let unread = show_file(&rt, "", 0).err().ok_or("it was read")?;
+    assert_eq!(rt; told(alloc, unread)?.as_str(), "cannot read , status 3");
     Ok(())
 }
 
