@@ -1,22 +1,18 @@
 -- What the fields of a line say.
-use Rattle.std.proofs.Common.{◌≡◌, ℕ, ◌<◌, Bool, true, false, List, [], ◌∷◌, length, get_or, map, Option, Some, Result, Ok, Err, refl, sym, ap, ◌∙◌, arith}
-use Rattle.std.specs.Prelude.{ℤ, bytes_eq, ◌||◌, ◌==◌, option_map}
+use Rattle.std.proofs.Common.{◌≡◌, ℕ, true, false, List, [], ◌∷◌, length, get_or, Some, Result, Ok, refl, sym, ap, ◌∙◌, arith}
+use Rattle.std.specs.Prelude.{ℤ, ◌||◌, ◌==◌}
 use Rattle.std.specs.List.{list_any}
-use Rattle.std.proofs.lemmas.Bool.{lt-ltb}
 use Rattle.zic_source.specs.declared.place.Place.{Place}
 use Rattle.zic_source.specs.declared.fault.Fault.{Fault}
-use Rattle.zic_source.specs.declared.fault.Kind.TheVariants.{DuplicateName, TooMany}
 use Rattle.zic_source.specs.declared.fault.Stop.{Stop}
-use Rattle.zic_source.specs.declared.source.Zone.{Zone}
 use Rattle.zic_source.specs.declared.source.ZoneLine.{ZoneLine}
 use Rattle.zic_source.specs.Source.{ZoneLines}
-use Rattle.zic_source.specs.Zone.{zone_lines}
 use Rattle.zic_source.specs.Stop.{Stops}
 use Rattle.zic_source.specs.Field.{is_dash}
 use Rattle.zic_source.specs.Name.{is_name}
 use Rattle.zic_source.specs.Time.{offset_of}
 use Rattle.zic_source.specs.ZoneLine.{format_of}
-use Rattle.zic_source.specs.Reading.{◌>>=◌, fault_at, format_at, zone_of, zone_line, with_zone}
+use Rattle.zic_source.specs.Reading.{◌>>=◌, format_at, zone_of, zone_line}
 use Rattle.zic_source.proofs.Loops.{bind_stops, stops_at}
 
 pub format_is : (place : Place) (field : List ℕ) → is_dash field ≡ false → list_any (λ byte. byte == 37 || byte == 47) field ≡ false → format_at place field ≡ Ok field
@@ -43,19 +39,6 @@ module _ (place : Place) (name stdoff rules format : List ℕ) (offset : ℤ) (n
 
   pub zone_stops : (stop : Stop) → Stops stop (format_at place format) → Stops stop (zone_of place name stdoff rules format)
   zone_stops stop h = stops_at stop _ _ (sym up_to_format) (bind_stops stop (format_at place format) (λ text. Ok (record { name = name; first = record { place = place; offset = offset; format = text }; continuations = [] })) h)
-
-pub is_named_is : (zones zones' : List Zone) (name name' : List ℕ) (b : Bool) → b ≡ list_any (λ zone. bytes_eq zone.name name) (map zone_lines zones) → zones ≡ zones' → name ≡ name' → list_any (λ zone. bytes_eq zone.name name') (map zone_lines zones') ≡ b
-is_named_is zones zones' name name' b h e f = sym (h ∙ ap (λ (zs : List Zone). list_any (λ zone. bytes_eq zone.name name) (map zone_lines zs)) e ∙ ap (λ (n : List ℕ). list_any (λ zone. bytes_eq zone.name n) (map zone_lines zones')) f)
-
-pub add_duplicate : (place : Place) (zones : List ZoneLines) (entry : Option Zone) (zone : Zone) → entry ≡ Some zone → list_any (λ earlier. bytes_eq earlier.name zone.name.items) zones ≡ true
-    → with_zone place zones (option_map zone_lines entry) ≡ Err (fault_at place DuplicateName)
-unfolding with_zone
-add_duplicate place zones entry zone e d = ap (λ (o : Option Zone). with_zone place zones (option_map zone_lines o)) e ∙ rw d refl
-
-pub add_too_many : (place : Place) (zones : List ZoneLines) (entry : Option Zone) (zone : Zone) → entry ≡ Some zone → list_any (λ earlier. bytes_eq earlier.name zone.name.items) zones ≡ false → 0 < length zones
-    → with_zone place zones (option_map zone_lines entry) ≡ Err (fault_at place TooMany)
-unfolding with_zone
-add_too_many place zones entry zone e d lt = ap (λ (o : Option Zone). with_zone place zones (option_map zone_lines o)) e ∙ rw (d, lt-ltb 0 (length zones) lt) refl
 
 pub fields_at : (place : Place) (fields : List (List ℕ)) (name stdoff rules format : List ℕ) → length fields ≡ 5 → name ≡ get_or fields 1 [] → stdoff ≡ get_or fields 2 [] → rules ≡ get_or fields 3 [] → format ≡ get_or fields 4 []
     → zone_line place fields ≡ zone_of place name stdoff rules format

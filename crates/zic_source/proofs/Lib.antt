@@ -9,3 +9,9 @@ pub mod Digits
 pub mod Loops
 pub mod Buffer
 pub mod SourceLemmas
+pub mod DayForms
+pub mod OnlyWords
+pub mod ClockTimes
+pub mod Steps
+pub mod RuleLines
+pub mod SameBytes

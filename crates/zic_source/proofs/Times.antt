@@ -4,7 +4,7 @@ use Rattle.std.specs.List.{slice_split}
 use Rattle.std.specs.Borrow.{Bor}
 use Rattle.std.proofs.lemmas.List.Splits.{length-slice_split}
 use Rattle.zic_source.specs.Parts.{other_parts}
-use Rattle.zic_source.specs.Time.{seconds_from, magnitude_from}
+use Rattle.zic_source.specs.Time.{number, magnitude_from, seconds_from, whole_seconds, signed_seconds}
 
 -- there is always a first part
 some_part : {X : Type 0} (parts : List X) (n : ℕ) → length parts ≡ n + 1 → (first : X) × (others : List X) × (parts ≡ first ∷ others)
@@ -27,3 +27,8 @@ four_in_time p parts hours minutes seconds more rest is e =
     let first = first_part p rest.now in
     let all : parts ≡ hours ∷ minutes ∷ seconds ∷ first.0 ∷ first.1 = e ∙ ap (λ (o : Option (Bor (List ℕ))). hours ∷ minutes ∷ seconds ∷ other_parts p o) is ∙ ap (λ (ps : List (List ℕ)). hours ∷ minutes ∷ seconds ∷ ps) first.2 in
     sym (ap magnitude_from all)
+
+-- a time has hours
+pub no_time : (limit : ℕ) → signed_seconds limit [] ≡ None
+unfolding signed_seconds whole_seconds magnitude_from number
+no_time limit = refl

@@ -1,5 +1,7 @@
 pub mod Source
 pub mod Zone
+pub mod Entry
+pub mod SetSizes
 pub mod Stop
 pub mod Parts
 pub mod Line
@@ -8,6 +10,14 @@ pub mod Taken
 pub mod Word
 pub mod Name
 pub mod Time
+pub mod Year
+pub mod Month
+pub mod DayForm
+pub mod Clock
+pub mod Saving
+pub mod Letter
+pub mod SetName
 pub mod ZoneLine
+pub mod RuleLine
 pub mod Grammar
 pub mod Reading

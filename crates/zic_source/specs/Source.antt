@@ -1,5 +1,6 @@
 -- What a source says, as its lines stand: zic(8), FILES.
-use Rattle.std.specs.Prelude.{ℕ, List, ◌∷◌, Option, slice_get}
+use Rattle.std.specs.Prelude.{ℕ, List, [], ◌∷◌, Option, slice_get, count_by, bytes_eq}
+use Rattle.zic_source.specs.declared.rule.Rule.{Rule}
 use Rattle.zic_source.specs.declared.source.ZoneLine.{ZoneLine}
 
 -- a zone: its name, what its Zone line says, and what each continuation line says
@@ -10,7 +11,16 @@ pub record ZoneLines : Type 0 where
 
 -- all lines, those of one kind in the order of the texts and their lines
 pub record SourceLines : Type 0 where
+  pub rules : List Rule
   pub zones : List ZoneLines
+
+-- the source without a line
+abbrev pub no_lines : SourceLines
+no_lines = record { rules = []; zones = [] }
+
+-- how many of the rules belong to the set
+abbrev pub set_size : List ℕ → List Rule → ℕ
+set_size name rules = count_by (λ rule. bytes_eq name rule.name) rules
 
 -- the lines of a zone in order
 abbrev pub lines_of_zone : ZoneLines → List ZoneLine

@@ -77,6 +77,10 @@ abbrev pub is_negative : List ℕ → Bool
 is_negative [] = false
 is_negative (byte ∷ bytes) = byte == 45
 
+-- a time in whole seconds, behind a `-` below 0, at most the limit either way
+unfoldable pub signed_seconds : ℕ → List ℕ → Option ℤ
+signed_seconds limit text = if is_negative text then option_map (λ s. neg_ℤ (pos s)) (whole_seconds limit (drop 1 text)) else option_map pos (whole_seconds limit text)
+
 -- STDOFF in seconds, positive east, at most 24 hours either way; `-` is 0
 unfoldable pub offset_of : List ℕ → Option ℤ
-offset_of field = if is_dash field then Some (pos 0) else (if is_negative field then option_map (λ s. neg_ℤ (pos s)) (whole_seconds 86400 (drop 1 field)) else option_map pos (whole_seconds 86400 field))
+offset_of field = if is_dash field then Some (pos 0) else signed_seconds 86400 field

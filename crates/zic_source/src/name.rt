@@ -7,7 +7,7 @@ ghost use Rattle.zic_source.specs.Name.{is_name, is_name_byte, is_name_part};
 use crate::field::is_dash;
 
 /// How many bytes a name may have.
-const LONGEST_NAME: usize = 255;
+pub(crate) const LONGEST_NAME: usize = 255;
 
 fn is_name_byte(byte: u8) -> bool
     ensures { result ≡ is_name_byte byte }

@@ -1,22 +1,26 @@
 //! Source texts, line by line.
 
-ghost use Rattle.std.specs.Prelude.{◌≡◌, ◌∷◌, ◌<◌, Ok, IfOk, length, map, option_map};
-ghost use Rattle.std.specs.List.{list_any};
-ghost use Rattle.std.specs.Prelude.{bytes_eq};
+ghost use Rattle.std.specs.Prelude.{◌≡◌, ◌∷◌, ◌<◌, Ok, IfOk, OnOk, length, option_map};
 ghost use Rattle.zic_source.specs.Source.{SourceLines};
-ghost use Rattle.zic_source.specs.Zone.{zone_lines};
+ghost use Rattle.zic_source.specs.Zone.{zone_lines, line_entry};
 ghost use Rattle.zic_source.specs.Stop.{Gives};
 ghost use Rattle.zic_source.specs.Line.{lines_of, text_lines};
-ghost use Rattle.zic_source.specs.Reading.{reading, texts_of, with_zone, line_read, lines_read};
+ghost use Rattle.zic_source.specs.Reading.{reading, texts_of, with_rule, with_zone, with_entry, line_read, lines_read};
+ghost use Rattle.zic_source.specs.SetSizes.{Counts};
 ghost use Rattle.zic_source.specs.Grammar.{IsSource};
 
+use crate::entry::{Entry, line_entry};
 use crate::fault::{Kind, Stop};
 use crate::field::Fields;
 use crate::place::Place;
+use crate::rule::Rule;
+use crate::set_sizes::SetSizes;
 use crate::source::{Source, Zone};
 use crate::split::split_once;
-use crate::zone_line::entry;
 use std::alloc::Global;
+
+/// How many Rule lines there may be.
+const MOST_RULES: usize = 10_000;
 
 /// How many zones there may be.
 const MOST_ZONES: usize = 1;
@@ -34,60 +38,82 @@ fn first_line(text: &[u8]) -> (&[u8], &[u8])
     }
 }
 
-/// Whether a zone has this name.
-fn is_named(zones: &[Zone], name: &[u8]) -> bool
-    ensures { result ≡ list_any (λ zone. bytes_eq zone.name name.now) (map zone_lines zones.now) }
-{
-    for zone in zones {
-        if zone.name.as_slice() == name {
-            return true;
-        }
-    }
-    false
-}
-
 /// What was read so far.
 #[derive(Drop)]
 struct Reader {
-    zones: Vec<Zone>,
+    source: Source,
+    /// How many rules of the source each set has.
+    sizes: SetSizes,
     fields: Fields,
 }
 
 impl Reader {
-    /// Adds what a line says, where it is a zone with a new name.
-    #[tactic(auto, unfolding(crate::specs::Reading::with_zone))]
-    fn add(&mut self, place: Place, entry: Option<Zone>) -> Result<(), Stop>
-        ensures { Gives (λ _. map zone_lines self.new.zones.items) result
-            (with_zone place (map zone_lines self.old.zones.items) (option_map zone_lines entry)) }
+    /// Adds a rule, where there may be one more of its set and of all.
+    #[tactic(auto, unfolding(crate::specs::Reading::with_rule))]
+    fn add_rule(&mut self, alloc: Global, place: Place, rule: Rule) -> Result<(), Stop>
+        requires { Counts self.old.sizes self.old.source.rules }
+        ensures read { Gives (λ _. self.new.source) result (with_rule place self.old.source rule) }
+        ensures counted { OnOk result (Counts self.new.sizes self.new.source.rules) }
     {
-        let Some(zone) = entry else {
-            return Ok(());
-        };
-        if is_named(&self.zones, &zone.name) {
-            return Err(Stop::at(place, Kind::DuplicateName));
-        }
-        if self.zones.len() >= MOST_ZONES {
+        let name = Vec::from_slice(alloc, rule.name.octets())?;
+        self.sizes.add(place, name)?;
+        if self.source.rules() >= MOST_RULES {
             return Err(Stop::at(place, Kind::TooMany));
         }
-        self.zones.push(zone)?;
+        self.source.push_rule(rule)?;
         Ok(())
+    }
+
+    /// Adds a zone, where its name is new.
+    #[tactic(auto, unfolding(crate::specs::Reading::with_zone))]
+    fn add_zone(&mut self, place: Place, zone: Zone) -> Result<(), Stop>
+        ensures read { Gives (λ _. self.new.source) result (with_zone place self.old.source (zone_lines zone)) }
+        ensures sizes { self.new.sizes ≡ self.old.sizes }
+        ensures rules { OnOk result (self.new.source.rules ≡ self.old.source.rules) }
+    {
+        if self.source.has_zone(&zone.name) {
+            return Err(Stop::at(place, Kind::DuplicateName));
+        }
+        if self.source.zones() >= MOST_ZONES {
+            return Err(Stop::at(place, Kind::TooMany));
+        }
+        self.source.push_zone(zone)?;
+        Ok(())
+    }
+
+    /// Adds what a line says.
+    #[tactic(auto, unfolding(crate::specs::Reading::with_entry))]
+    fn add(&mut self, alloc: Global, place: Place, entry: Option<Entry>) -> Result<(), Stop>
+        requires { Counts self.old.sizes self.old.source.rules }
+        ensures read { Gives (λ _. self.new.source) result
+            (with_entry place self.old.source (option_map line_entry entry)) }
+        ensures counted { OnOk result (Counts self.new.sizes self.new.source.rules) }
+    {
+        match entry {
+            None => Ok(()),
+            Some(Entry::Rule(rule)) => self.add_rule(alloc, place, rule),
+            Some(Entry::Zone(zone)) => self.add_zone(place, zone),
+        }
     }
 
     /// Reads a line.
     #[tactic(auto, unfolding(crate::specs::Reading::line_read))]
     fn read_line(&mut self, alloc: Global, place: Place, line: &[u8]) -> Result<(), Stop>
-        ensures { Gives (λ _. map zone_lines self.new.zones.items) result
-            (line_read (map zone_lines self.old.zones.items) (record { place = place; bytes = line.now })) }
+        requires { Counts self.old.sizes self.old.source.rules }
+        ensures read { Gives (λ _. self.new.source) result
+            (line_read self.old.source (record { place = place; bytes = line.now })) }
+        ensures counted { OnOk result (Counts self.new.sizes self.new.source.rules) }
     {
         self.fields.take_line(place, line)?;
-        let entry = entry(alloc, place, &self.fields)?;
-        self.add(place, entry)
+        let entry = line_entry(alloc, place, &self.fields)?;
+        self.add(alloc, place, entry)
     }
 
     /// Reads the lines of a text.
     fn read_text(&mut self, alloc: Global, number: u64, text: &[u8]) -> Result<(), Stop>
-        ensures { Gives (λ _. map zone_lines self.new.zones.items) result
-            (lines_read (map zone_lines self.old.zones.items) (text_lines number text.now)) }
+        requires { Counts self.old.sizes self.old.source.rules }
+        ensures read { Gives (λ _. self.new.source) result (lines_read self.old.source (text_lines number text.now)) }
+        ensures counted { OnOk result (Counts self.new.sizes self.new.source.rules) }
     {
         let mut rest = text;
         let mut line = 0;
@@ -106,13 +132,14 @@ fn read_texts(alloc: Global, texts: &[Vec<u8>]) -> Result<Source, Stop>
     ensures { Gives (λ source. source) result (reading (texts_of texts.now)) }
 {
     let mut reader = Reader {
-        zones: Vec::new(alloc),
+        source: Source::new(alloc),
+        sizes: SetSizes::new(alloc),
         fields: Fields::new(alloc),
     };
     for (index, text) in texts.iter().enumerate() {
         reader.read_text(alloc, index as u64 + 1, text)?;
     }
-    Ok(Source::new(reader.zones))
+    Ok(reader.source)
 }
 
 /// The lines of the texts.
@@ -121,7 +148,7 @@ fn read_texts(alloc: Global, texts: &[Vec<u8>]) -> Result<Source, Stop>
 /// in this order: the line's length, a byte that may not stand outside a comment, a quoted part that isn't closed,
 /// the keyword, the number of fields, the fields from left to right, the name that was there before, the limit.
 ///
-/// For now only Zone lines of five fields are read, with RULES `-` and a FORMAT without `%` and `/`, and one zone
+/// For now only Rule lines and Zone lines of five fields are read, with RULES `-` and a FORMAT without `%` and `/`, and one zone
 /// at most; anything else is the fault of the field where it stands.
 pub fn read_source(alloc: Global, texts: &[Vec<u8>]) -> Result<Source, Stop>
     // The source, or the first fault.

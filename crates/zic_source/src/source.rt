@@ -1,10 +1,15 @@
 //! A checked source, line by line.
 
 ghost use Rattle.std.specs.Prelude.{◌≡◌, ◌+◌, ◌<◌, length, slice_get, Some, IfSome};
+ghost use Rattle.std.specs.Prelude.{bytes_eq, map};
+ghost use Rattle.std.specs.List.{list_any};
 ghost use Rattle.std.specs.Option.{ForSome};
+ghost use Rattle.zic_source.specs.Zone.{zone_lines};
 ghost use Rattle.zic_source.specs.Source.{zone_at, lines_of_zone};
 
 use crate::place::Place;
+use crate::rule::Rule;
+use std::alloc::{AllocError, Global};
 use std::marker::Model;
 
 /// The FORMAT of a Zone or continuation line, which says how times are abbreviated; clauses see its octets.
@@ -70,9 +75,22 @@ impl Zone {
     }
 }
 
+/// Whether a zone has this name.
+fn is_named(zones: &[Zone], name: &[u8]) -> bool
+    ensures { result ≡ list_any (λ zone. bytes_eq zone.name name.now) (map zone_lines zones.now) }
+{
+    for zone in zones {
+        if zone.name.as_slice() == name {
+            return true;
+        }
+    }
+    false
+}
+
 /// The lines of checked source texts, in the order of the texts and of their lines.
 #[derive(Debug, Drop)]
 pub struct Source {
+    rules: Vec<Rule>,
     zones: Vec<Zone>,
 }
 
@@ -84,18 +102,60 @@ impl Model for Source {
 
     ghost use Rattle.zic_source.specs.Zone.{zone_lines};
 
-    ghost view = { λ s. record { zones = map zone_lines s.zones.items } };
+    ghost view = { λ s. record { rules = s.rules.items; zones = map zone_lines s.zones.items } };
 }
 
 impl Source {
-    ghost use Rattle.std.specs.Prelude.{map};
-    ghost use Rattle.zic_source.specs.Zone.{zone_lines};
+    ghost use Rattle.std.specs.Prelude.{map, OnOk};
+    ghost use Rattle.zic_source.specs.Source.{no_lines};
+    ghost use Rattle.zic_source.specs.Entry.{with_line, RuleEntry, ZoneEntry};
 
-    /// The source with these zones.
-    pub(crate) fn new(zones: Vec<Zone>) -> Self
-        ensures { result.zones ≡ map zone_lines zones.items }
+    /// The source without a line; takes no memory yet.
+    pub(crate) fn new(alloc: Global) -> Self
+        ensures { result ≡ no_lines }
     {
-        Source { zones }
+        Source {
+            rules: Vec::new(alloc),
+            zones: Vec::new(alloc),
+        }
+    }
+
+    /// Adds a rule.
+    pub(crate) fn push_rule(&mut self, rule: Rule) -> Result<(), AllocError>
+        ensures { OnOk result (self.new ≡ with_line self.old (Some (RuleEntry rule))) }
+    {
+        self.rules.push(rule)?;
+        Ok(())
+    }
+
+    /// Adds a zone.
+    pub(crate) fn push_zone(&mut self, zone: Zone) -> Result<(), AllocError>
+        ensures { OnOk result (self.new ≡ with_line self.old (Some (ZoneEntry (zone_lines zone)))) }
+    {
+        self.zones.push(zone)?;
+        Ok(())
+    }
+
+    /// Whether a zone has this name.
+    pub(crate) fn has_zone(&self, name: &[u8]) -> bool
+        ensures { result ≡ list_any (λ zone. bytes_eq zone.name name.now) self.now.zones }
+    {
+        is_named(&self.zones, name)
+    }
+
+    /// How many Rule lines there are.
+    pub fn rules(&self) -> usize
+        ensures { result ≡ length self.now.rules }
+    {
+        self.rules.len()
+    }
+
+    /// A rule.
+    pub fn rule(&self, rule: usize) -> &Rule
+        requires { rule < length self.now.rules }
+        ensures { slice_get self.now.rules rule ≡ Some result.now }
+    {
+        &self.rules[rule]
     }
 
     /// How many Zone lines there are.

@@ -1,6 +1,7 @@
 use super::*;
 use std::alloc::Global;
 use std::test::Fail;
+use zic_calendar::On;
 
 /// What these texts give, if there is memory for it.
 fn read(alloc: Global, texts: &[&[u8]]) -> Result<Result<Source, Fault>, Fail> {
@@ -66,6 +67,293 @@ fn faults(rt: HostRuntime) -> Result<(), Fail> {
             "{text:?}"
         );
     }
+    Ok(())
+}
+
+#[test]
+fn rule_faults(rt: HostRuntime) -> Result<(), Fail> {
+    let rows: [(&[u8], Kind); 27] = [
+        (b"Rule A 2000 max - Jan 1 0 0", Kind::FieldCount),
+        (b"Rule -A 2000 max - Jan 1 0 0 -", Kind::Name),
+        (b"Rule \"\" 2000 max - Jan 1 0 0 -", Kind::Name),
+        (b"Rule \"A B\" 2000 max - Jan 1 0 0 -", Kind::Name),
+        (b"Rule A 0 only - Jan 1 0 0 -", Kind::Year),
+        (b"Rule A 9001 only - Jan 1 0 0 -", Kind::Year),
+        (b"Rule A 2000 m - Jan 1 0 0 -", Kind::Year),
+        (b"Rule A 2000 mi - Jan 1 0 0 -", Kind::Year),
+        (b"Rule A 2001 2000 - Jan 1 0 0 -", Kind::YearOrder),
+        (b"Rule A 2000 max x Jan 1 0 0 -", Kind::Reserved),
+        (b"Rule A 2000 max - Ju 1 0 0 -", Kind::Month),
+        (b"R US 2007 ma - M Su>=8 2 1 D", Kind::Month),
+        (b"Rule A 2000 max - Feb 29 0 0 -", Kind::Day),
+        (b"Rule A 2003 only - Feb 29 0 0 -", Kind::Day),
+        (b"Rule A 2000 max - Feb Sun>=29 0 0 -", Kind::Day),
+        (b"Rule A 2000 max - Feb Sun<=30 0 0 -", Kind::Day),
+        (b"Rule A 2000 max - Apr 31 0 0 -", Kind::Day),
+        (b"Rule A 2000 max - Apr lasSun 0 0 -", Kind::Day),
+        (b"Rule A 2000 max - Apr S>=8 0 0 -", Kind::Day),
+        (b"Rule A 2000 max - Apr Sun>=8>=8 0 0 -", Kind::Day),
+        (b"Rule A 2000 max - Jan 1 s 0 -", Kind::Time),
+        (b"Rule A 2000 max - Jan 1 -w 0 -", Kind::Time),
+        (b"Rule A 2000 max - Jan 1 300:00:01 0 -", Kind::Time),
+        (b"Rule A 2000 max - Jan 1 0 24:00:01 -", Kind::Save),
+        (b"Rule A 2000 max - Jan 1 0 1w -", Kind::Save),
+        (b"Rule A 2000 max - Jan 1 0 0 a_b", Kind::Letter),
+        (
+            b"Rule A 2000 max - Jan 1 0 0 ABCDEFGHIJKLMNOPQ",
+            Kind::Letter,
+        ),
+    ];
+    let place = Place { text: 1, line: 1 };
+    for (text, kind) in &rows {
+        assert_eq!(rt;
+            fault(rt.alloc(), &[*text])?,
+            Some(Fault { place, kind: *kind }),
+            "{text:?}"
+        );
+    }
+    Ok(())
+}
+
+/// The months, days and times of the rules, and AT's clock.
+#[test]
+fn rules(rt: HostRuntime) -> Result<(), Fail> {
+    let rows: [(&[u8], u8, On, i32, ClockForm); 13] = [
+        (
+            b"Rule US 2007 ma - Mar Su>=8 2 1 D",
+            3,
+            On::After { weekday: 0, day: 8 },
+            7200,
+            ClockForm::Wall,
+        ),
+        (
+            b"r A 2004 only - Feb 29 0 0 -",
+            2,
+            On::Day(29),
+            0,
+            ClockForm::Wall,
+        ),
+        (
+            b"ru A 2004 2004 - f 29 - - \"\"",
+            2,
+            On::Day(29),
+            0,
+            ClockForm::Wall,
+        ),
+        (
+            b"Rule A 2000 max - Feb Sun<=29 0 0 -",
+            2,
+            On::Before {
+                weekday: 0,
+                day: 29,
+            },
+            0,
+            ClockForm::Wall,
+        ),
+        (
+            b"Rule A 2000 max - Ja LASTsA 0 0 -",
+            1,
+            On::Last(6),
+            0,
+            ClockForm::Wall,
+        ),
+        (
+            b"Rule A 2000 max - D tH<=31 0 0 -",
+            12,
+            On::Before {
+                weekday: 4,
+                day: 31,
+            },
+            0,
+            ClockForm::Wall,
+        ),
+        (
+            b"Rule A 2000 max - Jan 1 1:30s 0 -",
+            1,
+            On::Day(1),
+            5400,
+            ClockForm::Standard,
+        ),
+        (
+            b"Rule A 2000 max - Jan 1 -1:30U 0 -",
+            1,
+            On::Day(1),
+            -5400,
+            ClockForm::Universal,
+        ),
+        (
+            b"Rule A 2000 max - Jan 1 24g 0 -",
+            1,
+            On::Day(1),
+            86400,
+            ClockForm::Universal,
+        ),
+        (
+            b"Rule A 2000 max - Jan 1 0z 0 -",
+            1,
+            On::Day(1),
+            0,
+            ClockForm::Universal,
+        ),
+        (
+            b"Rule A 2000 max - Jan 1 2W 0 -",
+            1,
+            On::Day(1),
+            7200,
+            ClockForm::Wall,
+        ),
+        (
+            b"Rule A 2000 max - Jan 1 0:00:00.5 0 -",
+            1,
+            On::Day(1),
+            0,
+            ClockForm::Wall,
+        ),
+        (
+            b"Rule A 2000 max - Jan 1 300:00:00.5 0 -",
+            1,
+            On::Day(1),
+            1_080_000,
+            ClockForm::Wall,
+        ),
+    ];
+    for (text, month, on, at, form) in &rows {
+        let source = read(rt.alloc(), &[*text])?.ok().ok_or("a source")?;
+        assert_eq!(rt; source.rules(), 1, "{text:?}");
+        if source.rules() == 1 {
+            let rule = source.rule(0);
+            assert_eq!(rt; rule.month, *month, "{text:?}");
+            assert_eq!(rt; rule.on, *on, "{text:?}");
+            assert_eq!(rt; rule.at, *at, "{text:?}");
+            assert_eq!(rt; rule.form, *form, "{text:?}");
+        }
+    }
+    Ok(())
+}
+
+/// AT in seconds.
+#[test]
+fn times(rt: HostRuntime) -> Result<(), Fail> {
+    let alloc = rt.alloc();
+    let rows: [(&[u8], i32); 8] = [
+        (b"0:00:32.13", 32),
+        (b"0:00:32.5", 32),
+        (b"0:00:33.5", 34),
+        (b"-", 0),
+        (b"24:00", 86400),
+        (b"-2:30", -9000),
+        (b"260:00", 936_000),
+        (b"300:00:00.5", 1_080_000),
+    ];
+    for (at, seconds) in &rows {
+        let mut text = Vec::from_slice(alloc, b"Rule A 2004 only - Feb 29 ")?;
+        text.extend_from_slice(at)?;
+        text.extend_from_slice(b" 1 D")?;
+        let source = read(alloc, &[&text])?.ok().ok_or("a source")?;
+        assert_eq!(rt; source.rules(), 1, "{at:?}");
+        if source.rules() == 1 {
+            assert_eq!(rt; source.rule(0).at, *seconds, "{at:?}");
+        }
+    }
+    Ok(())
+}
+
+/// The set, the years, SAVE, its flag and the letter.
+#[test]
+fn savings(rt: HostRuntime) -> Result<(), Fail> {
+    let rows: [(&[u8], &[u8], Option<u16>, i32, bool, &[u8]); 6] = [
+        (
+            b"Rule US 2007 ma - Mar Su>=8 2 1 D",
+            b"US",
+            None,
+            3600,
+            true,
+            b"D",
+        ),
+        (
+            b"Rule US 2007 2037 - Nov Su>=1 2 0 S",
+            b"US",
+            Some(2037),
+            0,
+            false,
+            b"S",
+        ),
+        (
+            b"Rule Eire 2007 o - Oct lastSun 1u -1 -",
+            b"Eire",
+            Some(2007),
+            -3600,
+            true,
+            b"",
+        ),
+        (
+            b"Rule _ 2007 o - Oct 1 1u 1:00s \"\"",
+            b"_",
+            Some(2007),
+            3600,
+            false,
+            b"",
+        ),
+        (
+            b"Rule \"A#\" 2007 only - Oct 1 0 0D +-9",
+            b"A#",
+            Some(2007),
+            0,
+            true,
+            b"+-9",
+        ),
+        (
+            b"Rule A 000002007 9000 - Oct 1 0 - -",
+            b"A",
+            Some(9000),
+            0,
+            false,
+            b"",
+        ),
+    ];
+    for (text, name, last, save, daylight, letter) in &rows {
+        let source = read(rt.alloc(), &[*text])?.ok().ok_or("a source")?;
+        assert_eq!(rt; source.rules(), 1, "{text:?}");
+        if source.rules() == 1 {
+            let rule = source.rule(0);
+            assert_eq!(rt; rule.name.octets(), *name, "{text:?}");
+            assert_eq!(rt; rule.first, 2007, "{text:?}");
+            assert_eq!(rt; rule.last, *last, "{text:?}");
+            assert_eq!(rt; rule.save, *save, "{text:?}");
+            assert_eq!(rt; rule.daylight, *daylight, "{text:?}");
+            assert_eq!(rt; rule.letter.octets(), *letter, "{text:?}");
+        }
+    }
+    Ok(())
+}
+
+/// A set has at most 1,000 Rule lines, over all texts.
+#[test]
+fn large_sets(rt: HostRuntime) -> Result<(), Fail> {
+    let alloc = rt.alloc();
+    let mut text = Vec::new(alloc);
+    for _ in 0..500 {
+        text.extend_from_slice(b"Rule A 2000 max - Jan 1 0 0 -\n")?;
+    }
+    assert_eq!(rt; fault(alloc, &[&text, &text])?, None);
+    let more: &[u8] = b"Rule B 2000 max - Jan 1 0 0 -\nRule A 2000 max - Jan 1 0 0 -";
+    let place = Place { text: 3, line: 2 };
+    let passed = Fault {
+        place,
+        kind: Kind::TooMany,
+    };
+    assert_eq!(rt; fault(alloc, &[&text, &text, more])?, Some(passed));
+    for _ in 500..1001 {
+        text.extend_from_slice(b"Rule A 2000 max - Jan 1 0 0 -\n")?;
+    }
+    let passed = Fault {
+        place: Place {
+            text: 1,
+            line: 1001,
+        },
+        kind: Kind::TooMany,
+    };
+    assert_eq!(rt; fault(alloc, &[&text])?, Some(passed));
     Ok(())
 }
 

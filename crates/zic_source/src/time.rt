@@ -2,24 +2,24 @@
 
 ghost use Rattle.std.specs.Prelude.{◌≡◌, ◌+◌, ◌*◌, ◌^◌, ◌<◌, ◌≤◌, List, IfSome, length, option_map, pos, ◌==◌};
 ghost use Rattle.std.specs.List.{slice_split};
-ghost use Rattle.zic_source.specs.Time.{number, sixtieths, decimals, seconds_from, magnitude, whole_seconds, offset_of, rounded, IsNearestSecond};
+ghost use Rattle.zic_source.specs.Time.{number, sixtieths, decimals, seconds_from, magnitude, whole_seconds, signed_seconds, offset_of, rounded, IsNearestSecond};
 
 use crate::field::is_dash;
 use crate::split::split_once;
 use std::cmp::Ordering;
 
-/// How many digits hours and decimals of a second may have.
-const MOST_DIGITS: usize = 9;
+/// How many digits years, hours and decimals of a second may have.
+pub(crate) const MOST_DIGITS: usize = 9;
 
-/// The greatest STDOFF either way, in seconds.
-const DAY: u32 = 86400;
+/// The greatest STDOFF and SAVE either way, in seconds.
+pub(crate) const DAY: u32 = 86400;
 
 /// Billionths in a second.
 const BILLION: u128 = 1_000_000_000;
 
 /// The number that the text spells in decimal digits: at least one, and at most so many.
 #[tactic(auto, unfolding(crate::specs::Time::number))]
-fn number(text: &[u8], most: usize) -> Option<u32>
+pub(crate) fn number(text: &[u8], most: usize) -> Option<u32>
     requires { most ≤ 9 }
     ensures value { result ≡ number most text.now }
     ensures digits { IfSome result (λ n. n < 10 ^ length text.now) }
@@ -133,6 +133,24 @@ fn whole_seconds(text: &[u8], limit: u32) -> Option<u32>
     }
 }
 
+/// A time in whole seconds, below 0 behind a `-`, within the limit either way.
+#[tactic(auto, unfolding(crate::specs::Time::signed_seconds))]
+pub(crate) fn signed_seconds(text: &[u8], limit: u32) -> Option<i32>
+    requires { limit ≤ 1_080_000 }
+    ensures { result ≡ signed_seconds limit text.now }
+{
+    match text {
+        [b'-', text @ ..] => {
+            let seconds = whole_seconds(text, limit)?;
+            Some(-(seconds as i32))
+        }
+        _ => {
+            let seconds = whole_seconds(text, limit)?;
+            Some(seconds as i32)
+        }
+    }
+}
+
 /// STDOFF in seconds, positive east, at most 24 hours either way.
 #[tactic(auto, unfolding(crate::specs::Time::offset_of))]
 pub(crate) fn offset(field: &[u8]) -> Option<i32>
@@ -141,14 +159,5 @@ pub(crate) fn offset(field: &[u8]) -> Option<i32>
     if is_dash(field) {
         return Some(0);
     }
-    match field {
-        [b'-', text @ ..] => {
-            let seconds = whole_seconds(text, DAY)?;
-            Some(-(seconds as i32))
-        }
-        _ => {
-            let seconds = whole_seconds(field, DAY)?;
-            Some(seconds as i32)
-        }
-    }
+    signed_seconds(field, DAY)
 }

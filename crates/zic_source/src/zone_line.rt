@@ -1,10 +1,10 @@
 //! Zone lines.
 
-ghost use Rattle.std.specs.Prelude.{◌≡◌, ◌==◌, ◌||◌, option_map};
+ghost use Rattle.std.specs.Prelude.{◌≡◌, ◌==◌, ◌||◌};
 ghost use Rattle.std.specs.List.{list_any};
 ghost use Rattle.zic_source.specs.Stop.{Gives};
 ghost use Rattle.zic_source.specs.Zone.{zone_lines};
-ghost use Rattle.zic_source.specs.Reading.{format_at, zone_line, entry_of};
+ghost use Rattle.zic_source.specs.Reading.{format_at, zone_line};
 
 use crate::fault::{Kind, Stop};
 use crate::field::{Fields, is_dash};
@@ -12,7 +12,6 @@ use crate::name::is_name;
 use crate::place::Place;
 use crate::source::{Format, Zone, ZoneLine};
 use crate::time::offset;
-use crate::word::begins_word;
 use std::alloc::Global;
 
 /// Whether `%` or `/` stands in the field.
@@ -38,7 +37,7 @@ fn format(alloc: Global, place: Place, field: &[u8]) -> Result<Format, Stop>
 
 /// What the fields of a Zone line say.
 #[tactic(auto, unfolding(crate::specs::Reading::zone_line, crate::specs::Reading::zone_of))]
-fn zone_line(alloc: Global, place: Place, fields: &Fields) -> Result<Zone, Stop>
+pub(crate) fn zone_line(alloc: Global, place: Place, fields: &Fields) -> Result<Zone, Stop>
     ensures { Gives zone_lines result (zone_line place fields.now.whole) }
 {
     if fields.len() != 5 {
@@ -64,18 +63,4 @@ fn zone_line(alloc: Global, place: Place, fields: &Fields) -> Result<Zone, Stop>
         },
         continuations: Vec::new(alloc),
     })
-}
-
-/// What fields say: nothing where there is none.
-#[tactic(auto, unfolding(crate::specs::Reading::entry_of))]
-pub(crate) fn entry(alloc: Global, place: Place, fields: &Fields) -> Result<Option<Zone>, Stop>
-    ensures { Gives (λ entry. option_map zone_lines entry) result (entry_of place fields.now.whole) }
-{
-    if fields.len() == 0 {
-        return Ok(None);
-    }
-    if !begins_word(b"Zone", fields.get(0)) {
-        return Err(Stop::at(place, Kind::Keyword));
-    }
-    Ok(Some(zone_line(alloc, place, fields)?))
 }

@@ -1,23 +1,23 @@
-use Rattle.std.proofs.Common.{◌+◌, sym, map, arith}
+use Rattle.std.proofs.Common.{◌+◌, sym, arith}
 use Rattle.std.proofs.lemmas.Bool.{eqb-true}
 use Rattle.std.proofs.lemmas.List.{nil_from_length}
 use Rattle.std.proofs.lemmas.Result.{err_from_is_err_and}
-use Rattle.zic_source.specs.Zone.{zone_lines}
 use Rattle.zic_source.proofs.Loops.{text_line_goes_on, text_line_stops, text_ended}
 use Rattle.zic_source.proofs.reading.Reader.read_text.Goals as goal
 
-pub returns-in_err-read_line : goal.returns-in_err-read_line
-returns-in_err-read_line c =
+pub returns-in_err-read_line-clause-read : goal.returns-in_err-read_line-clause-read
+returns-in_err-read_line-clause-read c =
     let p = err_from_is_err_and c.from_residual.result c.from_residual.ensures.1 in
-    rw (p.1, p.2) (text_line_stops (map zone_lines c.loop-rest.self.zones.items) c.args.number (c.loop-rest.line + 1) c.loop-rest.rest.now c.first_line.result.0.now c.first_line.result.1.now _ c.first_line.ensures.line c.loop-rest.invariant.so_far
-    c.in_err-read_line.field-0.0 c.in_err-read_line.ensures)
+    rw (p.1, p.2) (text_line_stops c.loop-rest.self.source c.args.number (c.loop-rest.line + 1) c.loop-rest.rest.now c.first_line.result.0.now c.first_line.result.1.now _ c.first_line.ensures.line c.loop-rest.invariant.so_far
+    c.in_err-read_line.field-0.0 c.in_err-read_line.ensures.read)
 
 pub loop-rest-preserved : goal.loop-rest-preserved
 loop-rest-preserved c = record {
-  so_far = text_line_goes_on (map zone_lines c.loop-rest.self.zones.items) c.args.number (c.loop-rest.line + 1) c.loop-rest.rest.now c.first_line.result.0.now c.first_line.result.1.now _ c.first_line.ensures.line c.loop-rest.invariant.so_far
-      (map zone_lines c.read_line.new.self.zones.items) c.in_ok-read_line.ensures;
+  so_far = text_line_goes_on c.loop-rest.self.source c.args.number (c.loop-rest.line + 1) c.loop-rest.rest.now c.first_line.result.0.now c.first_line.result.1.now _ c.first_line.ensures.line c.loop-rest.invariant.so_far
+      c.read_line.new.self.source c.in_ok-read_line.ensures.read;
+  sizes = c.in_ok-read_line.ensures.counted;
   counted = omega (arith, c.first_line.ensures.shorter, c.loop-rest.invariant.counted);
 }
 
-pub returns : goal.returns
-returns c = text_ended (map zone_lines c.loop-rest.self.zones.items) c.args.number (c.loop-rest.line + 1) c.loop-rest.rest.now _ (nil_from_length c.loop-rest.rest.now (eqb-true _ _ (sym c.loop-rest-test.ensures))) c.loop-rest.invariant.so_far
+pub returns-clause-read : goal.returns-clause-read
+returns-clause-read c = text_ended c.loop-rest.self.source c.args.number (c.loop-rest.line + 1) c.loop-rest.rest.now _ (nil_from_length c.loop-rest.rest.now (eqb-true _ _ (sym c.loop-rest-test.ensures))) c.loop-rest.invariant.so_far

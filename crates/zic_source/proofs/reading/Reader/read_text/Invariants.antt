@@ -1,5 +1,5 @@
-use Rattle.std.proofs.Common.{◌≡◌, ◌+◌, ◌≤◌, length, map}
-use Rattle.zic_source.specs.Zone.{zone_lines}
+use Rattle.std.proofs.Common.{◌≡◌, ◌+◌, ◌≤◌, length}
+use Rattle.zic_source.specs.SetSizes.{Counts}
 use Rattle.zic_source.specs.Line.{lines_of, text_lines}
 use Rattle.zic_source.specs.Reading.{lines_read}
 use Rattle.zic_source.proofs.Loops.{numbered}
@@ -7,7 +7,8 @@ use Rattle.zic_source.proofs.reading.Reader.read_text.Given as goal
 
 abbrev pub invariant-loop-rest : goal.invariant-loop-rest
 invariant-loop-rest l = record {
-  so_far : lines_read (map zone_lines l.self.zones.items) (numbered l.number (l.line + 1) (lines_of l.rest)) ≡ lines_read (map zone_lines l.fn.self.zones.items) (text_lines l.number l.text);
+  so_far : lines_read l.self.source (numbered l.number (l.line + 1) (lines_of l.rest)) ≡ lines_read l.fn.self.source (text_lines l.number l.text);
+  sizes : Counts l.self.sizes l.self.source.rules;
   counted : l.line + length l.rest ≤ length l.text;
 }
 

@@ -1,0 +1,112 @@
+//! Which day of the month a rule names.
+
+ghost use Rattle.std.specs.Prelude.{◌≡◌, ◌≤◌, ◌<◌, ◌==◌, IfSome, option_map};
+ghost use Rattle.std.specs.List.{slice_split};
+ghost use Rattle.std.specs.Int.{IsInRange};
+ghost use Rattle.zic_calendar.specs.Calendar.{month_length};
+ghost use Rattle.zic_source.specs.DayForm.{weekday_of, day_within, last_weekday, both_parts, weekday_and_day, day_form_of};
+
+use crate::split::split_once;
+use crate::time::number;
+use crate::word::{begins_word, only_word};
+use zic_calendar::{On, days_in_month};
+
+const WEEKDAYS: [&[u8]; 7] = [
+    b"Sunday",
+    b"Monday",
+    b"Tuesday",
+    b"Wednesday",
+    b"Thursday",
+    b"Friday",
+    b"Saturday",
+];
+
+/// A weekday, 0 (Sunday) to 6, from its name in English or a front of it that no other weekday has.
+#[tactic(auto, unfolding(crate::specs::DayForm::weekday_of))]
+fn weekday(field: &[u8]) -> Option<u8>
+    ensures { result ≡ weekday_of field.now }
+{
+    let place = only_word(&WEEKDAYS, field)?;
+    Some(place as u8)
+}
+
+/// A day of the month: one or two digits, from 1 to the longest.
+#[tactic(auto, unfolding(crate::specs::DayForm::day_within))]
+fn day_within(longest: u8, field: &[u8]) -> Option<u8>
+    ensures { result ≡ day_within longest field.now }
+{
+    let n = number(field, 2)?;
+    if 1 <= n && n <= u32::from(longest) {
+        Some(n as u8)
+    } else {
+        None
+    }
+}
+
+/// The weekday behind `last`.
+#[tactic(auto, unfolding(crate::specs::DayForm::last_weekday))]
+fn last_weekday(field: &[u8]) -> Option<u8>
+    ensures { result ≡ last_weekday field.now }
+{
+    if !begins_word(field, b"last") || field.len() < 4 {
+        return None;
+    }
+    weekday(&field[4..])
+}
+
+/// The parts before and behind the separator, where it stands in the bytes once.
+fn both_parts(bytes: &[u8], separator: u8) -> Option<(&[u8], &[u8])>
+    ensures { option_map (λ both. (both.0.now, both.1.now)) result ≡ both_parts (slice_split (λ byte. byte == separator) bytes.now) }
+{
+    let (part, rest) = split_once(bytes, separator);
+    let Some(rest) = rest else {
+        return None;
+    };
+    let (other, more) = split_once(rest, separator);
+    match more {
+        None => Some((part, other)),
+        Some(_) => None,
+    }
+}
+
+/// A weekday, this sign and `=`, and a day of the month up to the longest.
+#[tactic(auto, unfolding(crate::specs::DayForm::weekday_and_day))]
+fn weekday_and_day(sign: u8, longest: u8, field: &[u8]) -> Option<(u8, u8)>
+    ensures { result ≡ weekday_and_day sign longest field.now }
+{
+    let (name, bound) = both_parts(field, sign)?;
+    match bound {
+        [b'=', text @ ..] => {
+            let weekday = weekday(name)?;
+            let day = day_within(longest, text)?;
+            Some((weekday, day))
+        }
+        _ => None,
+    }
+}
+
+/// How many days the month, 1 to 12, has in a leap year or in a common year.
+fn month_length(is_leap: bool, month: u8) -> u8
+    ensures { result ≡ month_length is_leap month }
+{
+    days_in_month(if is_leap { 2000 } else { 2001 }, month)
+}
+
+/// `lastX`, `X>=D`, `X<=D` or a day, in a month from 1 to 12. 29 February is a day only in a rule of one leap year;
+/// it may not stand behind `>=`, and behind `<=` it means the last of the month.
+#[tactic(auto, unfolding(crate::specs::DayForm::day_form_of))]
+pub(crate) fn day_form(one_leap_year: bool, month: u8, field: &[u8]) -> Option<On>
+    ensures { result ≡ day_form_of one_leap_year month field.now }
+{
+    if let Some(weekday) = last_weekday(field) {
+        return Some(On::Last(weekday));
+    }
+    if let Some((weekday, day)) = weekday_and_day(b'>', month_length(false, month), field) {
+        return Some(On::After { weekday, day });
+    }
+    if let Some((weekday, day)) = weekday_and_day(b'<', month_length(true, month), field) {
+        return Some(On::Before { weekday, day });
+    }
+    let day = day_within(month_length(one_leap_year, month), field)?;
+    Some(On::Day(day))
+}

@@ -1,0 +1,69 @@
+//! Letters of rules.
+
+ghost use Rattle.std.specs.Prelude.{◌≡◌, option_map};
+ghost use Rattle.std.specs.List.{list_all};
+ghost use Rattle.zic_source.specs.Letter.{is_letter_byte, letter_of};
+
+use crate::field::is_dash;
+use std::marker::Model;
+
+/// How many bytes a letter may have.
+const LONGEST_LETTER: usize = 16;
+
+/// What `%s` of a FORMAT stands for: at most 16 ASCII letters, digits, `+` and `-`; clauses see its octets.
+#[derive(Debug, Drop)]
+pub struct Letter {
+    text: Vec<u8>,
+}
+
+impl Model for Letter {
+    ghost use Rattle.std.specs.Prelude.{List, ℕ};
+
+    ghost Value = { List ℕ };
+
+    ghost view = { λ l. l.text.items };
+}
+
+impl Letter {
+    /// The letter of these octets; the field `-` is the empty letter.
+    pub(crate) fn new(text: Vec<u8>) -> Self
+        ensures { result ≡ text.items }
+    {
+        Letter { text }
+    }
+
+    /// The octets, empty where the field is `-`.
+    pub fn octets(&self) -> &[u8]
+        ensures { result.now ≡ self.now }
+    {
+        &self.text
+    }
+}
+
+fn is_letter_byte(byte: u8) -> bool
+    ensures { result ≡ is_letter_byte byte }
+{
+    byte.is_ascii_alphanumeric() || matches!(byte, b'+' | b'-')
+}
+
+/// Whether each byte may stand in a letter.
+fn are_letter_bytes(field: &[u8]) -> bool
+    ensures { result ≡ list_all is_letter_byte field.now }
+{
+    field.iter().all(|byte| is_letter_byte(*byte))
+}
+
+/// LETTER: at most 16 of the allowed bytes; the field `-` is the empty letter.
+#[tactic(auto, unfolding(crate::specs::Letter::letter_of))]
+pub(crate) fn letter_octets(field: &[u8]) -> Option<&[u8]>
+    ensures { option_map (λ letter. letter.now) result ≡ letter_of field.now }
+{
+    if is_dash(field) {
+        return Some(&field[..0]);
+    }
+    if field.len() <= LONGEST_LETTER && are_letter_bytes(field) {
+        Some(field)
+    } else {
+        None
+    }
+}

@@ -1,0 +1,52 @@
+//! The saving of a rule.
+
+ghost use Rattle.std.specs.Prelude.{◌≡◌};
+ghost use Rattle.zic_source.specs.Saving.{daylight_suffix, saving_of};
+
+use crate::field::is_dash;
+use crate::time::{DAY, signed_seconds};
+
+/// What is added to standard time, in seconds, and whether that is daylight saving time.
+#[derive(Clone, Copy, Debug)]
+pub(crate) struct Saving {
+    pub(crate) seconds: i32,
+    pub(crate) daylight: bool,
+}
+
+/// Whether a suffix names daylight saving time.
+fn daylight_suffix(byte: u8) -> Option<bool>
+    ensures { result ≡ daylight_suffix byte }
+{
+    match byte {
+        b's' | b'S' => Some(false),
+        b'd' | b'D' => Some(true),
+        _ => None,
+    }
+}
+
+/// SAVE in seconds, within 24 hours either way, and its flag.
+#[tactic(auto, unfolding(crate::specs::Saving::saving_of))]
+pub(crate) fn save(field: &[u8]) -> Option<Saving>
+    ensures { result ≡ saving_of field.now }
+{
+    if is_dash(field) {
+        return Some(Saving {
+            seconds: 0,
+            daylight: false,
+        });
+    }
+    match field {
+        [text @ .., last] => match daylight_suffix(*last) {
+            Some(daylight) => {
+                let seconds = signed_seconds(text, DAY)?;
+                Some(Saving { seconds, daylight })
+            }
+            None => {
+                let seconds = signed_seconds(field, DAY)?;
+                let daylight = seconds != 0;
+                Some(Saving { seconds, daylight })
+            }
+        },
+        [] => None,
+    }
+}

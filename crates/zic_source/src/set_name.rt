@@ -1,0 +1,67 @@
+//! Names of rule sets.
+
+ghost use Rattle.std.specs.Prelude.{◌≡◌};
+ghost use Rattle.std.specs.List.{list_all};
+ghost use Rattle.zic_source.specs.SetName.{is_visible, begins_name, is_set_name};
+
+use crate::name::LONGEST_NAME;
+use std::marker::Model;
+
+/// The name of a rule set: 1 to 255 octets from 0x21 to 0x7E, the first no digit, `-` or `+`; clauses see its octets.
+#[derive(Debug, Drop)]
+pub struct SetName {
+    text: Vec<u8>,
+}
+
+impl Model for SetName {
+    ghost use Rattle.std.specs.Prelude.{List, ℕ};
+
+    ghost Value = { List ℕ };
+
+    ghost view = { λ n. n.text.items };
+}
+
+impl SetName {
+    /// The name of these octets.
+    pub(crate) fn new(text: Vec<u8>) -> Self
+        ensures { result ≡ text.items }
+    {
+        SetName { text }
+    }
+
+    /// The octets.
+    pub fn octets(&self) -> &[u8]
+        ensures { result.now ≡ self.now }
+    {
+        &self.text
+    }
+}
+
+fn is_visible(byte: u8) -> bool
+    ensures { result ≡ is_visible byte }
+{
+    matches!(byte, 0x21..=0x7e)
+}
+
+fn are_visible(field: &[u8]) -> bool
+    ensures { result ≡ list_all is_visible field.now }
+{
+    field.iter().all(|byte| is_visible(*byte))
+}
+
+/// Whether the field isn't empty and doesn't begin as an amount of saving does.
+fn begins_name(field: &[u8]) -> bool
+    ensures { result ≡ begins_name field.now }
+{
+    match field {
+        [] => false,
+        [byte, ..] => !(byte.is_ascii_digit() || matches!(*byte, b'-' | b'+')),
+    }
+}
+
+/// Whether the field is the name of a rule set.
+pub(crate) fn is_set_name(field: &[u8]) -> bool
+    ensures { result ≡ is_set_name field.now }
+{
+    field.len() <= LONGEST_NAME && begins_name(field) && are_visible(field)
+}

@@ -1,0 +1,49 @@
+//! How many rules each set has.
+
+ghost use Rattle.std.specs.Prelude.{◌≡◌, ◌+◌, ℕ, Ok, Err, OnOk, if◌then◌else◌, nat_le, bytes_eq};
+ghost use Rattle.std.specs.Global.{Vec};
+ghost use Rattle.zic_source.specs.declared.fault.Kind.TheVariants.{TooMany};
+ghost use Rattle.zic_source.specs.Stop.{Gives};
+ghost use Rattle.zic_source.specs.Reading.{fault_at};
+ghost use Rattle.zic_source.specs.SetSizes.{counted, Counts};
+
+use crate::fault::{Kind, Stop};
+use crate::place::Place;
+use std::alloc::Global;
+use std::collections::HashMap;
+
+/// How many Rule lines a set may have.
+const MOST_RULES_OF_SET: usize = 1000;
+
+/// How many Rule lines each set has so far.
+#[derive(Drop)]
+pub(crate) struct SetSizes {
+    sizes: HashMap<Vec<u8>, usize>,
+}
+
+impl SetSizes {
+    ghost use Rattle.std.specs.Prelude.{[]};
+
+    /// No set has a rule; takes no memory yet.
+    pub(crate) fn new(alloc: Global) -> Self
+        ensures { Counts result [] }
+    {
+        SetSizes {
+            sizes: HashMap::new(alloc),
+        }
+    }
+
+    /// Counts one more rule of the set, where it may have one more.
+    pub(crate) fn add(&mut self, place: Place, name: Vec<u8>) -> Result<(), Stop>
+        ensures limit { Gives (λ done. done) result (if nat_le 1000 (counted self.old name) then Err (fault_at place TooMany) else Ok tt) }
+        ensures one_more { OnOk result ((other : Vec ℕ) → counted self.new other
+            ≡ counted self.old other + (if bytes_eq other.items name.items then 1 else 0)) }
+    {
+        let size = self.sizes.get(&name).copied().unwrap_or(0);
+        if size >= MOST_RULES_OF_SET {
+            return Err(Stop::at(place, Kind::TooMany));
+        }
+        self.sizes.insert(name, size + 1)?;
+        Ok(())
+    }
+}
