@@ -2,7 +2,7 @@
 
 use crate::check::check;
 use crate::command_line::{Request, parse};
-use crate::compile::compile;
+use crate::compile::{Compiled, compile};
 use crate::failure::Failure;
 use crate::show::show;
 use crate::{check_source, show_file};
@@ -81,12 +81,27 @@ fn check_lists_files_or_tells_the_fault(rt: HostRuntime) -> Result<(), Fail> {
     Ok(())
 }
 
+/// The files of a source text.
+fn compiled(alloc: Global, text: Vec<u8>) -> Result<Vec<Compiled>, Failure> {
+    let source = read_source(alloc, &[text])?;
+    Ok(compile(alloc, &source)?)
+}
+
+fn failure_name(failure: &Failure) -> &'static str {
+    match failure {
+        Failure::Memory => "out of memory",
+        _ => "not want of memory",
+    }
+}
+
 #[test]
 fn the_file_of_utc_has_its_octets(rt: HostRuntime) -> Result<(), Fail> {
     let alloc = rt.alloc();
     let text = Vec::from_slice(alloc, b"Zone Etc/UTC 0 - UTC")?;
-    let source = read_source(alloc, &[text]).ok().ok_or("no source")?;
-    let files = compile(alloc, &source).ok().ok_or("no files")?;
+    let files = match compiled(alloc, text) {
+        Ok(files) => files,
+        Err(failure) => return Err(Fail::from(failure_name(&failure))),
+    };
     assert_eq!(rt; files.len(), 1);
     for file in &files {
         assert_eq!(rt; file.name.as_slice(), b"Etc/UTC".as_slice());
@@ -132,18 +147,24 @@ fn a_path_that_is_not_there_cannot_be_read(rt: HostRuntime) -> Result<(), Fail> 
     Ok(())
 }
 
+/// What `show` writes of a file, or the failure's text and status.
+fn showed(alloc: Global, octets: &[u8], instant: i64) -> Result<String, Fail> {
+    let mut out = Vec::new(alloc);
+    match show(alloc, "utc", octets, instant, &mut out) {
+        Ok(()) => Ok(String::from_utf8(out).ok().ok_or("no text")?),
+        Err(failure) => told(alloc, failure),
+    }
+}
+
 #[test]
 fn show_tells_a_state_or_why_not(rt: HostRuntime) -> Result<(), Fail> {
     let alloc = rt.alloc();
+    assert_eq!(rt; showed(alloc, UTC_FILE, -1)?.as_str(), "+00:00:00 0 UTC\n");
+    assert_eq!(rt;
+        showed(alloc, &UTC_FILE[..0], -1)?.as_str(),
+        "file: Short, status 1"
+    );
     let mut out = Vec::new(alloc);
-    show(alloc, "utc", UTC_FILE.as_slice(), -1, &mut out)
-        .ok()
-        .ok_or("not shown")?;
-    assert_eq!(rt; out.as_slice(), b"+00:00:00 0 UTC\n".as_slice());
-    let cut = show(alloc, "utc", &UTC_FILE[..0], -1, &mut out)
-        .err()
-        .ok_or("it was read")?;
-    assert_eq!(rt; told(alloc, cut)?.as_str(), "file: Short, status 1");
     let unread = show(alloc, "utc", Broken, 0, &mut out)
         .err()
         .ok_or("it was read")?;
