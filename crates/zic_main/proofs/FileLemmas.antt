@@ -1,12 +1,12 @@
 -- What the file of a zone gives is what the zone shows.
-use Rattle.std.proofs.Common.{◌≡◌, ℕ, zero, suc, ◌<◌, ◌≤◌, ℤ, false, Option, Some, None, ◌⊎◌, List, [], ◌∷◌, ◌++◌, length, inl, inr, refl, sym, ap, subst, ◌∙◌, ◌↔◌, arith}
+use Rattle.std.proofs.Common.{◌≡◌, ℕ, zero, suc, ◌<◌, ◌≤◌, ℤ, true, false, Option, Some, None, ◌⊎◌, List, [], ◌∷◌, ◌++◌, length, inl, inr, refl, sym, ap, subst, ◌∙◌, ◌↔◌, arith}
 use Rattle.std.specs.Prelude.{IfSome, IsSomeAnd, slice_get}
-use Rattle.std.proofs.lemmas.List.{length-append}
+use Rattle.std.proofs.lemmas.List.{length-append, nil_from_length}
 use Rattle.std.proofs.lemmas.Option.{slice_get_cases}
 use Rattle.zic_source.specs.Source.{SourceLines, ZoneLines, zone_at}
 use Rattle.zic_rules.specs.State.{Shown}
-use Rattle.zic_rules.specs.Zone.{Zone, Shows}
-use Rattle.zic_rules.proofs.ZoneLemmas.{no_change, shows_one}
+use Rattle.zic_rules.specs.Zone.{Zone, is_plain, IsPlainZone, Shows}
+use Rattle.zic_rules.proofs.ZoneLemmas.{IsFirst, no_change, shows_one}
 use Rattle.zic_footer.specs.Footer.{TzString}
 use Rattle.zic_footer.specs.Grammar.{Spells, SpellsName}
 use Rattle.zic_footer.specs.Making.{GoesOn}
@@ -15,9 +15,11 @@ use Rattle.zic_footer.proofs.StringLemmas.{spells_one}
 use Rattle.zic_table.specs.Content.{Content}
 use Rattle.zic_tzif.specs.Answer.{Gives}
 use Rattle.zic_tzif.specs.Reading.{IsFile}
+use Rattle.zic_source.specs.declared.fault.Kind.TheVariants.{NoFooter}
+use Rattle.zic_source.specs.declared.zone_line.ZoneLine.{ZoneLine}
 use Rattle.zic_source.specs.declared.fault.Stop.{Stop}
 use Rattle.zic_source.specs.declared.fault.Stop.TheVariants as stop
-use Rattle.zic_main.specs.File.{File, StopsFile, StopsFiles, nth_zone, AreOctetsOf, IsFileOf, IsImage, ReadsAs}
+use Rattle.zic_main.specs.File.{File, IsPlainSource, StopsForNow, StopsFile, StopsFiles, nth_zone, AreOctetsOf, IsFileOf, IsImage, ReadsAs}
 
 name_length : (text name : List ℕ) → SpellsName text name → 3 ≤ length text
 name_length text name s =
@@ -109,4 +111,46 @@ first_has source files each m lt =
 -- the first zone that gets no file stops all
 pub stops_all : (source : SourceLines) (files : List File) (n : ℕ) (e : Stop) → AreFirst source files → n ≤ length files → n < length source.zones → StopsFile (nth_zone source n) e → StopsFiles source e
 stops_all source files n stop.Memory each le lt h = tt
-stops_all source files n (stop.Fault fault) each le lt h = (n, lt, h, λ m below. first_has source files each m (omega arith))
+stops_all source files n (stop.Fault fault) each le lt h = inr (n, lt, h, λ m below. first_has source files each m (omega arith))
+
+-- each zone of such a source is plain
+pub plain_zone : (source : SourceLines) (n : ℕ) → IsPlainSource source → n < length source.zones → IsPlainZone (nth_zone source n)
+plain_zone source n plain lt =
+    elim plain [
+      | inl none ↦ absurd (omega (arith, lt, ap length none))
+      | inr one ↦
+          let first : n ≡ 0 = omega (arith, lt, ap length one.1) in
+          rw (first, one.1) one.2
+    ]
+
+only_zone : (source : SourceLines) (zones : List ZoneLines) (line : ZoneLine) → source.zones ≡ zones → length zones ≡ 1 → IsSomeAnd (slice_get zones 0) (λ z. z.first ≡ line) → source.links ≡ [] → is_plain line ≡ true → IsPlainSource source
+only_zone source [] line e one first links plain = absurd (omega arith)
+only_zone source (zone ∷ []) line e one first links plain = inr (zone, e, ap is_plain first ∙ plain, links)
+only_zone source (zone ∷ other ∷ zones) line e one first links plain = absurd (omega arith)
+
+-- one zone, of this plain line, and no link
+pub plain_source : (source : SourceLines) (line : ZoneLine) → length source.zones ≡ 1 → length source.links ≡ 0 → IsFirst source 0 line → is_plain line ≡ true → IsPlainSource source
+plain_source source line one links first plain = only_zone source source.zones line refl one first (nil_from_length source.links links) plain
+
+plain_means : (source : SourceLines) (line : ZoneLine) → IsPlainSource source → 0 < length source.zones → IsFirst source 0 line → (length source.zones ≡ 1) × (length source.links ≡ 0) × (is_plain line ≡ true)
+plain_means source line plain some first =
+    elim plain [
+      | inl none ↦ absurd (omega (arith, some, ap length none))
+      | inr one ↦
+          let P : List ZoneLines → Type 0 = λ zones. IsSomeAnd (slice_get zones 0) (λ z. z.first ≡ line) in
+          let e : one.0.first ≡ line = subst P one.1 first in
+          (ap length one.1, ap length one.3, ap is_plain (sym e) ∙ one.2)
+    ]
+
+some_place : (o : Option ZoneLines) (line : ZoneLine) → IsSomeAnd o (λ z. z.first ≡ line) → IsSomeAnd o (λ z. line.place ≡ z.first.place)
+some_place None line h = h
+some_place (Some z) line h = ap (λ (l : ZoneLine). l.place) (sym h)
+
+-- not so: more zones, a link, or a line that is not plain
+pub stops_for_now : (source : SourceLines) (line : ZoneLine) → 0 < length source.zones → IsFirst source 0 line → ((length source.zones ≡ 1) → (length source.links ≡ 0) → (is_plain line ≡ true) → ⊥)
+    → StopsForNow source (record { place = line.place; kind = NoFooter })
+stops_for_now source line some first other = record {
+  other = λ plain. let m = plain_means source line plain some first in other m.0 m.1 m.2;
+  kind = refl;
+  place = some_place (zone_at source 0) line first;
+}

@@ -1,11 +1,13 @@
 -- The files of a source.
-use Rattle.std.specs.Prelude.{◌≡◌, ◌<◌, ℕ, ℤ, ◌↔◌, List, length, slice_get, Some, ◌⊎◌, IsSomeAnd}
+use Rattle.std.specs.Prelude.{◌≡◌, ◌<◌, ℕ, ℤ, true, ◌↔◌, List, [], ◌∷◌, length, slice_get, Some, ◌⊎◌, IsSomeAnd}
+use Rattle.zic_source.specs.declared.fault.Fault.{Fault}
 use Rattle.zic_source.specs.declared.fault.Stop.{Stop}
 use Rattle.zic_source.specs.declared.fault.Stop.TheVariants as stop
-use Rattle.zic_source.specs.Source.{SourceLines}
+use Rattle.zic_source.specs.declared.fault.Kind.TheVariants.{NoFooter}
+use Rattle.zic_source.specs.Source.{SourceLines, ZoneLines, zone_at}
 use Rattle.zic_rules.specs.Fault.{StopsZone, IsSound}
 use Rattle.zic_rules.specs.State.{Shown}
-use Rattle.zic_rules.specs.Zone.{Zone, Shows, lines_of}
+use Rattle.zic_rules.specs.Zone.{Zone, Shows, lines_of, is_plain}
 use Rattle.zic_footer.specs.Footer.{TzString}
 use Rattle.zic_footer.specs.Making.{IsMade, StopsFooter}
 use Rattle.zic_table.specs.Content.{Content}
@@ -56,8 +58,13 @@ pub record IsFileOf (zone : Zone) (file : File) : Type 0 where
 abbrev pub nth_zone : SourceLines → ℕ → Zone
 nth_zone source n = record { source = source; number = n }
 
+-- A source that the program compiles for now: one without a zone, or with one zone, of one plain line, and no link.
+abbrev pub IsPlainSource : SourceLines → Type 0
+IsPlainSource source = (source.zones ≡ []) ⊎ ((zone : ZoneLines) × (source.zones ≡ zone ∷ []) × (is_plain zone.first ≡ true) × (source.links ≡ []))
+
 -- one file for each zone, in line order
 pub record AreFilesOf (source : SourceLines) (files : List File) : Type 0 where
+  pub plain : IsPlainSource source
   pub count : length files ≡ length source.zones
   pub each : (n : ℕ) (file : File) → slice_get files n ≡ Some file → IsFileOf (nth_zone source n) file
 
@@ -68,9 +75,19 @@ StopsFile zone (stop.Fault fault) =
     StopsZone zone (stop.Fault fault)
     ⊎ (IsSound zone × IsSomeAnd (lines_of zone) (λ lines. StopsFooter zone lines.first.place (stop.Fault fault)))
 
--- why a source gets no files: what stops the first zone in line order that has a fault; of want of memory nothing is said
-abbrev pub StopsFiles : SourceLines → Stop → Type 0
-StopsFiles source stop.Memory = Unit {0}
-StopsFiles source (stop.Fault fault) =
+-- what stops the first zone in line order that has a fault
+abbrev pub StopsFirst : SourceLines → Fault → Type 0
+StopsFirst source fault =
     (n : ℕ) × (n < length source.zones) × StopsFile (nth_zone source n) (stop.Fault fault)
     × ((m : ℕ) → m < n → (file : File) × IsFileOf (nth_zone source m) file)
+
+-- for now: NoFooter at the first Zone line of any other source
+pub record StopsForNow (source : SourceLines) (fault : Fault) : Type 0 where
+  pub other : IsPlainSource source → ⊥
+  pub kind : fault.kind ≡ NoFooter
+  pub place : IsSomeAnd (zone_at source 0) (λ lines. fault.place ≡ lines.first.place)
+
+-- why a source gets no files; of want of memory nothing is said
+abbrev pub StopsFiles : SourceLines → Stop → Type 0
+StopsFiles source stop.Memory = Unit {0}
+StopsFiles source (stop.Fault fault) = StopsForNow source fault ⊎ StopsFirst source fault

@@ -1,13 +1,16 @@
 //! The files of a source.
 
 ghost use Rattle.std.specs.Prelude.{◌<◌, length, map, IfOk, IfErr};
+ghost use Rattle.std.specs.Option.{MatchOption};
+ghost use Rattle.zic_source.specs.declared.fault.Kind.TheVariants.{NoFooter};
+ghost use Rattle.zic_rules.specs.Zone.{IsPlainZone};
 ghost use Rattle.zic_tzif.specs.Reading.{IsFile};
-ghost use Rattle.zic_main.specs.File.{file_of, nth_zone, AreFilesOf, AreOctetsOf, IsFileOf, IsSomeFile, StopsFile, StopsFiles};
+ghost use Rattle.zic_main.specs.File.{file_of, nth_zone, AreFilesOf, AreOctetsOf, IsFileOf, IsSomeFile, StopsFile, StopsFiles, StopsForNow, IsPlainSource};
 
 use std::alloc::{AllocError, Global};
 use zic_footer::make;
-use zic_rules::timeline;
-use zic_source::{Source, Stop};
+use zic_rules::{is_plain, timeline};
+use zic_source::{Fault, Kind, Place, Source, Stop};
 use zic_table::table;
 use zic_tzif::{ReadStop, Zone, read, write};
 
@@ -22,7 +25,38 @@ pub struct Compiled {
 }
 
 /// The files of all zones, in line order, or the first fault.
+///
+/// For now only a source without a zone is compiled, or one with one zone, of one plain line, and no link; any other
+/// is NoFooter at its first Zone line.
 pub fn compile(alloc: Global, source: &Source) -> Result<Vec<Compiled>, Stop>
+    ensures ok { IfOk result (λ files. AreFilesOf source.now (map file_of files.items)) }
+    ensures err { IfErr result (StopsFiles source.now) }
+{
+    if let Some(place) = refused_for_now(source) {
+        let kind = Kind::NoFooter;
+        return Err(Stop::Fault(Fault { place, kind }));
+    }
+    compile_zones(alloc, source)
+}
+
+/// The first Zone line of a source that isn't compiled yet.
+fn refused_for_now(source: &Source) -> Option<Place>
+    ensures { MatchOption result (IsPlainSource source.now)
+        (λ place. StopsForNow source.now (record { place = place; kind = NoFooter })) }
+{
+    if source.zones() == 0 {
+        return None;
+    }
+    let line = source.line(0, 0);
+    if source.zones() == 1 && source.links() == 0 && is_plain(line) {
+        return None;
+    }
+    Some(line.place)
+}
+
+/// The files of all zones of a source that is compiled already.
+fn compile_zones(alloc: Global, source: &Source) -> Result<Vec<Compiled>, Stop>
+    requires { IsPlainSource source.now }
     ensures ok { IfOk result (λ files. AreFilesOf source.now (map file_of files.items)) }
     ensures err { IfErr result (StopsFiles source.now) }
 {
@@ -36,7 +70,8 @@ pub fn compile(alloc: Global, source: &Source) -> Result<Vec<Compiled>, Stop>
 
 /// The file of a zone, and what a reader makes of it.
 fn compile_zone(alloc: Global, source: &Source, zone: usize) -> Result<Compiled, Stop>
-    requires { zone < length source.now.zones }
+    requires zone { zone < length source.now.zones }
+    requires plain { IsPlainZone (nth_zone source.now zone) }
     ensures ok { IfOk result (λ file. IsFileOf (nth_zone source.now zone) (file_of file)) }
     ensures err { IfErr result (StopsFile (nth_zone source.now zone)) }
 {
@@ -48,7 +83,8 @@ fn compile_zone(alloc: Global, source: &Source, zone: usize) -> Result<Compiled,
 
 /// The octets of a zone's file.
 fn zone_octets(alloc: Global, source: &Source, zone: usize) -> Result<Vec<u8>, Stop>
-    requires { zone < length source.now.zones }
+    requires zone { zone < length source.now.zones }
+    requires plain { IsPlainZone (nth_zone source.now zone) }
     ensures ok { IfOk result (λ octets. AreOctetsOf (nth_zone source.now zone) octets.items) }
     ensures err { IfErr result (StopsFile (nth_zone source.now zone)) }
 {

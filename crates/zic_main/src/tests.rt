@@ -65,10 +65,17 @@ fn check_lists_files_or_tells_the_fault(rt: HostRuntime) -> Result<(), Fail> {
         ("Zone /A 0 - UTC", "line 1: Name, status 1"),
         ("Zone A 24:00:01 - UTC", "line 1: Offset, status 1"),
         ("Zone \"A 0 - UTC", "line 1: Quote, status 1"),
+        ("Rule A 2000 max - Jan 1 0 0 -", ""),
+        ("Link X Y", "line 1: UnknownTarget, status 1"),
+        // Accepted, and not compiled for now.
         (
-            "Zone A 0 - UTC\nZone B 0 - UTC\n",
-            "line 2: TooMany, status 1",
+            "\nZone A 0 - UTC\nZone B 0 - UTC\n",
+            "line 2: NoFooter, status 1",
         ),
+        ("Link A B\nZone A 0 - UTC\n", "line 2: NoFooter, status 1"),
+        ("Zone A 5:30 - %z", "line 1: NoFooter, status 1"),
+        ("Zone A 0 0 UTC", "line 1: NoFooter, status 1"),
+        ("Zone A 0 - AAA 2000\n0 - BBB", "line 1: NoFooter, status 1"),
         (
             "Zone A 0 - UTC\nZone A 0 - UTC\n",
             "line 2: DuplicateName, status 1",

@@ -2,12 +2,12 @@
 use Rattle.std.proofs.Common.{◌≡◌, ℕ, ℤ, pos, ◌<◌, ◌≤◌, true, false, [], length, Option, Some, None, inl, inr, sym, ap, subst, ◌∙◌, arith}
 use Rattle.std.specs.Prelude.{IfSome, IsSomeAnd, slice_get, unsigned_abs}
 use Rattle.std.proofs.lemmas.Option.{slice_get_cases}
-use Rattle.zic_source.specs.declared.source.ZoneLine.{ZoneLine}
+use Rattle.zic_source.specs.declared.zone_line.ZoneLine.{ZoneLine}
 use Rattle.zic_source.specs.declared.fault.Kind.TheVariants.{OffsetRange, BadAbbreviation}
 use Rattle.zic_source.specs.Source.{SourceLines, ZoneLines, zone_at, lines_of_zone}
 use Rattle.zic_rules.specs.State.{Shown}
 use Rattle.zic_rules.specs.Change.{AreChanges}
-use Rattle.zic_rules.specs.Zone.{Zone, lines_of, line_state, IsChange, Shows}
+use Rattle.zic_rules.specs.Zone.{Zone, lines_of, line_state, abbreviation_of, IsChange, Shows}
 use Rattle.zic_rules.specs.Fault.{is_abbreviation, IsSound, HasLeast, IsLimited}
 
 some_weaker : {A : Type 0} (o : Option A) (P Q : A → Type 0) → ((x : A) → P x → Q x) → IsSomeAnd o P → IsSomeAnd o Q
@@ -36,12 +36,12 @@ first_found source n line lt h =
       | inr past ↦ absurd (omega arith)
     ]
 
-pub sound : (source : SourceLines) (n : ℕ) (line : ZoneLine) → IsFirst source n line → unsigned_abs line.offset ≤ 86400 → is_abbreviation line.format ≡ true → IsSound (record { source = source; number = n })
+pub sound : (source : SourceLines) (n : ℕ) (line : ZoneLine) → IsFirst source n line → unsigned_abs line.offset ≤ 86400 → is_abbreviation (abbreviation_of line.format) ≡ true → IsSound (record { source = source; number = n })
 sound source n line first fits good = record {
   offset = some_weaker (zone_at source n) (λ z. z.first ≡ line) (λ z. unsigned_abs z.first.offset ≤ 86400) (λ z e. subst (λ (l : ZoneLine). unsigned_abs l.offset ≤ 86400) (sym e) fits) first;
   abbreviation = λ t state shows.
       let both = some_both (zone_at source n) (λ z. z.first ≡ line) (λ z. state ≡ line_state z.first) first shows in
-      let e : state.name ≡ line.format = ap (λ (s : Shown). s.name) both.2 ∙ ap (λ (l : ZoneLine). l.format) both.1 in
+      let e : state.name ≡ abbreviation_of line.format = ap (λ (s : Shown). s.name) both.2 ∙ ap (λ (l : ZoneLine). abbreviation_of l.format) both.1 in
       ap is_abbreviation e ∙ good;
 }
 
@@ -51,7 +51,7 @@ out_of_range source n line first past = (
   some_weaker (zone_at source n) (λ z. z.first ≡ line) (λ z. line.place ≡ z.first.place) (λ z e. ap (λ (l : ZoneLine). l.place) (sym e)) first,
 )
 
-pub bad_abbreviation : (source : SourceLines) (n : ℕ) (line : ZoneLine) → IsFirst source n line → unsigned_abs line.offset ≤ 86400 → is_abbreviation line.format ≡ false → HasLeast (record { source = source; number = n }) BadAbbreviation × IsSomeAnd (zone_at source n) (λ z. line.place ≡ z.first.place)
+pub bad_abbreviation : (source : SourceLines) (n : ℕ) (line : ZoneLine) → IsFirst source n line → unsigned_abs line.offset ≤ 86400 → is_abbreviation (abbreviation_of line.format) ≡ false → HasLeast (record { source = source; number = n }) BadAbbreviation × IsSomeAnd (zone_at source n) (λ z. line.place ≡ z.first.place)
 bad_abbreviation source n line first fits bad =
     let shows : Shows (record { source = source; number = n }) (pos 0) (line_state line) = some_weaker (zone_at source n) (λ z. z.first ≡ line) (λ z. line_state line ≡ line_state z.first) (λ z e. ap line_state (sym e)) first in (
       (

@@ -1,7 +1,11 @@
 -- What a zone's lines say of an instant: zic(8), FILES.
-use Rattle.std.specs.Prelude.{◌≡◌, ◌≢◌, ℕ, ℤ, pos, ◌-ℤ◌, ◌<ℤ◌, ◌≤ℤ◌, false, Option, IsSomeAnd}
-use Rattle.zic_source.specs.declared.source.ZoneLine.{ZoneLine}
-use Rattle.zic_source.specs.Source.{SourceLines, ZoneLines, zone_at}
+use Rattle.std.specs.Prelude.{◌≡◌, ◌≢◌, ℕ, ℤ, pos, ◌-ℤ◌, ◌<ℤ◌, ◌≤ℤ◌, Bool, true, false, not, ◌&&◌, List, [], Option, IsSomeAnd}
+use Rattle.zic_source.specs.declared.format.Format.{Format}
+use Rattle.zic_source.specs.declared.format.Format.TheVariants.{Plain, Letter, Offset, Pair}
+use Rattle.zic_source.specs.declared.rules.Rules.{Rules}
+use Rattle.zic_source.specs.declared.rules.Rules.TheVariants.{Standard, Amount, Set}
+use Rattle.zic_source.specs.declared.zone_line.ZoneLine.{ZoneLine}
+use Rattle.zic_source.specs.Source.{SourceLines, ZoneLines, zone_at, has_until}
 use Rattle.zic_rules.specs.State.{Shown}
 
 -- a zone of a source, by its number from 0
@@ -13,11 +17,39 @@ pub record Zone : Type 0 where
 abbrev pub lines_of : Zone → Option ZoneLines
 lines_of zone = zone_at zone.source zone.number
 
--- A line of standard time shows its own offset, the standard flag and its FORMAT: zic(8), RULES `-`.
-abbrev pub line_state : ZoneLine → Shown
-line_state line = record { offset = line.offset; daylight = false; name = line.format }
+-- RULES `-`
+abbrev pub is_standard : Rules → Bool
+is_standard Standard = true
+is_standard (Amount saving) = false
+is_standard (Set name) = false
 
--- The zone shows this state at the instant. While no line has an UNTIL, the Zone line governs at every instant.
+-- a FORMAT without `%` and `/`
+abbrev pub is_one_abbreviation : Format → Bool
+is_one_abbreviation (Plain text) = true
+is_one_abbreviation (Letter before after) = false
+is_one_abbreviation (Offset before after) = false
+is_one_abbreviation (Pair standard daylight) = false
+
+-- A plain line is one of standard time with one abbreviation and no UNTIL. For now these definitions speak of zones of one plain line.
+abbrev pub is_plain : ZoneLine → Bool
+is_plain line = is_standard line.rules && is_one_abbreviation line.format && not (has_until line)
+
+-- The Zone line is plain.
+abbrev pub IsPlainZone : Zone → Type 0
+IsPlainZone zone = IsSomeAnd (lines_of zone) (λ lines. is_plain lines.first ≡ true)
+
+-- the abbreviation that a FORMAT without `%` and `/` is
+abbrev pub abbreviation_of : Format → List ℕ
+abbreviation_of (Plain text) = text
+abbreviation_of (Letter before after) = []
+abbreviation_of (Offset before after) = []
+abbreviation_of (Pair standard daylight) = []
+
+-- A plain line shows its own offset, the standard flag and its FORMAT: zic(8), RULES `-`.
+abbrev pub line_state : ZoneLine → Shown
+line_state line = record { offset = line.offset; daylight = false; name = abbreviation_of line.format }
+
+-- The zone shows this state at the instant. Where no line has an UNTIL, the Zone line governs at every instant.
 abbrev pub Shows : Zone → ℤ → Shown → Type 0
 Shows zone t state = IsSomeAnd (lines_of zone) (λ lines. state ≡ line_state lines.first)
 

@@ -7,4 +7,4 @@ mod states;
 
 pub use state::State;
 pub use states::checks::timeline;
-pub use states::{Tail, Timeline};
+pub use states::{Tail, Timeline, is_plain};

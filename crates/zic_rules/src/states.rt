@@ -5,11 +5,13 @@ ghost use Rattle.zic_rules.specs.Change.{Change, AreChanges};
 ghost use Rattle.zic_rules.specs.Fault.{IsLimited};
 ghost use Rattle.zic_rules.specs.State.{shown};
 ghost use Rattle.zic_rules.specs.Tail.{IsTail, HasLimits};
-ghost use Rattle.zic_rules.specs.Zone.{Shows, IsFirstState, end_of, line_state};
+ghost use Rattle.std.specs.Prelude.{not};
+ghost use Rattle.zic_source.specs.Source.{has_until};
+ghost use Rattle.zic_rules.specs.Zone.{Shows, IsFirstState, end_of, line_state, abbreviation_of, is_plain, is_standard, is_one_abbreviation};
 
 use crate::state::State;
 use std::marker::Model;
-use zic_source::{Source, ZoneLine};
+use zic_source::{Format, Rules, Source, ZoneLine};
 
 pub mod checks;
 
@@ -92,13 +94,33 @@ impl<'a> Timeline<'a> {
     }
 }
 
-/// What a line of standard time shows.
+/// The abbreviation that a FORMAT without `%` and `/` is.
+fn abbreviation_of(format: &Format) -> &[u8]
+    ensures { result.now ≡ abbreviation_of format.now }
+{
+    match format {
+        Format::Plain(text) => text.octets(),
+        _ => &[],
+    }
+}
+
+/// Whether this is a line of standard time with one abbreviation and no UNTIL. For now only zones of one such line
+/// have a timeline.
+pub fn is_plain(line: &ZoneLine) -> bool
+    ensures { result ≡ is_plain line.now }
+{
+    matches!(line.rules, Rules::Standard)
+        && matches!(line.format, Format::Plain(_))
+        && line.until.is_none()
+}
+
+/// What a plain line shows.
 fn state_of(line: &ZoneLine) -> State<'_>
     ensures { shown result ≡ line_state line.now }
 {
     State {
         offset: line.offset,
         daylight: false,
-        name: line.format.octets(),
+        name: abbreviation_of(&line.format),
     }
 }

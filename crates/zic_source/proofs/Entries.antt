@@ -1,57 +1,75 @@
--- What the fields of a line say.
-use Rattle.std.proofs.Common.{◌≡◌, ℕ, true, false, List, [], ◌∷◌, length, get_or, Some, Result, Ok, refl, sym, ap, ◌∙◌, arith}
-use Rattle.std.specs.Prelude.{ℤ, ◌||◌, ◌==◌}
-use Rattle.std.specs.List.{list_any}
+-- What the fields of a line say is what reading gives.
+use Rattle.std.proofs.Common.{◌≡◌, ℕ, Bool, true, false, List, [], ◌∷◌, Option, Some, None, Ok, refl, sym, ap, subst, ◌∙◌}
+use Rattle.std.specs.Prelude.{IfSome}
 use Rattle.zic_source.specs.declared.place.Place.{Place}
-use Rattle.zic_source.specs.declared.fault.Fault.{Fault}
-use Rattle.zic_source.specs.declared.fault.Stop.{Stop}
-use Rattle.zic_source.specs.declared.source.ZoneLine.{ZoneLine}
-use Rattle.zic_source.specs.Source.{ZoneLines}
-use Rattle.zic_source.specs.Stop.{Stops}
-use Rattle.zic_source.specs.Field.{is_dash}
-use Rattle.zic_source.specs.Name.{is_name}
-use Rattle.zic_source.specs.Time.{offset_of}
-use Rattle.zic_source.specs.ZoneLine.{format_of}
-use Rattle.zic_source.specs.Reading.{◌>>=◌, format_at, zone_of, zone_line}
-use Rattle.zic_source.proofs.Loops.{bind_stops, stops_at}
+use Rattle.zic_source.specs.declared.keyword.Keyword.{Keyword}
+use Rattle.zic_source.specs.declared.keyword.Keyword.TheVariants as keywords
+use Rattle.zic_source.specs.declared.rule.Rule.{Rule}
+use Rattle.zic_source.specs.declared.zone_line.ZoneLine.{ZoneLine}
+use Rattle.zic_source.specs.declared.link.Link.{Link}
+use Rattle.zic_source.specs.Keyword.{keyword_of}
+use Rattle.zic_source.specs.Entry.{LineEntry, RuleEntry, ZoneEntry, ContinuationEntry, LinkEntry, is_continuation}
+use Rattle.zic_source.specs.Grammar.{FieldsSay}
+use Rattle.zic_source.specs.Reading.{rule_line, zone_line, continuation_line, link_line, keyword_line, entry_of}
+use Rattle.zic_source.proofs.Steps.{bound, same_ok}
+use Rattle.zic_source.proofs.Binds.{bind_ok}
+use Rattle.zic_source.proofs.RuleLines.{line_taken, line_again}
+use Rattle.zic_source.proofs.ZoneLines.{continuation_taken, continuation_again, zone_taken, zone_again}
+use Rattle.zic_source.proofs.LinkLines.{link_taken, link_again}
 
-pub format_is : (place : Place) (field : List ℕ) → is_dash field ≡ false → list_any (λ byte. byte == 37 || byte == 47) field ≡ false → format_at place field ≡ Ok field
-unfolding format_at format_of
-format_is place field d v = rw (d, v) refl
+-- The fields say this, and it is a continuation line where one is awaited, and only there.
+abbrev Fitting : Bool → Place → List (List ℕ) → Option LineEntry → Type 0
+Fitting awaited place fields entry = FieldsSay place fields entry × IfSome entry (λ e. is_continuation e ≡ awaited)
 
-pub five_fields : (place : Place) (fields : List (List ℕ)) → length fields ≡ 5 → zone_line place fields ≡ zone_of place (get_or fields 1 []) (get_or fields 2 []) (get_or fields 3 []) (get_or fields 4 [])
-unfolding zone_line
-five_fields place [] e = absurd (omega arith)
-five_fields place (a ∷ []) e = absurd (omega arith)
-five_fields place (a ∷ b ∷ []) e = absurd (omega arith)
-five_fields place (a ∷ b ∷ c ∷ []) e = absurd (omega arith)
-five_fields place (a ∷ b ∷ c ∷ d ∷ []) e = absurd (omega arith)
-five_fields place (a ∷ b ∷ c ∷ d ∷ f ∷ []) e = refl
-five_fields place (a ∷ b ∷ c ∷ d ∷ f ∷ g ∷ others) e = absurd (omega arith)
+keyword_says : (place : Place) (field : List ℕ) (fields : List (List ℕ)) (keyword : Option Keyword) (entry : LineEntry) → keyword_of field ≡ keyword
+    → keyword_line place keyword (field ∷ fields) ≡ Ok entry → Fitting false place (field ∷ fields) (Some entry)
+keyword_says place field fields None entry begins e = absurd cc
+keyword_says place field fields (Some keywords.Rule) entry begins e =
+    let rule = bound (rule_line place (field ∷ fields)) _ entry e in
+    subst (λ (x : LineEntry). Fitting false place (field ∷ fields) (Some x)) (same_ok (RuleEntry rule.0) entry rule.2) (line_taken place (field ∷ fields) rule.0 begins rule.1, refl)
+keyword_says place field fields (Some keywords.Zone) entry begins e =
+    let zone = bound (zone_line place (field ∷ fields)) _ entry e in
+    subst (λ (x : LineEntry). Fitting false place (field ∷ fields) (Some x)) (same_ok (ZoneEntry zone.0.0 zone.0.1) entry zone.2) (zone_taken place (field ∷ fields) zone.0 begins zone.1, refl)
+keyword_says place field fields (Some keywords.Link) entry begins e =
+    let link = bound (link_line place (field ∷ fields)) _ entry e in
+    subst (λ (x : LineEntry). Fitting false place (field ∷ fields) (Some x)) (same_ok (LinkEntry link.0) entry link.2) (link_taken place (field ∷ fields) link.0 begins link.1, refl)
 
-module _ (place : Place) (name stdoff rules format : List ℕ) (offset : ℤ) (named : is_name name ≡ true) (offsets : offset_of stdoff ≡ Some offset) (plain : is_dash rules ≡ true) where
-  up_to_format : zone_of place name stdoff rules format ≡ (format_at place format >>= λ text. Ok (record { name = name; first = record { place = place; offset = offset; format = text }; continuations = [] }))
-  unfolding zone_of
-  up_to_format = rw (named, offsets, plain) refl
+pub entry_says : (awaited : Bool) (place : Place) (fields : List (List ℕ)) (entry : Option LineEntry) → entry_of awaited place fields ≡ Ok entry
+    → FieldsSay place fields entry × IfSome entry (λ e. is_continuation e ≡ awaited)
+unfolding entry_of
+entry_says awaited place [] entry e = subst (Fitting awaited place []) (same_ok None entry e) (refl, tt)
+entry_says true place (field ∷ fields) entry e =
+    let line = bound (continuation_line place (field ∷ fields)) _ entry e in
+    subst (Fitting true place (field ∷ fields)) (same_ok (Some (ContinuationEntry line.0)) entry line.2) (continuation_taken place (field ∷ fields) line.0 line.1, refl)
+entry_says false place (field ∷ fields) entry e =
+    let said = bound (keyword_line place (keyword_of field) (field ∷ fields)) _ entry e in
+    subst (Fitting false place (field ∷ fields)) (same_ok (Some said.0) entry said.2) (keyword_says place field fields (keyword_of field) said.0 refl said.1)
 
-  pub zone_is : (text : List ℕ) → format_at place format ≡ Ok text → zone_of place name stdoff rules format ≡ Ok (record { name = name; first = record { place = place; offset = offset; format = text }; continuations = [] })
-  zone_is text e = up_to_format ∙ rw e refl
+not_awaited : (awaited : Bool) (place : Place) (field : List ℕ) (fields : List (List ℕ)) (keyword : Keyword) (entry : LineEntry) → keyword_of field ≡ Some keyword → false ≡ awaited
+    → keyword_line place (Some keyword) (field ∷ fields) ≡ Ok entry → entry_of awaited place (field ∷ fields) ≡ Ok (Some entry)
+unfolding entry_of
+not_awaited true place field fields keyword entry begins a e = absurd cc
+not_awaited false place field fields keyword entry begins a e = bind_ok _ (λ (x : LineEntry). Ok (Some x)) entry (ap (λ (k : Option Keyword). keyword_line place k (field ∷ fields)) begins ∙ e)
 
-  pub zone_stops : (stop : Stop) → Stops stop (format_at place format) → Stops stop (zone_of place name stdoff rules format)
-  zone_stops stop h = stops_at stop _ _ (sym up_to_format) (bind_stops stop (format_at place format) (λ text. Ok (record { name = name; first = record { place = place; offset = offset; format = text }; continuations = [] })) h)
+keyword_entry : (awaited : Bool) (place : Place) (fields : List (List ℕ)) (field : List ℕ) (others : List (List ℕ)) (keyword : Keyword) (entry : LineEntry) → fields ≡ field ∷ others → keyword_of field ≡ Some keyword
+    → false ≡ awaited → keyword_line place (Some keyword) fields ≡ Ok entry → entry_of awaited place fields ≡ Ok (Some entry)
+keyword_entry awaited place fields field others keyword entry are begins a e =
+    ap (entry_of awaited place) are ∙ not_awaited awaited place field others keyword entry begins a (ap (keyword_line place (Some keyword)) (sym are) ∙ e)
 
-pub fields_at : (place : Place) (fields : List (List ℕ)) (name stdoff rules format : List ℕ) → length fields ≡ 5 → name ≡ get_or fields 1 [] → stdoff ≡ get_or fields 2 [] → rules ≡ get_or fields 3 [] → format ≡ get_or fields 4 []
-    → zone_line place fields ≡ zone_of place name stdoff rules format
-fields_at place fields name stdoff rules format five a b c d =
-    five_fields place fields five
-    ∙ ap (λ (x : List ℕ). zone_of place x (get_or fields 2 []) (get_or fields 3 []) (get_or fields 4 [])) (sym a)
-    ∙ ap (λ (x : List ℕ). zone_of place name x (get_or fields 3 []) (get_or fields 4 [])) (sym b)
-    ∙ ap (λ (x : List ℕ). zone_of place name stdoff x (get_or fields 4 [])) (sym c)
-    ∙ ap (zone_of place name stdoff rules) (sym d)
+is_awaited : (awaited : Bool) (place : Place) (field : List ℕ) (fields : List (List ℕ)) (line : ZoneLine) → true ≡ awaited → continuation_line place (field ∷ fields) ≡ Ok line → entry_of awaited place (field ∷ fields) ≡ Ok (Some (ContinuationEntry line))
+unfolding entry_of
+is_awaited true place field fields line a e = bind_ok _ (λ (x : ZoneLine). Ok (Some (ContinuationEntry x))) line e
+is_awaited false place field fields line a e = absurd cc
 
-abbrev pub zone_with : Place → List ℕ → ℤ → List ℕ → List ZoneLine → ZoneLines
-zone_with place name offset format others = record { name = name; first = record { place = place; offset = offset; format = format }; continuations = others }
-
-pub zone_made : (place : Place) (name name' : List ℕ) (offset offset' : ℤ) (format : List ℕ) (others : List ZoneLine) → name' ≡ name → offset' ≡ offset → others ≡ [] → ◌≡◌ {A = Result ZoneLines Fault} (Ok (zone_with place name offset format [])) (Ok (zone_with place name' offset' format others))
-zone_made place name name' offset offset' format others a b c =
-    ap (λ (x : List ℕ). Ok (zone_with place x offset format [])) (sym a) ∙ ap (λ (x : ℤ). Ok (zone_with place name' x format [])) (sym b) ∙ ap (λ (x : List ZoneLine). Ok (zone_with place name' offset' format x)) (sym c)
+pub says_entry : (awaited : Bool) (place : Place) (fields : List (List ℕ)) (entry : Option LineEntry) → FieldsSay place fields entry
+    → IfSome entry (λ e. is_continuation e ≡ awaited) → entry_of awaited place fields ≡ Ok entry
+unfolding entry_of
+says_entry awaited place fields None is a = ap (entry_of awaited place) is
+says_entry awaited place fields (Some (RuleEntry rule)) is a =
+    keyword_entry awaited place fields is.keyword _ keywords.Rule (RuleEntry rule) is.ten is.is_rule a (bind_ok _ (λ (x : Rule). Ok (RuleEntry x)) rule (line_again place fields rule is))
+says_entry awaited place fields (Some (ZoneEntry name line)) is a =
+    keyword_entry awaited place fields is.keyword _ keywords.Zone (ZoneEntry name line) is.are is.is_zone a (bind_ok _ (λ (x : List ℕ × ZoneLine). Ok (ZoneEntry x.0 x.1)) (name, line) (zone_again place fields name line is))
+says_entry awaited place fields (Some (ContinuationEntry line)) is a =
+    ap (entry_of awaited place) is.are ∙ is_awaited awaited place is.stdoff (is.rules ∷ is.format ∷ is.until) line a (ap (continuation_line place) (sym is.are) ∙ continuation_again place fields line is)
+says_entry awaited place fields (Some (LinkEntry link)) is a =
+    keyword_entry awaited place fields is.keyword _ keywords.Link (LinkEntry link) is.three is.is_link a (bind_ok _ (λ (x : Link). Ok (LinkEntry x)) link (link_again place fields link is))

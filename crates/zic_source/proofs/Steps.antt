@@ -1,5 +1,5 @@
--- Steps that did not fail.
-use Rattle.std.proofs.Common.{◌≡◌, Bool, true, false, cond, Option, Some, None, Result, Ok, Err, refl}
+-- Steps that did not fail, and steps that did.
+use Rattle.std.proofs.Common.{◌≡◌, Bool, true, false, cond, ◌⊎◌, inl, inr, Option, Some, None, Result, Ok, Err, refl, ap}
 use Rattle.std.specs.Prelude.{ok_or}
 use Rattle.zic_source.specs.declared.fault.Fault.{Fault}
 use Rattle.zic_source.specs.Reading.{◌>>=◌}
@@ -20,3 +20,8 @@ present (Some y) d x e = cc
 
 pub same_ok : {A : Type 0} (x y : A) → ◌≡◌ {A = Result A Fault} (Ok x) (Ok y) → x ≡ y
 same_ok x y e = cc
+
+-- which of two steps failed
+pub failed : {A B : Type 0} (r : Result A Fault) (f : A → Result B Fault) (fault : Fault) → (r >>= f) ≡ Err fault → (r ≡ Err fault) ⊎ ((x : A) × (r ≡ Ok x) × (f x ≡ Err fault))
+failed (Ok x) f fault e = inr (x, refl, e)
+failed (Err d) f fault e = let same : d ≡ fault = cc in inl (ap (λ (d : Fault). Err d) same)

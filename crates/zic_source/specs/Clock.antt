@@ -1,4 +1,4 @@
--- When on its day a Rule line's change comes: zic(8), FILES; the limit is own choice.
+-- The time of day of AT and of an UNTIL, and its clock: zic(8), FILES; the limit, and that a suffix wants hours, is own choice.
 use Rattle.std.specs.Prelude.{ℕ, ◌+◌, ◌-◌, Bool, ◌||◌, List, length, take, slice_index, pos, Option, Some, None, option_map, if◌then◌else◌, ◌==◌}
 use Rattle.zic_source.specs.declared.clock.ClockForm.{ClockForm}
 use Rattle.zic_source.specs.declared.clock.ClockForm.TheVariants.{Wall, Standard, Universal}
@@ -28,6 +28,6 @@ abbrev pub time_by : Option ClockForm → List ℕ → Option ClockTime
 time_by None field = option_map (λ s. record { seconds = s; form = Wall }) (signed_seconds 1_080_000 field)
 time_by (Some form) field = option_map (λ s. record { seconds = s; form = form }) (signed_seconds 1_080_000 (without_last field))
 
--- AT in seconds, at most 300 hours either way, and its clock; `-` is 0 by the wall clock
+-- AT or the TIME of an UNTIL in seconds, at most 300 hours either way, and its clock; `-` is 0 by the wall clock
 unfoldable pub clock_time_of : List ℕ → Option ClockTime
 clock_time_of field = if is_dash field then Some (record { seconds = pos 0; form = Wall }) else time_by (clock_suffix (last_byte field)) field

@@ -1,4 +1,4 @@
--- Which day of the month a Rule line names: zic(8), FILES; which numbers may stand there is own choice.
+-- Which day of the month ON of a Rule line or the DAY of an UNTIL names: zic(8), FILES; which numbers may stand there is own choice.
 use Rattle.std.specs.Prelude.{ℕ, Bool, true, false, ◌&&◌, List, [], ◌∷◌, drop, Option, Some, None, option_map, if◌then◌else◌, nat_le, ◌==◌, codes}
 use Rattle.std.specs.List.{slice_split}
 use Rattle.zic_calendar.specs.Calendar.{month_length}
@@ -11,7 +11,7 @@ use Rattle.zic_source.specs.Time.{number, ◌>>=◌}
 abbrev pub weekday_words : List (List ℕ)
 weekday_words = codes "Sunday" ∷ codes "Monday" ∷ codes "Tuesday" ∷ codes "Wednesday" ∷ codes "Thursday" ∷ codes "Friday" ∷ codes "Saturday" ∷ []
 
--- a weekday, 0 (Sunday) to 6, from its name or a front of it that no other weekday has
+-- a weekday, 0 (Sunday) to 6, from its name or a prefix of it that no other weekday has
 unfoldable pub weekday_of : List ℕ → Option ℕ
 weekday_of field = only_word weekday_words field
 
@@ -51,7 +51,7 @@ abbrev pub or_else : {X : Type 0} → Option X → Option X → Option X
 or_else None other = other
 or_else (Some x) other = Some x
 
--- `lastX`, `X>=D`, `X<=D` or a day. 29 February is a day in a rule of one leap year only, may not stand behind
+-- `lastX`, `X>=D`, `X<=D` or a day. 29 February is a day where only one year is meant, a leap year; it may not stand behind
 -- `>=`, and behind `<=` means the last of the month.
 unfoldable pub day_form_of : Bool → ℕ → List ℕ → Option On
 day_form_of one_leap_year month field =

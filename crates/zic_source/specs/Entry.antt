@@ -1,25 +1,59 @@
--- What one line says.
-use Rattle.std.specs.Prelude.{List, [], ◌∷◌, ◌++◌, Option, Some, None}
+-- What one line says: zic(8), FILES.
+use Rattle.std.specs.Prelude.{ℕ, Bool, true, false, List, [], ◌∷◌, map}
 use Rattle.zic_source.specs.declared.rule.Rule.{Rule}
-use Rattle.zic_source.specs.Source.{ZoneLines, SourceLines}
+use Rattle.zic_source.specs.declared.zone_line.ZoneLine.{ZoneLine}
+use Rattle.zic_source.specs.declared.link.Link.{Link}
+use Rattle.zic_source.specs.Source.{ZoneLines, has_until}
 
--- a rule, or a zone
+-- a Rule line, a Zone line with the zone's name, a continuation line, or a Link line
 pub data LineEntry : Type 0 where
   RuleEntry : Rule → LineEntry
-  ZoneEntry : ZoneLines → LineEntry
+  ZoneEntry : List ℕ → ZoneLine → LineEntry
+  ContinuationEntry : ZoneLine → LineEntry
+  LinkEntry : Link → LineEntry
 
--- the rule of a line, if it is one
-abbrev pub rules_in : Option LineEntry → List Rule
-rules_in None = []
-rules_in (Some (RuleEntry rule)) = rule ∷ []
-rules_in (Some (ZoneEntry zone)) = []
+-- it is a continuation line
+abbrev pub is_continuation : LineEntry → Bool
+is_continuation (RuleEntry rule) = false
+is_continuation (ZoneEntry name line) = false
+is_continuation (ContinuationEntry line) = true
+is_continuation (LinkEntry link) = false
 
--- the zone of a line, if it is one
-abbrev pub zones_in : Option LineEntry → List ZoneLines
-zones_in None = []
-zones_in (Some (RuleEntry rule)) = []
-zones_in (Some (ZoneEntry zone)) = zone ∷ []
+-- it is a Zone or continuation line with an UNTIL, so that a continuation line follows
+abbrev pub goes_on : LineEntry → Bool
+goes_on (RuleEntry rule) = false
+goes_on (ZoneEntry name line) = has_until line
+goes_on (ContinuationEntry line) = has_until line
+goes_on (LinkEntry link) = false
 
--- the source with what one line more says
-abbrev pub with_line : SourceLines → Option LineEntry → SourceLines
-with_line source entry = record { rules = source.rules ++ rules_in entry; zones = source.zones ++ zones_in entry }
+-- the rule of a Rule line
+abbrev pub rules_in : LineEntry → List Rule
+rules_in (RuleEntry rule) = rule ∷ []
+rules_in (ZoneEntry name line) = []
+rules_in (ContinuationEntry line) = []
+rules_in (LinkEntry link) = []
+
+-- the link of a Link line
+abbrev pub links_in : LineEntry → List Link
+links_in (RuleEntry rule) = []
+links_in (ZoneEntry name line) = []
+links_in (ContinuationEntry line) = []
+links_in (LinkEntry link) = link ∷ []
+
+-- the line itself, where it is a Zone or continuation line
+abbrev pub zone_entries_in : LineEntry → List LineEntry
+zone_entries_in (RuleEntry rule) = []
+zone_entries_in (ZoneEntry name line) = ZoneEntry name line ∷ []
+zone_entries_in (ContinuationEntry line) = ContinuationEntry line ∷ []
+zone_entries_in (LinkEntry link) = []
+
+-- the name that a Zone or Link line gives
+abbrev pub names_in : LineEntry → List (List ℕ)
+names_in (RuleEntry rule) = []
+names_in (ZoneEntry name line) = name ∷ []
+names_in (ContinuationEntry line) = []
+names_in (LinkEntry link) = link.name ∷ []
+
+-- the lines of a zone: its Zone line, and each continuation line
+abbrev pub entries_of_zone : ZoneLines → List LineEntry
+entries_of_zone zone = ZoneEntry zone.name zone.first ∷ map ContinuationEntry zone.continuations

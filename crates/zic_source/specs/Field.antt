@@ -1,4 +1,5 @@
--- The fields of a line: zic(8), FILES; that a quoted part may stand anywhere in a field is own choice.
+-- The fields of a line: zic(8), FILES; which bytes may stand, that a quoted part may stand anywhere in a field, and that `""`
+-- means `-`, are own choice.
 use Rattle.std.specs.Prelude.{ℕ, ◌%◌, Bool, true, false, not, ◌&&◌, ◌||◌, List, [], ◌∷◌, map, take, filter, count_by, take_while, nat_le, ◌==◌}
 use Rattle.std.specs.List.{slice_split, enumerate_from, list_all}
 
@@ -39,7 +40,7 @@ code line = take_while (λ mark. not (starts_comment mark)) (marks line)
 abbrev pub is_ascii_code : List ℕ → Bool
 is_ascii_code line = list_all (λ mark. is_allowed mark.byte) (code line)
 
--- each quoted part is closed before the line or its comment
+-- each quoted part is closed in its line
 abbrev pub is_closed : List ℕ → Bool
 is_closed line = not (is_odd (count_by (λ mark. is_quote mark.byte) (code line)))
 

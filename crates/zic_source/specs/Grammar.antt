@@ -1,12 +1,15 @@
--- The grammar: which texts are a source, and which source.
-use Rattle.std.specs.Prelude.{◌≡◌, ◌≢◌, ◌≤◌, ℕ, List, [], length, flat_map, AllPairs, Option, Some, None, IsTrue}
+-- The grammar: which texts are a source, and which source: zic(8), FILES, with own limits.
+use Rattle.std.specs.Prelude.{◌≡◌, ◌≢◌, ◌≤◌, ℕ, false, List, [], ◌∷◌, ◌++◌, length, map, flat_map, filter_map, All, AllPairs, Option, Some, None, IsTrue}
 use Rattle.std.specs.List.{AllZip}
-use Rattle.zic_source.specs.Source.{SourceLines, set_size}
-use Rattle.zic_source.specs.Line.{PlacedLine, placed_lines}
+use Rattle.zic_source.specs.declared.place.Place.{Place}
+use Rattle.zic_source.specs.Source.{SourceLines, set_size, zone_lines_of}
+use Rattle.zic_source.specs.Line.{PlacedLine, lines_of_texts}
 use Rattle.zic_source.specs.Field.{is_ascii_code, is_closed, fields}
-use Rattle.zic_source.specs.Entry.{LineEntry, RuleEntry, ZoneEntry, rules_in, zones_in}
+use Rattle.zic_source.specs.Entry.{LineEntry, RuleEntry, ZoneEntry, ContinuationEntry, LinkEntry, is_continuation, goes_on, rules_in, zone_entries_in, links_in, names_in, entries_of_zone}
 use Rattle.zic_source.specs.RuleLine.{IsRuleLine}
-use Rattle.zic_source.specs.ZoneLine.{IsZoneLine}
+use Rattle.zic_source.specs.ZoneLine.{IsZoneLine, IsContinuationLine}
+use Rattle.zic_source.specs.LinkLine.{IsLinkLine}
+use Rattle.zic_source.specs.Whole.{IsWhole}
 
 -- a line that can be cut into fields; 2,048 bytes without the newline is an own choice
 pub record IsLine (bytes : List ℕ) : Type 0 where
@@ -14,19 +17,41 @@ pub record IsLine (bytes : List ℕ) : Type 0 where
   pub ascii : IsTrue (is_ascii_code bytes)
   pub closed : IsTrue (is_closed bytes)
 
--- what a line says: nothing where it has no field, else what its Rule or Zone line says
-abbrev pub Says : PlacedLine → Option LineEntry → Type 0
-Says line None = IsLine line.bytes × (fields line.bytes ≡ [])
-Says line (Some (RuleEntry rule)) = IsLine line.bytes × IsRuleLine line.place (fields line.bytes) rule
-Says line (Some (ZoneEntry zone)) = IsLine line.bytes × IsZoneLine line.place (fields line.bytes) zone
+-- The fields at this place say this. A line without fields says nothing.
+abbrev pub FieldsSay : Place → List (List ℕ) → Option LineEntry → Type 0
+FieldsSay place fields None = fields ≡ []
+FieldsSay place fields (Some (RuleEntry rule)) = IsRuleLine place fields rule
+FieldsSay place fields (Some (ZoneEntry name line)) = IsZoneLine place fields name line
+FieldsSay place fields (Some (ContinuationEntry line)) = IsContinuationLine place fields line
+FieldsSay place fields (Some (LinkEntry link)) = IsLinkLine place fields link
 
--- The texts are a source, and this one. How many lines there may be is own choice.
+-- what a line says
+abbrev pub Says : PlacedLine → Option LineEntry → Type 0
+Says line entry = IsLine line.bytes × FieldsSay line.place (fields line.bytes) entry
+
+-- what the lines of a text say that aren't blank
+abbrev pub said : List (Option LineEntry) → List LineEntry
+said entries = filter_map (λ entry. entry) entries
+
+-- Blank lines apart: a line is a continuation line just where the line before it has an UNTIL. The first line of a text is
+-- none, and the last has no UNTIL: what goes on, one place later, is what continues.
+abbrev pub IsContinued : List (Option LineEntry) → Type 0
+IsContinued entries = (false ∷ map goes_on (said entries)) ≡ (map is_continuation (said entries) ++ false ∷ [])
+
+-- The texts are a source, and this one. How many lines and names there may be, and that no name is given twice, is own choice.
 pub record IsSource (texts : List (List ℕ)) (source : SourceLines) : Type 0 where
-  pub entries : List (Option LineEntry)
-  pub each : AllZip Says (placed_lines texts) entries
-  pub rules_in_order : source.rules ≡ flat_map rules_in entries
-  pub zones_in_order : source.zones ≡ flat_map zones_in entries
+  -- what each line of each text says, and what is said in all
+  pub entries : List (List (Option LineEntry))
+  pub all : List LineEntry
+  pub each : AllZip (AllZip Says) (lines_of_texts texts) entries
+  pub continued : All IsContinued entries
+  pub in_order : all ≡ flat_map said entries
+  pub rules : source.rules ≡ flat_map rules_in all
+  pub zones : flat_map entries_of_zone source.zones ≡ flat_map zone_entries_in all
+  pub links : source.links ≡ flat_map links_in all
   pub small_sets : (name : List ℕ) → set_size name source.rules ≤ 1000
   pub few_rules : length source.rules ≤ 10_000
-  pub names_differ : AllPairs (λ zone other. zone.name ≢ other.name) source.zones
-  pub few_zones : length source.zones ≤ 1
+  pub few_zone_lines : length (zone_lines_of source) ≤ 10_000
+  pub few_names : length (flat_map names_in all) ≤ 10_000
+  pub names_differ : AllPairs (λ name other. name ≢ other) (flat_map names_in all)
+  pub whole : IsWhole source

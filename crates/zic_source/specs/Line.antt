@@ -1,5 +1,5 @@
--- The lines of source texts: zic(8), FILES.
-use Rattle.std.specs.Prelude.{ℕ, List, [], ◌∷◌, map, flat_map, ◌==◌}
+-- The lines of source texts: zic(8), FILES; that the last line needs no newline is own choice.
+use Rattle.std.specs.Prelude.{ℕ, List, [], ◌∷◌, map, ◌==◌}
 use Rattle.std.specs.List.{slice_split, enumerate_from}
 use Rattle.zic_source.specs.declared.place.Place.{Place}
 
@@ -22,6 +22,6 @@ pub record PlacedLine : Type 0 where
 abbrev pub text_lines : ℕ → List ℕ → List PlacedLine
 text_lines number text = map (λ line. record { place = record { text = number; line = line.0 }; bytes = line.1 }) (enumerate_from 1 (lines_of text))
 
--- the lines of all texts in their order, the texts numbered from 1
-abbrev pub placed_lines : List (List ℕ) → List PlacedLine
-placed_lines texts = flat_map (λ text. text_lines text.0 text.1) (enumerate_from 1 texts)
+-- the lines of each text, the texts numbered from 1
+abbrev pub lines_of_texts : List (List ℕ) → List (List PlacedLine)
+lines_of_texts texts = map (λ text. text_lines text.0 text.1) (enumerate_from 1 texts)

@@ -7,6 +7,6 @@ abbrev pub month_words : List (List ℕ)
 month_words = codes "January" ∷ codes "February" ∷ codes "March" ∷ codes "April" ∷ codes "May" ∷ codes "June"
     ∷ codes "July" ∷ codes "August" ∷ codes "September" ∷ codes "October" ∷ codes "November" ∷ codes "December" ∷ []
 
--- the number of a month, 1 to 12, from its name or a front of it that no other month has
+-- the number of a month, 1 to 12, from its name or a prefix of it that no other month has
 unfoldable pub month_of : List ℕ → Option ℕ
 month_of field = option_map (λ place. place + 1) (only_word month_words field)

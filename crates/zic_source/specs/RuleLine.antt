@@ -3,7 +3,8 @@ use Rattle.std.specs.Prelude.{◌≡◌, ℕ, not, List, [], ◌∷◌, Some, Is
 use Rattle.zic_source.specs.declared.place.Place.{Place}
 use Rattle.zic_source.specs.declared.rule.Rule.{Rule}
 use Rattle.zic_source.specs.Field.{is_dash}
-use Rattle.zic_source.specs.Word.{begins_word, rule_keyword}
+use Rattle.zic_source.specs.declared.keyword.Keyword.TheVariants as keywords
+use Rattle.zic_source.specs.Keyword.{keyword_of}
 use Rattle.zic_source.specs.SetName.{is_set_name}
 use Rattle.zic_source.specs.Year.{year_of, last_year_of, ends_before, is_one_leap_year}
 use Rattle.zic_source.specs.Month.{month_of}
@@ -24,7 +25,7 @@ pub record IsRuleLine (place : Place) (fields : List (List ℕ)) (rule : Rule) :
   pub save : List ℕ
   pub letter : List ℕ
   pub ten : fields ≡ keyword ∷ rule.name ∷ from ∷ to ∷ reserved ∷ month ∷ day ∷ time ∷ save ∷ letter ∷ []
-  pub is_rule : IsTrue (begins_word rule_keyword keyword)
+  pub is_rule : keyword_of keyword ≡ Some keywords.Rule
   pub named : IsTrue (is_set_name rule.name)
   pub begins : year_of from ≡ Some rule.first
   pub ends : last_year_of rule.first to ≡ Some rule.last

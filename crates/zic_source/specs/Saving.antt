@@ -1,4 +1,4 @@
--- The saving of a Rule line: zic(8), FILES; the limit is own choice.
+-- SAVE of a Rule line, or an amount in RULES: zic(8), FILES; the limit is own choice.
 use Rattle.std.specs.Prelude.{ℕ, Bool, true, false, not, List, pos, Option, Some, None, option_map, if◌then◌else◌}
 use Rattle.std.specs.Ordering.{int_eq}
 use Rattle.zic_source.specs.declared.saving.Saving.{Saving}

@@ -1,7 +1,8 @@
 -- What a source says, as its lines stand: zic(8), FILES.
-use Rattle.std.specs.Prelude.{ℕ, List, [], ◌∷◌, Option, slice_get, count_by, bytes_eq}
+use Rattle.std.specs.Prelude.{ℕ, Bool, List, [], ◌∷◌, Option, is_some, slice_get, count_by, flat_map, bytes_eq}
 use Rattle.zic_source.specs.declared.rule.Rule.{Rule}
-use Rattle.zic_source.specs.declared.source.ZoneLine.{ZoneLine}
+use Rattle.zic_source.specs.declared.zone_line.ZoneLine.{ZoneLine}
+use Rattle.zic_source.specs.declared.link.Link.{Link}
 
 -- a zone: its name, what its Zone line says, and what each continuation line says
 pub record ZoneLines : Type 0 where
@@ -13,10 +14,11 @@ pub record ZoneLines : Type 0 where
 pub record SourceLines : Type 0 where
   pub rules : List Rule
   pub zones : List ZoneLines
+  pub links : List Link
 
 -- the source without a line
 abbrev pub no_lines : SourceLines
-no_lines = record { rules = []; zones = [] }
+no_lines = record { rules = []; zones = []; links = [] }
 
 -- how many of the rules belong to the set
 abbrev pub set_size : List ℕ → List Rule → ℕ
@@ -26,6 +28,14 @@ set_size name rules = count_by (λ rule. bytes_eq name rule.name) rules
 abbrev pub lines_of_zone : ZoneLines → List ZoneLine
 lines_of_zone zone = zone.first ∷ zone.continuations
 
+-- all Zone and continuation lines in order
+abbrev pub zone_lines_of : SourceLines → List ZoneLine
+zone_lines_of source = flat_map lines_of_zone source.zones
+
 -- the zone of this number, from 0
 abbrev pub zone_at : SourceLines → ℕ → Option ZoneLines
 zone_at source number = slice_get source.zones number
+
+-- the line has an UNTIL
+abbrev pub has_until : ZoneLine → Bool
+has_until line = is_some line.until

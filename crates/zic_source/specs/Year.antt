@@ -1,4 +1,4 @@
--- Years of a Rule line: zic(8), FILES; digits and limits are own choice.
+-- Years of Rule lines and of an UNTIL: zic(8), FILES; digits and limits are own choice.
 use Rattle.std.specs.Prelude.{ℕ, Bool, false, ◌&&◌, List, length, pos, Option, Some, None, option_map, if◌then◌else◌, nat_lt, nat_le, ◌==◌, codes}
 use Rattle.zic_calendar.specs.Calendar.{is_leap_year}
 use Rattle.zic_source.specs.Word.{begins_word}

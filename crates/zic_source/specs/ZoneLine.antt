@@ -1,28 +1,34 @@
--- A Zone line: zic(8), FILES.
-use Rattle.std.specs.Prelude.{◌≡◌, ℕ, ◌||◌, List, [], ◌∷◌, Option, Some, None, if◌then◌else◌, IsTrue, ◌==◌}
-use Rattle.std.specs.List.{list_any}
+-- Zone lines and continuation lines: zic(8), FILES.
+use Rattle.std.specs.Prelude.{◌≡◌, ℕ, List, ◌∷◌, Some, IsTrue}
 use Rattle.zic_source.specs.declared.place.Place.{Place}
-use Rattle.zic_source.specs.Source.{ZoneLines}
-use Rattle.zic_source.specs.Field.{is_dash}
-use Rattle.zic_source.specs.Word.{begins_word, zone_keyword}
+use Rattle.zic_source.specs.declared.keyword.Keyword.TheVariants.{Zone}
+use Rattle.zic_source.specs.declared.zone_line.ZoneLine.{ZoneLine}
+use Rattle.zic_source.specs.Keyword.{keyword_of}
 use Rattle.zic_source.specs.Name.{is_name}
 use Rattle.zic_source.specs.Time.{offset_of}
+use Rattle.zic_source.specs.RulesField.{rules_of}
+use Rattle.zic_source.specs.Format.{format_of}
+use Rattle.zic_source.specs.Until.{until_of}
 
--- FORMAT without `%` and `/`; the field `-` is empty
-unfoldable pub format_of : List ℕ → Option (List ℕ)
-format_of field = if is_dash field then Some [] else (if list_any (λ byte. byte == 37 || byte == 47) field then None else Some field)
-
--- The fields at this place are `Zone NAME STDOFF - FORMAT`, and say this of a zone.
-pub record IsZoneLine (place : Place) (fields : List (List ℕ)) (zone : ZoneLines) : Type 0 where
-  pub keyword : List ℕ
+-- The fields at this place are `STDOFF RULES FORMAT [YEAR [MONTH [DAY [TIME]]]]`, and say this: all fields of a continuation
+-- line, or those behind a zone's name.
+pub record IsContinuationLine (place : Place) (fields : List (List ℕ)) (line : ZoneLine) : Type 0 where
   pub stdoff : List ℕ
   pub rules : List ℕ
   pub format : List ℕ
-  pub five : fields ≡ keyword ∷ zone.name ∷ stdoff ∷ rules ∷ format ∷ []
-  pub is_zone : IsTrue (begins_word zone_keyword keyword)
-  pub named : IsTrue (is_name zone.name)
-  pub offset : offset_of stdoff ≡ Some zone.first.offset
-  pub no_rules : IsTrue (is_dash rules)
-  pub abbreviates : format_of format ≡ Some zone.first.format
-  pub stands : zone.first.place ≡ place
-  pub ends : zone.continuations ≡ []
+  pub until : List (List ℕ)
+  pub are : fields ≡ stdoff ∷ rules ∷ format ∷ until
+  pub offset : offset_of stdoff ≡ Some line.offset
+  pub keeps : rules_of rules ≡ Some line.rules
+  pub abbreviates : format_of format ≡ Some line.format
+  pub ends : until_of until ≡ Some line.until
+  pub stands : line.place ≡ place
+
+-- The fields at this place are `Zone NAME` and those of a continuation line, and say this of the zone of that name.
+pub record IsZoneLine (place : Place) (fields : List (List ℕ)) (name : List ℕ) (line : ZoneLine) : Type 0 where
+  pub keyword : List ℕ
+  pub others : List (List ℕ)
+  pub are : fields ≡ keyword ∷ name ∷ others
+  pub is_zone : keyword_of keyword ≡ Some Zone
+  pub named : IsTrue (is_name name)
+  pub says : IsContinuationLine place others line

@@ -1,4 +1,4 @@
-//! When on its day a change comes.
+//! The time of day of AT and of an UNTIL.
 
 ghost use Rattle.std.specs.Prelude.{◌≡◌, option_map};
 ghost use Rattle.zic_source.specs.Time.{signed_seconds};

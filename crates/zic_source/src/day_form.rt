@@ -21,7 +21,7 @@ const WEEKDAYS: [&[u8]; 7] = [
     b"Saturday",
 ];
 
-/// A weekday, 0 (Sunday) to 6, from its name in English or a front of it that no other weekday has.
+/// A weekday, 0 (Sunday) to 6, from its name in English or a prefix of it that no other weekday has.
 #[tactic(auto, unfolding(crate::specs::DayForm::weekday_of))]
 fn weekday(field: &[u8]) -> Option<u8>
     ensures { result ≡ weekday_of field.now }
@@ -92,8 +92,8 @@ fn month_length(is_leap: bool, month: u8) -> u8
     days_in_month(if is_leap { 2000 } else { 2001 }, month)
 }
 
-/// `lastX`, `X>=D`, `X<=D` or a day, in a month from 1 to 12. 29 February is a day only in a rule of one leap year;
-/// it may not stand behind `>=`, and behind `<=` it means the last of the month.
+/// `lastX`, `X>=D`, `X<=D` or a day, in a month from 1 to 12. 29 February is a day only where one year is meant, a leap
+/// year; it may not stand behind `>=`, and behind `<=` it means the last of the month.
 #[tactic(auto, unfolding(crate::specs::DayForm::day_form_of))]
 pub(crate) fn day_form(one_leap_year: bool, month: u8, field: &[u8]) -> Option<On>
     ensures { result ≡ day_form_of one_leap_year month field.now }

@@ -3,43 +3,64 @@
 ghost use Rattle.std.specs.Prelude.{option_map};
 ghost use Rattle.zic_source.specs.Stop.{Gives};
 ghost use Rattle.zic_source.specs.Zone as lines;
-ghost use Rattle.zic_source.specs.Reading.{entry_of};
+ghost use Rattle.zic_source.specs.Reading.{entry_of, keyword_line};
+ghost use Rattle.zic_source.specs.Keyword.{keyword_of};
+ghost use Rattle.std.specs.Prelude.{◌<◌, length, slice_index_or, []};
 
 use crate::fault::{Kind, Stop};
 use crate::field::Fields;
+use crate::keyword::{Keyword, parse_keyword};
+use crate::link::{Link, link_line};
+use crate::name::Name;
 use crate::place::Place;
 use crate::rule::Rule;
 use crate::rule_line::rule_line;
-use crate::source::Zone;
-use crate::word::begins_word;
-use crate::zone_line::zone_line;
+use crate::zone_line::{ZoneLine, continuation_line, zone_line};
 use std::alloc::Global;
 
 /// What a line that isn't blank says.
 #[derive(Drop)]
 pub(crate) enum Entry {
     Rule(Rule),
-    Zone(Zone),
+    /// The zone's name, and its first line.
+    Zone(Name, ZoneLine),
+    Continuation(ZoneLine),
+    Link(Link),
 }
 
-/// What fields say: nothing where there is none.
+/// What the fields of a line say that begins with a keyword.
+fn keyword_line(alloc: Global, place: Place, fields: &Fields) -> Result<Entry, Stop>
+    requires { 0 < length fields.now.whole }
+    ensures { Gives lines.line_entry result (keyword_line place (keyword_of (slice_index_or fields.now.whole 0 [])) fields.now.whole) }
+{
+    let Some(keyword) = parse_keyword(fields.get(0)) else {
+        return Err(Stop::at(place, Kind::Keyword));
+    };
+    match keyword {
+        Keyword::Rule => Ok(Entry::Rule(rule_line(alloc, place, fields)?)),
+        Keyword::Zone => {
+            let (name, line) = zone_line(alloc, place, fields)?;
+            Ok(Entry::Zone(name, line))
+        }
+        Keyword::Link => Ok(Entry::Link(link_line(alloc, place, fields)?)),
+    }
+}
+
+/// What fields say: nothing where there is none. Where a continuation line is awaited they are its fields.
 #[tactic(auto, unfolding(crate::specs::Reading::entry_of))]
 pub(crate) fn line_entry(
     alloc: Global,
+    awaited: bool,
     place: Place,
     fields: &Fields,
 ) -> Result<Option<Entry>, Stop>
-    ensures { Gives (λ entry. option_map lines.line_entry entry) result (entry_of place fields.now.whole) }
+    ensures { Gives (λ entry. option_map lines.line_entry entry) result (entry_of awaited place fields.now.whole) }
 {
     if fields.len() == 0 {
         return Ok(None);
     }
-    let keyword = fields.get(0);
-    if begins_word(b"Rule", keyword) {
-        return Ok(Some(Entry::Rule(rule_line(alloc, place, fields)?)));
+    if awaited {
+        return Ok(Some(Entry::Continuation(continuation_line(alloc, place, fields)?)));
     }
-    if begins_word(b"Zone", keyword) {
-        return Ok(Some(Entry::Zone(zone_line(alloc, place, fields)?)));
-    }
-    Err(Stop::at(place, Kind::Keyword))
+    Ok(Some(keyword_line(alloc, place, fields)?))
 }

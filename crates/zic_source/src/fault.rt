@@ -20,7 +20,7 @@ pub enum Kind {
     FieldCount = 5,
     /// A Zone or Link name, a link's target or the name of a rule set isn't allowed.
     Name = 6,
-    /// FROM or TO is no year.
+    /// FROM is no year from 1 to 9000, or TO is neither that nor `only` nor `maximum`.
     Year = 7,
     /// TO is below FROM.
     YearOrder = 8,
@@ -30,7 +30,7 @@ pub enum Kind {
     Month = 10,
     /// ON is no day.
     Day = 11,
-    /// AT is no time.
+    /// AT is no time within 300:00:00 either way.
     Time = 12,
     /// SAVE, or an amount in RULES, is no time within 24:00:00 either way.
     Save = 13,
@@ -42,11 +42,12 @@ pub enum Kind {
     Format = 16,
     /// A field of an UNTIL is wrong.
     Until = 17,
-    /// A text ends after a line with an UNTIL.
+    /// A text ends after a line with an UNTIL; the place is that line's.
     NoContinuation = 18,
     /// A Zone or Link name was there before.
     DuplicateName = 19,
-    /// A line passes a limit on the number of lines or names.
+    /// A line passes a limit: 1,000 Rule lines of a set or 10,000 in all, 10,000 Zone and continuation lines, or 10,000
+    /// Zone and Link names.
     TooMany = 20,
     /// No Rule line has the set's name.
     UnknownRules = 21,

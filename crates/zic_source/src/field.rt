@@ -59,6 +59,8 @@ fn role_of(byte: u8, quoted: bool) -> Role
     ensures { result ≡ role_of byte quoted }
 {
     match byte {
+        // Most bytes, which are text wherever they stand.
+        b'$'..=b'~' => Role::Text,
         b'#' if !quoted => Role::Comment,
         b'"' => Role::DoubleQuote,
         _ if !is_allowed(byte) => Role::Refused,

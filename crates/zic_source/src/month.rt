@@ -20,7 +20,7 @@ const MONTHS: [&[u8]; 12] = [
     b"December",
 ];
 
-/// The number of a month, 1 to 12, from its name in English or a front of it that no other month has.
+/// The number of a month, 1 to 12, from its name in English or a prefix of it that no other month has.
 #[tactic(auto, unfolding(crate::specs::Month::month_of))]
 pub(crate) fn month(field: &[u8]) -> Option<u8>
     ensures value { result ≡ month_of field.now }

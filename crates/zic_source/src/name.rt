@@ -5,9 +5,40 @@ ghost use Rattle.std.specs.List.{list_all, slice_split};
 ghost use Rattle.zic_source.specs.Name.{is_name, is_name_byte, is_name_part};
 
 use crate::field::is_dash;
+use std::marker::Model;
 
 /// How many bytes a name may have.
 pub(crate) const LONGEST_NAME: usize = 255;
+
+/// The name of a zone or a link: 1 to 255 ASCII letters, digits, `_`, `-`, `+`, `.` and `/`; clauses see its octets.
+#[derive(Debug, Drop)]
+pub struct Name {
+    text: Vec<u8>,
+}
+
+impl Model for Name {
+    ghost use Rattle.std.specs.Prelude.{List, ℕ};
+
+    ghost Value = { List ℕ };
+
+    ghost view = { λ n. n.text.items };
+}
+
+impl Name {
+    /// The name of these octets.
+    pub(crate) fn new(text: Vec<u8>) -> Self
+        ensures { result ≡ text.items }
+    {
+        Name { text }
+    }
+
+    /// The octets.
+    pub fn octets(&self) -> &[u8]
+        ensures { result.now ≡ self.now }
+    {
+        &self.text
+    }
+}
 
 fn is_name_byte(byte: u8) -> bool
     ensures { result ≡ is_name_byte byte }

@@ -1,29 +1,38 @@
 //! Source texts, line by line.
 
-ghost use Rattle.std.specs.Prelude.{◌≡◌, ◌∷◌, ◌<◌, Ok, IfOk, OnOk, length, option_map};
-ghost use Rattle.zic_source.specs.Source.{SourceLines};
-ghost use Rattle.zic_source.specs.Zone.{zone_lines, line_entry};
+ghost use Rattle.std.specs.Prelude.{◌≡◌, ◌∷◌, ◌<◌, Ok, IfOk, IfErr, OnOk, length, option_map};
+ghost use Rattle.zic_source.specs.Source.{SourceLines, no_lines};
+ghost use Rattle.zic_source.specs.Zone.{line_entry};
 ghost use Rattle.zic_source.specs.Stop.{Gives};
 ghost use Rattle.zic_source.specs.Line.{lines_of, text_lines};
-ghost use Rattle.zic_source.specs.Reading.{reading, texts_of, with_rule, with_zone, with_entry, line_read, lines_read};
-ghost use Rattle.zic_source.specs.SetSizes.{Counts};
+ghost use Rattle.zic_source.specs.Reading.{reading, texts_of, with_rule, with_zone, with_continuation, with_link, with_entry, is_full_of_names, line_read, lines_read, text_read};
+ghost use Rattle.zic_source.specs.Reader.{Tracks};
 ghost use Rattle.zic_source.specs.Grammar.{IsSource};
+ghost use Rattle.zic_source.specs.FirstFault.{StopsReading};
 
 use crate::entry::{Entry, line_entry};
 use crate::fault::{Kind, Stop};
 use crate::field::Fields;
+use crate::link::Link;
+use crate::name::Name;
+use crate::names::{Named, Names};
 use crate::place::Place;
 use crate::rule::Rule;
 use crate::set_sizes::SetSizes;
 use crate::source::{Source, Zone};
 use crate::split::split_once;
+use crate::whole::check_whole;
+use crate::zone_line::ZoneLine;
 use std::alloc::Global;
 
 /// How many Rule lines there may be.
 const MOST_RULES: usize = 10_000;
 
-/// How many zones there may be.
-const MOST_ZONES: usize = 1;
+/// How many Zone and continuation lines there may be.
+const MOST_ZONE_LINES: usize = 10_000;
+
+/// How many names zones and links may have.
+const MOST_NAMES: usize = 10_000;
 
 /// The first line of a text, and what follows it.
 fn first_line(text: &[u8]) -> (&[u8], &[u8])
@@ -44,16 +53,34 @@ struct Reader {
     source: Source,
     /// How many rules of the source each set has.
     sizes: SetSizes,
+    /// The names of its zones and links.
+    names: Names,
+    /// How many Zone and continuation lines it has.
+    zone_lines: usize,
     fields: Fields,
 }
 
 impl Reader {
+    /// Nothing was read yet.
+    fn new(alloc: Global) -> Self
+        ensures source { result.source ≡ no_lines }
+        ensures tracks { Tracks result }
+    {
+        Reader {
+            source: Source::new(alloc),
+            sizes: SetSizes::new(alloc),
+            names: Names::new(alloc),
+            zone_lines: 0,
+            fields: Fields::new(alloc),
+        }
+    }
+
     /// Adds a rule, where there may be one more of its set and of all.
     #[tactic(auto, unfolding(crate::specs::Reading::with_rule))]
     fn add_rule(&mut self, alloc: Global, place: Place, rule: Rule) -> Result<(), Stop>
-        requires { Counts self.old.sizes self.old.source.rules }
+        requires { Tracks self.old }
         ensures read { Gives (λ _. self.new.source) result (with_rule place self.old.source rule) }
-        ensures counted { OnOk result (Counts self.new.sizes self.new.source.rules) }
+        ensures tracks { OnOk result (Tracks self.new) }
     {
         let name = Vec::from_slice(alloc, rule.name.octets())?;
         self.sizes.add(place, name)?;
@@ -64,56 +91,117 @@ impl Reader {
         Ok(())
     }
 
+    /// Whether there are as many names as there may be.
+    fn is_full_of_names(&self) -> bool
+        ensures { result ≡ is_full_of_names self.now.source }
+    {
+        let left = MOST_NAMES.saturating_sub(self.source.zones());
+        self.source.links() >= left
+    }
+
     /// Adds a zone, where its name is new.
     #[tactic(auto, unfolding(crate::specs::Reading::with_zone))]
-    fn add_zone(&mut self, place: Place, zone: Zone) -> Result<(), Stop>
-        ensures read { Gives (λ _. self.new.source) result (with_zone place self.old.source (zone_lines zone)) }
-        ensures sizes { self.new.sizes ≡ self.old.sizes }
-        ensures rules { OnOk result (self.new.source.rules ≡ self.old.source.rules) }
+    fn add_zone(
+        &mut self,
+        alloc: Global,
+        place: Place,
+        name: Name,
+        line: ZoneLine,
+    ) -> Result<(), Stop>
+        requires { Tracks self.old }
+        ensures read { Gives (λ _. self.new.source) result (with_zone place self.old.source name line) }
+        ensures tracks { OnOk result (Tracks self.new) }
     {
-        if self.source.has_zone(&zone.name) {
+        if self.names.get(name.octets()).is_some() {
             return Err(Stop::at(place, Kind::DuplicateName));
         }
-        if self.source.zones() >= MOST_ZONES {
+        if self.zone_lines >= MOST_ZONE_LINES || self.is_full_of_names() {
             return Err(Stop::at(place, Kind::TooMany));
         }
-        self.source.push_zone(zone)?;
+        let key = Vec::from_slice(alloc, name.octets())?;
+        self.names.insert(key, Named::Zone(self.source.zones()))?;
+        self.source.push_zone(Zone {
+            name,
+            first: line,
+            continuations: Vec::new(alloc),
+        })?;
+        self.zone_lines += 1;
+        Ok(())
+    }
+
+    /// Adds a continuation line to the last zone, if there is one.
+    #[tactic(auto, unfolding(crate::specs::Reading::with_continuation))]
+    fn add_continuation(&mut self, place: Place, line: ZoneLine) -> Result<(), Stop>
+        requires { Tracks self.old }
+        ensures read { Gives (λ _. self.new.source) result (with_continuation place self.old.source line) }
+        ensures tracks { OnOk result (Tracks self.new) }
+    {
+        if self.zone_lines >= MOST_ZONE_LINES {
+            return Err(Stop::at(place, Kind::TooMany));
+        }
+        if self.source.zones() == 0 {
+            return Ok(());
+        }
+        self.source.push_continuation(line)?;
+        self.zone_lines += 1;
+        Ok(())
+    }
+
+    /// Adds a link, where its name is new.
+    #[tactic(auto, unfolding(crate::specs::Reading::with_link))]
+    fn add_link(&mut self, alloc: Global, place: Place, link: Link) -> Result<(), Stop>
+        requires { Tracks self.old }
+        ensures read { Gives (λ _. self.new.source) result (with_link place self.old.source link) }
+        ensures tracks { OnOk result (Tracks self.new) }
+    {
+        if self.names.get(link.name.octets()).is_some() {
+            return Err(Stop::at(place, Kind::DuplicateName));
+        }
+        if self.is_full_of_names() {
+            return Err(Stop::at(place, Kind::TooMany));
+        }
+        let key = Vec::from_slice(alloc, link.name.octets())?;
+        self.names.insert(key, Named::Link(self.source.links()))?;
+        self.source.push_link(link)?;
         Ok(())
     }
 
     /// Adds what a line says.
     #[tactic(auto, unfolding(crate::specs::Reading::with_entry))]
     fn add(&mut self, alloc: Global, place: Place, entry: Option<Entry>) -> Result<(), Stop>
-        requires { Counts self.old.sizes self.old.source.rules }
+        requires { Tracks self.old }
         ensures read { Gives (λ _. self.new.source) result
             (with_entry place self.old.source (option_map line_entry entry)) }
-        ensures counted { OnOk result (Counts self.new.sizes self.new.source.rules) }
+        ensures tracks { OnOk result (Tracks self.new) }
     {
         match entry {
             None => Ok(()),
             Some(Entry::Rule(rule)) => self.add_rule(alloc, place, rule),
-            Some(Entry::Zone(zone)) => self.add_zone(place, zone),
+            Some(Entry::Zone(name, line)) => self.add_zone(alloc, place, name, line),
+            Some(Entry::Continuation(line)) => self.add_continuation(place, line),
+            Some(Entry::Link(link)) => self.add_link(alloc, place, link),
         }
     }
 
     /// Reads a line.
     #[tactic(auto, unfolding(crate::specs::Reading::line_read))]
     fn read_line(&mut self, alloc: Global, place: Place, line: &[u8]) -> Result<(), Stop>
-        requires { Counts self.old.sizes self.old.source.rules }
+        requires { Tracks self.old }
         ensures read { Gives (λ _. self.new.source) result
             (line_read self.old.source (record { place = place; bytes = line.now })) }
-        ensures counted { OnOk result (Counts self.new.sizes self.new.source.rules) }
+        ensures tracks { OnOk result (Tracks self.new) }
     {
         self.fields.take_line(place, line)?;
-        let entry = line_entry(alloc, place, &self.fields)?;
+        let awaited = self.source.open_place().is_some();
+        let entry = line_entry(alloc, awaited, place, &self.fields)?;
         self.add(alloc, place, entry)
     }
 
     /// Reads the lines of a text.
-    fn read_text(&mut self, alloc: Global, number: u64, text: &[u8]) -> Result<(), Stop>
-        requires { Counts self.old.sizes self.old.source.rules }
+    fn read_lines(&mut self, alloc: Global, number: u64, text: &[u8]) -> Result<(), Stop>
+        requires { Tracks self.old }
         ensures read { Gives (λ _. self.new.source) result (lines_read self.old.source (text_lines number text.now)) }
-        ensures counted { OnOk result (Counts self.new.sizes self.new.source.rules) }
+        ensures tracks { OnOk result (Tracks self.new) }
     {
         let mut rest = text;
         let mut line = 0;
@@ -125,39 +213,52 @@ impl Reader {
         }
         Ok(())
     }
+
+    /// Reads a text, which may not end behind an UNTIL.
+    #[tactic(auto, unfolding(crate::specs::Reading::text_read))]
+    fn read_text(&mut self, alloc: Global, number: u64, text: &[u8]) -> Result<(), Stop>
+        requires { Tracks self.old }
+        ensures read { Gives (λ _. self.new.source) result (text_read self.old.source (text_lines number text.now)) }
+        ensures tracks { OnOk result (Tracks self.new) }
+    {
+        self.read_lines(alloc, number, text)?;
+        match self.source.open_place() {
+            None => Ok(()),
+            Some(place) => Err(Stop::at(place, Kind::NoContinuation)),
+        }
+    }
 }
 
-/// The lines of the texts, or the first fault.
-fn read_texts(alloc: Global, texts: &[Vec<u8>]) -> Result<Source, Stop>
-    ensures { Gives (λ source. source) result (reading (texts_of texts.now)) }
+/// The lines of the texts, or the first fault of a line or a text's end.
+fn read_texts(alloc: Global, texts: &[Vec<u8>]) -> Result<Reader, Stop>
+    ensures read { Gives (λ reader. reader.source) result (reading (texts_of texts.now)) }
+    ensures tracks { IfOk result Tracks }
 {
-    let mut reader = Reader {
-        source: Source::new(alloc),
-        sizes: SetSizes::new(alloc),
-        fields: Fields::new(alloc),
-    };
+    let mut reader = Reader::new(alloc);
     for (index, text) in texts.iter().enumerate() {
         reader.read_text(alloc, index as u64 + 1, text)?;
     }
-    Ok(reader.source)
+    Ok(reader)
 }
 
 /// The lines of the texts.
 ///
 /// The first fault is that of the least text, in it of the least line, and in a line the one that comes first
 /// in this order: the line's length, a byte that may not stand outside a comment, a quoted part that isn't closed,
-/// the keyword, the number of fields, the fields from left to right, the name that was there before, the limit.
-///
-/// For now only Rule lines and Zone lines of five fields are read, with RULES `-` and a FORMAT without `%` and `/`, and one zone
-/// at most; anything else is the fault of the field where it stands.
+/// the keyword, the number of fields, the fields from left to right (TO below FROM directly after TO), the name that
+/// was there before, the limit. A text without such a fault that ends behind an UNTIL has one at the line of that
+/// UNTIL, before any of a later text. Where no text has a fault, it is that of the first line that names a set without a
+/// rule, or of a link whose chain doesn't end at a zone.
 pub fn read_source(alloc: Global, texts: &[Vec<u8>]) -> Result<Source, Stop>
-    // The source, or the first fault.
-    ensures exact { Gives (λ source. source) result (reading (texts_of texts.now)) }
     // What is read is a source, and this one.
     ensures found { IfOk result (λ source. IsSource (texts_of texts.now) source) }
     // What is a source is read, unless memory runs out.
     ensures only { (source : SourceLines) → IsSource (texts_of texts.now) source
         → Gives (λ read. read) result (Ok source) }
+    // A fault is the first.
+    ensures first { IfErr result (StopsReading (texts_of texts.now)) }
 {
-    read_texts(alloc, texts)
+    let reader = read_texts(alloc, texts)?;
+    check_whole(alloc, &reader.source, &reader.sizes, &reader.names)?;
+    Ok(reader.source)
 }

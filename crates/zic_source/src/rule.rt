@@ -9,6 +9,7 @@ use zic_calendar::On;
 /// A Rule line: each year from the first to the last, a day and a time when the saving of its set changes.
 #[derive(Debug, Drop)]
 pub struct Rule {
+    /// Where the line stands.
     pub place: Place,
     /// The set to which the rule belongs.
     pub name: SetName,
@@ -18,9 +19,9 @@ pub struct Rule {
     pub last: Option<u16>,
     /// IN: the month, 1 to 12.
     pub month: u8,
-    /// ON: the day of the month.
+    /// ON: the form of the day.
     pub on: On,
-    /// AT: seconds from the day's begin, within 300:00:00 either way.
+    /// AT: seconds after 00:00 of that day, within 300:00:00 either way.
     pub at: i32,
     /// The clock by which AT is meant.
     pub form: ClockForm,
@@ -28,5 +29,6 @@ pub struct Rule {
     pub save: i32,
     /// Whether this is daylight saving time.
     pub daylight: bool,
+    /// LETTER/S: what `%s` of a FORMAT stands for.
     pub letter: Letter,
 }

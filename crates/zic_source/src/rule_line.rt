@@ -1,9 +1,9 @@
 //! Rule lines.
 
 ghost use Rattle.zic_source.specs.Stop.{Gives};
-ghost use Rattle.zic_source.specs.Reading.{rule_line};
+ghost use Rattle.zic_source.specs.Reading.{rule_years, rule_when, rule_line};
 
-use crate::clock::clock_time;
+use crate::clock::{ClockTime, clock_time};
 use crate::day_form::day_form;
 use crate::fault::{Kind, Stop};
 use crate::field::{Fields, is_dash};
@@ -15,6 +15,63 @@ use crate::saving::save;
 use crate::set_name::{SetName, is_set_name};
 use crate::year::{ends_before, is_one_leap_year, last_year, year};
 use std::alloc::Global;
+use zic_calendar::On;
+
+/// The years of a rule.
+#[derive(Clone, Copy, Debug)]
+struct Years {
+    first: u16,
+    /// `None` where there is no last year.
+    last: Option<u16>,
+}
+
+/// When the change of a rule comes in each of its years.
+#[derive(Clone, Copy, Debug)]
+struct When {
+    month: u8,
+    on: On,
+    at: ClockTime,
+}
+
+/// FROM and TO.
+#[tactic(auto, unfolding(crate::specs::Reading::rule_years))]
+fn rule_years(place: Place, from: &[u8], to: &[u8]) -> Result<Years, Stop>
+    ensures { Gives (λ years. years) result (rule_years place from.now to.now) }
+{
+    let Some(first) = year(from) else {
+        return Err(Stop::at(place, Kind::Year));
+    };
+    let Some(last) = last_year(first, to) else {
+        return Err(Stop::at(place, Kind::Year));
+    };
+    if ends_before(last, first) {
+        return Err(Stop::at(place, Kind::YearOrder));
+    }
+    Ok(Years { first, last })
+}
+
+/// IN, ON and AT of a rule for these years.
+#[tactic(auto, unfolding(crate::specs::Reading::rule_when))]
+fn rule_when(
+    place: Place,
+    years: Years,
+    month_field: &[u8],
+    day_field: &[u8],
+    time_field: &[u8],
+) -> Result<When, Stop>
+    ensures { Gives (λ when. when) result (rule_when place years month_field.now day_field.now time_field.now) }
+{
+    let Some(month) = month(month_field) else {
+        return Err(Stop::at(place, Kind::Month));
+    };
+    let Some(on) = day_form(is_one_leap_year(years.first, years.last), month, day_field) else {
+        return Err(Stop::at(place, Kind::Day));
+    };
+    let Some(at) = clock_time(time_field) else {
+        return Err(Stop::at(place, Kind::Time));
+    };
+    Ok(When { month, on, at })
+}
 
 /// What the fields of a Rule line say.
 #[tactic(auto, unfolding(crate::specs::Reading::rule_line, crate::specs::Reading::rule_of))]
@@ -28,27 +85,11 @@ pub(crate) fn rule_line(alloc: Global, place: Place, fields: &Fields) -> Result<
     if !is_set_name(name) {
         return Err(Stop::at(place, Kind::Name));
     }
-    let Some(first) = year(fields.get(2)) else {
-        return Err(Stop::at(place, Kind::Year));
-    };
-    let Some(last) = last_year(first, fields.get(3)) else {
-        return Err(Stop::at(place, Kind::Year));
-    };
-    if ends_before(last, first) {
-        return Err(Stop::at(place, Kind::YearOrder));
-    }
+    let years = rule_years(place, fields.get(2), fields.get(3))?;
     if !is_dash(fields.get(4)) {
         return Err(Stop::at(place, Kind::Reserved));
     }
-    let Some(month) = month(fields.get(5)) else {
-        return Err(Stop::at(place, Kind::Month));
-    };
-    let Some(on) = day_form(is_one_leap_year(first, last), month, fields.get(6)) else {
-        return Err(Stop::at(place, Kind::Day));
-    };
-    let Some(time) = clock_time(fields.get(7)) else {
-        return Err(Stop::at(place, Kind::Time));
-    };
+    let when = rule_when(place, years, fields.get(5), fields.get(6), fields.get(7))?;
     let Some(saving) = save(fields.get(8)) else {
         return Err(Stop::at(place, Kind::Save));
     };
@@ -58,12 +99,12 @@ pub(crate) fn rule_line(alloc: Global, place: Place, fields: &Fields) -> Result<
     Ok(Rule {
         place,
         name: SetName::new(Vec::from_slice(alloc, name)?),
-        first,
-        last,
-        month,
-        on,
-        at: time.seconds,
-        form: time.form,
+        first: years.first,
+        last: years.last,
+        month: when.month,
+        on: when.on,
+        at: when.at.seconds,
+        form: when.at.form,
         save: saving.seconds,
         daylight: saving.daylight,
         letter: Letter::new(Vec::from_slice(alloc, letter)?),

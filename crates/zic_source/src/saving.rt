@@ -1,4 +1,4 @@
-//! The saving of a rule.
+//! SAVE of a Rule line, and amounts in RULES.
 
 ghost use Rattle.std.specs.Prelude.{◌≡◌};
 ghost use Rattle.zic_source.specs.Saving.{daylight_suffix, saving_of};
@@ -6,11 +6,13 @@ ghost use Rattle.zic_source.specs.Saving.{daylight_suffix, saving_of};
 use crate::field::is_dash;
 use crate::time::{DAY, signed_seconds};
 
-/// What is added to standard time, in seconds, and whether that is daylight saving time.
-#[derive(Clone, Copy, Debug)]
-pub(crate) struct Saving {
-    pub(crate) seconds: i32,
-    pub(crate) daylight: bool,
+/// What is added to standard time.
+#[derive(Clone, Copy, Debug, PartialEq, Eq)]
+pub struct Saving {
+    /// Within 24:00:00 either way.
+    pub seconds: i32,
+    /// Whether this is daylight saving time.
+    pub daylight: bool,
 }
 
 /// Whether a suffix names daylight saving time.

@@ -1,11 +1,13 @@
 //! How many rules each set has.
 
-ghost use Rattle.std.specs.Prelude.{◌≡◌, ◌+◌, ℕ, Ok, Err, OnOk, if◌then◌else◌, nat_le, bytes_eq};
+ghost use Rattle.std.specs.Prelude.{◌≡◌, ◌+◌, ℕ, List, Ok, Err, OnOk, if◌then◌else◌, nat_le, bytes_eq};
 ghost use Rattle.std.specs.Global.{Vec};
 ghost use Rattle.zic_source.specs.declared.fault.Kind.TheVariants.{TooMany};
+ghost use Rattle.zic_source.specs.declared.rule.Rule.{Rule};
 ghost use Rattle.zic_source.specs.Stop.{Gives};
 ghost use Rattle.zic_source.specs.Reading.{fault_at};
 ghost use Rattle.zic_source.specs.SetSizes.{counted, Counts};
+ghost use Rattle.zic_source.specs.Whole.{is_set};
 
 use crate::fault::{Kind, Stop};
 use crate::place::Place;
@@ -45,5 +47,12 @@ impl SetSizes {
         }
         self.sizes.insert(name, size + 1)?;
         Ok(())
+    }
+
+    /// Whether the set has a rule.
+    pub(crate) fn has(&self, name: &[u8]) -> bool
+        ensures { (rules : List Rule) → Counts self.now rules → result ≡ is_set rules name.now }
+    {
+        self.sizes.get(name).copied().unwrap_or(0) > 0
     }
 }

@@ -1,60 +1,22 @@
 //! A checked source, line by line.
 
 ghost use Rattle.std.specs.Prelude.{◌≡◌, ◌+◌, ◌<◌, length, slice_get, Some, IfSome};
-ghost use Rattle.std.specs.Prelude.{bytes_eq, map};
-ghost use Rattle.std.specs.List.{list_any};
 ghost use Rattle.std.specs.Option.{ForSome};
 ghost use Rattle.zic_source.specs.Zone.{zone_lines};
 ghost use Rattle.zic_source.specs.Source.{zone_at, lines_of_zone};
 
+use crate::link::Link;
+use crate::name::Name;
 use crate::place::Place;
 use crate::rule::Rule;
+use crate::zone_line::ZoneLine;
 use std::alloc::{AllocError, Global};
 use std::marker::Model;
-
-/// The FORMAT of a Zone or continuation line, which says how times are abbreviated; clauses see its octets.
-#[derive(Debug, Drop)]
-pub struct Format {
-    text: Vec<u8>,
-}
-
-impl Model for Format {
-    ghost use Rattle.std.specs.Prelude.{List, ℕ};
-
-    ghost Value = { List ℕ };
-
-    ghost view = { λ f. f.text.items };
-}
-
-impl Format {
-    /// The FORMAT of these octets; the field `-` is the empty format.
-    pub(crate) fn new(text: Vec<u8>) -> Self
-        ensures { result ≡ text.items }
-    {
-        Format { text }
-    }
-
-    /// The octets, empty where the field is `-`.
-    pub fn octets(&self) -> &[u8]
-        ensures { result.now ≡ self.now }
-    {
-        &self.text
-    }
-}
-
-/// A Zone or continuation line: what holds from the UNTIL of the line before it, if there is one.
-#[derive(Debug, Drop)]
-pub struct ZoneLine {
-    pub place: Place,
-    /// STDOFF: the standard UT offset, in seconds, positive east, within 24:00:00 either way.
-    pub offset: i32,
-    pub format: Format,
-}
 
 /// A zone's name, its Zone line and its continuation lines.
 #[derive(Debug, Drop)]
 pub(crate) struct Zone {
-    pub(crate) name: Vec<u8>,
+    pub(crate) name: Name,
     pub(crate) first: ZoneLine,
     pub(crate) continuations: Vec<ZoneLine>,
 }
@@ -75,23 +37,12 @@ impl Zone {
     }
 }
 
-/// Whether a zone has this name.
-fn is_named(zones: &[Zone], name: &[u8]) -> bool
-    ensures { result ≡ list_any (λ zone. bytes_eq zone.name name.now) (map zone_lines zones.now) }
-{
-    for zone in zones {
-        if zone.name.as_slice() == name {
-            return true;
-        }
-    }
-    false
-}
-
 /// The lines of checked source texts, in the order of the texts and of their lines.
 #[derive(Debug, Drop)]
 pub struct Source {
     rules: Vec<Rule>,
     zones: Vec<Zone>,
+    links: Vec<Link>,
 }
 
 impl Model for Source {
@@ -102,13 +53,13 @@ impl Model for Source {
 
     ghost use Rattle.zic_source.specs.Zone.{zone_lines};
 
-    ghost view = { λ s. record { rules = s.rules.items; zones = map zone_lines s.zones.items } };
+    ghost view = { λ s. record { rules = s.rules.items; zones = map zone_lines s.zones.items; links = s.links.items } };
 }
 
 impl Source {
-    ghost use Rattle.std.specs.Prelude.{map, OnOk};
+    ghost use Rattle.std.specs.Prelude.{[], ◌∷◌, ◌++◌, map, option_map, OnOk};
     ghost use Rattle.zic_source.specs.Source.{no_lines};
-    ghost use Rattle.zic_source.specs.Entry.{with_line, RuleEntry, ZoneEntry};
+    ghost use Rattle.zic_source.specs.Reading.{continued, open_line};
 
     /// The source without a line; takes no memory yet.
     pub(crate) fn new(alloc: Global) -> Self
@@ -117,12 +68,13 @@ impl Source {
         Source {
             rules: Vec::new(alloc),
             zones: Vec::new(alloc),
+            links: Vec::new(alloc),
         }
     }
 
     /// Adds a rule.
     pub(crate) fn push_rule(&mut self, rule: Rule) -> Result<(), AllocError>
-        ensures { OnOk result (self.new ≡ with_line self.old (Some (RuleEntry rule))) }
+        ensures { OnOk result (self.new ≡ record self.old { rules = self.old.rules ++ rule ∷ [] }) }
     {
         self.rules.push(rule)?;
         Ok(())
@@ -130,17 +82,42 @@ impl Source {
 
     /// Adds a zone.
     pub(crate) fn push_zone(&mut self, zone: Zone) -> Result<(), AllocError>
-        ensures { OnOk result (self.new ≡ with_line self.old (Some (ZoneEntry (zone_lines zone)))) }
+        ensures { OnOk result (self.new ≡ record self.old { zones = self.old.zones ++ zone_lines zone ∷ [] }) }
     {
         self.zones.push(zone)?;
         Ok(())
     }
 
-    /// Whether a zone has this name.
-    pub(crate) fn has_zone(&self, name: &[u8]) -> bool
-        ensures { result ≡ list_any (λ zone. bytes_eq zone.name name.now) self.now.zones }
+    /// Adds a continuation line to the last zone.
+    pub(crate) fn push_continuation(&mut self, line: ZoneLine) -> Result<(), AllocError>
+        ensures { OnOk result (self.new ≡ record self.old { zones = continued self.old.zones line }) }
     {
-        is_named(&self.zones, name)
+        let Some(zone) = self.zones.last_mut() else {
+            return Ok(());
+        };
+        zone.continuations.push(line)?;
+        Ok(())
+    }
+
+    /// Adds a link.
+    pub(crate) fn push_link(&mut self, link: Link) -> Result<(), AllocError>
+        ensures { OnOk result (self.new ≡ record self.old { links = self.old.links ++ link ∷ [] }) }
+    {
+        self.links.push(link)?;
+        Ok(())
+    }
+
+    /// Where the last Zone or continuation line stands, if it has an UNTIL.
+    pub(crate) fn open_place(&self) -> Option<Place>
+        ensures { result ≡ option_map (λ line. line.place) (open_line self.now) }
+    {
+        let zone = self.zones.last()?;
+        let line = zone.continuations.last().unwrap_or(&zone.first);
+        if line.until.is_some() {
+            Some(line.place)
+        } else {
+            None
+        }
     }
 
     /// How many Rule lines there are.
@@ -150,7 +127,7 @@ impl Source {
         self.rules.len()
     }
 
-    /// A rule.
+    /// A rule, by its number from 0 in the order of the texts and their lines.
     pub fn rule(&self, rule: usize) -> &Rule
         requires { rule < length self.now.rules }
         ensures { slice_get self.now.rules rule ≡ Some result.now }
@@ -165,13 +142,13 @@ impl Source {
         self.zones.len()
     }
 
-    /// The name of a zone.
+    /// The name of a zone, by the zone's number from 0 in the order of the texts and their lines.
     pub fn zone_name(&self, zone: usize) -> &[u8]
         requires { zone < length self.now.zones }
         ensures { IfSome (zone_at self.now zone) (λ z. result.now ≡ z.name) }
     {
         let zone = &self.zones[zone];
-        &zone.name
+        zone.name.octets()
     }
 
     /// How many lines a zone has: its Zone line and its continuation lines.
@@ -183,7 +160,7 @@ impl Source {
         zone.continuations.len() + 1
     }
 
-    /// A line of a zone, the Zone line first.
+    /// A line of a zone, by both numbers from 0; line 0 is the Zone line.
     pub fn line(&self, zone: usize, line: usize) -> &ZoneLine
         requires zone { zone < length self.now.zones }
         requires line { ForSome (zone_at self.now zone) (λ z. line < length (lines_of_zone z)) }
@@ -191,5 +168,20 @@ impl Source {
     {
         let zone = &self.zones[zone];
         zone.line(line)
+    }
+
+    /// How many Link lines there are.
+    pub fn links(&self) -> usize
+        ensures { result ≡ length self.now.links }
+    {
+        self.links.len()
+    }
+
+    /// A link, by its number from 0 in the order of the texts and their lines.
+    pub fn link(&self, link: usize) -> &Link
+        requires { link < length self.now.links }
+        ensures { slice_get self.now.links link ≡ Some result.now }
+    {
+        &self.links[link]
     }
 }

@@ -1,3 +1,10 @@
+//! Source text, with outside values.
+
+mod limits;
+mod links;
+mod sample;
+mod zones;
+
 use super::*;
 use std::alloc::Global;
 use std::test::Fail;
@@ -21,19 +28,22 @@ fn fault(alloc: Global, texts: &[&[u8]]) -> Result<Option<Fault>, Fail> {
     Ok(read(alloc, texts)?.err())
 }
 
-/// The one zone's offset and FORMAT.
+/// The one zone's offset and its FORMAT without `%` and `/`.
 fn first_line(alloc: Global, text: &[u8]) -> Result<(i32, Vec<u8>), Fail> {
     let source = read(alloc, &[text])?.ok().ok_or("a source")?;
     if source.zones() == 0 {
         return Err(Fail::from("a zone"));
     }
     let line = source.line(0, 0);
-    Ok((line.offset, Vec::from_slice(alloc, line.format.octets())?))
+    match &line.format {
+        Format::Plain(text) => Ok((line.offset, Vec::from_slice(alloc, text.octets())?)),
+        _ => Err(Fail::from("an abbreviation")),
+    }
 }
 
 #[test]
 fn faults(rt: HostRuntime) -> Result<(), Fail> {
-    let rows: [(&[u8], u64, Kind); 21] = [
+    let rows: [(&[u8], u64, Kind); 40] = [
         (b"Zonk A 0 - UTC", 1, Kind::Keyword),
         (b"Zone A 0 -", 1, Kind::FieldCount),
         (b"Zone A 0 - UTC 2000 Jan 1 0 0", 1, Kind::FieldCount),
@@ -53,7 +63,30 @@ fn faults(rt: HostRuntime) -> Result<(), Fail> {
         (b"Zone /A 25 24:01 %", 1, Kind::Name),
         (b"\n# nothing\nZonk\nZone \"A", 3, Kind::Keyword),
         (b"Zone A 0 - UTC\nZone A 0 - UTC", 2, Kind::DuplicateName),
-        (b"Zone A 0 - UTC\nZone B 0 - UTC", 2, Kind::TooMany),
+        (b"Zone A 0 - UTC 2000 Jan 1 0", 1, Kind::NoContinuation),
+        (b"Zone A 0 - UTC 2001 Feb 29", 1, Kind::Until),
+        (b"Zone A 0 - UTC 2001 Feb Sun>=29", 1, Kind::Until),
+        (b"Zone A 0 - UTC 0", 1, Kind::Until),
+        (b"Zone A 0 - UTC 2001 J", 1, Kind::Until),
+        (b"Zone A 0 - UTC 2001 Jan 1 300:00:01", 1, Kind::Until),
+        (b"Zone A 0 +1 UTC", 1, Kind::Save),
+        (b"Zone A 0 \"A B\" UTC", 1, Kind::Name),
+        (b"Zone A 0 - %", 1, Kind::Format),
+        (b"Zone A 0 - %S", 1, Kind::Format),
+        (b"Zone A 0 - A/%s", 1, Kind::Format),
+        (b"Zone A 0 - A/B/C", 1, Kind::Format),
+        (b"Zone A 0 Q UTC", 1, Kind::UnknownRules),
+        (b"Zone A 0 - AAA 2000\n", 1, Kind::NoContinuation),
+        (b"Zone A 0 - AAA 2000\n\n# end\n", 1, Kind::NoContinuation),
+        (b"Zone A 0 - AAA 2000\nZone B 0 - UTC", 2, Kind::Offset),
+        (
+            b"Zone A 0 - AAA 2000\n0 - BBB 2001\n",
+            2,
+            Kind::NoContinuation,
+        ),
+        (b"Zone A 0 - AAA 2000\n0 -", 2, Kind::FieldCount),
+        (b"-6:00 - CST", 1, Kind::Keyword),
+        (b"Zone A 0 - UTC\nLink A A", 2, Kind::DuplicateName),
         (b"Zone A 0 - UTC\nZone /A 0 - UTC", 2, Kind::Name),
     ];
     for (text, line, kind) in &rows {
@@ -367,6 +400,28 @@ fn texts(rt: HostRuntime) -> Result<(), Fail> {
         kind: Kind::DuplicateName,
     };
     assert_eq!(rt; fault(alloc, &[zone, zone])?, Some(twice));
+    let rows: [(&[u8], &[u8], u64, Kind); 4] = [
+        (
+            b"Zone Z/E 0 - AAA 2000",
+            b"0 - BBB",
+            1,
+            Kind::NoContinuation,
+        ),
+        (b"Zone A 0 - UTC", b"-6:00 - CST", 2, Kind::Keyword),
+        (b"Link X Y", b"Zone /A 0 - UTC", 2, Kind::Name),
+        (b"Zone A 0 Q UTC", b"Link X Y", 1, Kind::UnknownRules),
+    ];
+    for (first, second, text, kind) in &rows {
+        let place = Place {
+            text: *text,
+            line: 1,
+        };
+        assert_eq!(rt;
+            fault(alloc, &[*first, *second])?,
+            Some(Fault { place, kind: *kind }),
+            "{first:?}"
+        );
+    }
     assert_eq!(rt; read(alloc, &[])?.ok().ok_or("no texts")?.zones(), 0);
     assert_eq!(rt;
         read(alloc, &[b""])?.ok().ok_or("an empty text")?.zones(),
@@ -421,15 +476,6 @@ fn zone_lines(rt: HostRuntime) -> Result<(), Fail> {
         let line = first_line(rt.alloc(), text)?;
         assert_eq!(rt; line.0, *offset, "{text:?}");
         assert_eq!(rt; line.1.as_slice(), *format, "{text:?}");
-    }
-    Ok(())
-}
-
-#[test]
-fn cut_texts(rt: HostRuntime) -> Result<(), Fail> {
-    let text = b"# A zone\n\nZone \"Etc/U\"TC -0:00:01.25 - UTC # end\nZone B 0 - UTC\n";
-    for end in 0..=text.len() {
-        let _ = read(rt.alloc(), &[&text[..end]])?;
     }
     Ok(())
 }

@@ -3,7 +3,7 @@
 ghost use Rattle.std.specs.Prelude.{◌≡◌, ◌<◌, IfSome, length, map};
 ghost use Rattle.zic_source.specs.Word.{begins_word, only_word};
 
-/// Whether the field is the word or a nonempty front of it, in any ASCII case.
+/// Whether the field is the word or a nonempty prefix of it, in any ASCII case.
 pub(crate) fn begins_word(word: &[u8], field: &[u8]) -> bool
     ensures { result ≡ begins_word word.now field.now }
 {

@@ -1,4 +1,4 @@
-//! Years of a Rule line.
+//! Years of Rule lines and of an UNTIL.
 
 ghost use Rattle.std.specs.Prelude.{◌≡◌, ◌≤◌, IfSome};
 ghost use Rattle.zic_source.specs.Year as spec;

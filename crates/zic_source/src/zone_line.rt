@@ -1,66 +1,92 @@
-//! Zone lines.
+//! Zone lines and continuation lines.
 
-ghost use Rattle.std.specs.Prelude.{◌≡◌, ◌==◌, ◌||◌};
-ghost use Rattle.std.specs.List.{list_any};
+ghost use Rattle.std.specs.Prelude.{◌≡◌, ◌+◌, ◌-◌, ◌≤◌, length, drop, slice_index_or, []};
 ghost use Rattle.zic_source.specs.Stop.{Gives};
-ghost use Rattle.zic_source.specs.Zone.{zone_lines};
-ghost use Rattle.zic_source.specs.Reading.{format_at, zone_line};
+ghost use Rattle.zic_source.specs.Reading.{zone_fields, zone_line, continuation_line};
 
 use crate::fault::{Kind, Stop};
-use crate::field::{Fields, is_dash};
-use crate::name::is_name;
+use crate::field::Fields;
+use crate::format::{Format, parse_format};
+use crate::name::{Name, is_name};
 use crate::place::Place;
-use crate::source::{Format, Zone, ZoneLine};
+use crate::rules::{Rules, parse_rules};
 use crate::time::offset;
+use crate::until::{Until, parse_until};
 use std::alloc::Global;
 
-/// Whether `%` or `/` stands in the field.
-fn varies(field: &[u8]) -> bool
-    ensures { result ≡ list_any (λ byte. byte == 37 || byte == 47) field.now }
-{
-    field.iter().any(|byte| matches!(*byte, b'%' | b'/'))
+/// A Zone or continuation line: what holds from the UNTIL of the line before it, if there is one, up to its own.
+#[derive(Debug, Drop)]
+pub struct ZoneLine {
+    /// Where the line stands.
+    pub place: Place,
+    /// STDOFF: the standard UT offset, in seconds, positive east, within 24:00:00 either way.
+    pub offset: i32,
+    /// RULES: what saving is kept.
+    pub rules: Rules,
+    /// FORMAT: how times are abbreviated.
+    pub format: Format,
+    /// UNTIL: when the next line of the zone takes over; `None` on its last line.
+    pub until: Option<Until>,
 }
 
-/// What a FORMAT says.
-#[tactic(auto, unfolding(crate::specs::Reading::format_at, crate::specs::ZoneLine::format_of))]
-fn format(alloc: Global, place: Place, field: &[u8]) -> Result<Format, Stop>
-    ensures { Gives (λ format. format) result (format_at place field.now) }
+/// What the three fields before this one and those from it on say: STDOFF RULES FORMAT [UNTIL].
+#[tactic(auto, unfolding(crate::specs::Reading::zone_fields))]
+fn zone_fields(alloc: Global, place: Place, fields: &Fields, until: usize) -> Result<ZoneLine, Stop>
+    requires three { 3 ≤ until }
+    requires least { until ≤ length fields.now.whole }
+    requires most { length fields.now.whole ≤ until + 4 }
+    ensures { Gives (λ line. line) result (zone_fields place (slice_index_or fields.now.whole (until - 3) [])
+        (slice_index_or fields.now.whole (until - 2) []) (slice_index_or fields.now.whole (until - 1) [])
+        (drop until fields.now.whole)) }
 {
-    if is_dash(field) {
-        return Ok(Format::new(Vec::new(alloc)));
-    }
-    if varies(field) {
-        return Err(Stop::at(place, Kind::Format));
-    }
-    Ok(Format::new(Vec::from_slice(alloc, field)?))
+    let Some(offset) = offset(fields.get(until - 3)) else {
+        return Err(Stop::at(place, Kind::Offset));
+    };
+    let rules = parse_rules(alloc, place, fields.get(until - 2))?;
+    let format = parse_format(alloc, place, fields.get(until - 1))?;
+    let Some(until) = parse_until(fields, until) else {
+        return Err(Stop::at(place, Kind::Until));
+    };
+    Ok(ZoneLine {
+        place,
+        offset,
+        rules,
+        format,
+        until,
+    })
 }
 
-/// What the fields of a Zone line say.
-#[tactic(auto, unfolding(crate::specs::Reading::zone_line, crate::specs::Reading::zone_of))]
-pub(crate) fn zone_line(alloc: Global, place: Place, fields: &Fields) -> Result<Zone, Stop>
-    ensures { Gives zone_lines result (zone_line place fields.now.whole) }
+/// What the fields of a continuation line say.
+#[tactic(auto, unfolding(crate::specs::Reading::continuation_line))]
+pub(crate) fn continuation_line(
+    alloc: Global,
+    place: Place,
+    fields: &Fields,
+) -> Result<ZoneLine, Stop>
+    ensures { Gives (λ line. line) result (continuation_line place fields.now.whole) }
 {
-    if fields.len() != 5 {
+    if fields.len() < 3 || fields.len() > 7 {
+        return Err(Stop::at(place, Kind::FieldCount));
+    }
+    zone_fields(alloc, place, fields, 3)
+}
+
+/// What the fields of a Zone line say: the zone's name, and its first line.
+#[tactic(auto, unfolding(crate::specs::Reading::zone_line))]
+pub(crate) fn zone_line(
+    alloc: Global,
+    place: Place,
+    fields: &Fields,
+) -> Result<(Name, ZoneLine), Stop>
+    ensures { Gives (λ zone. (zone.0, zone.1)) result (zone_line place fields.now.whole) }
+{
+    if fields.len() < 5 || fields.len() > 9 {
         return Err(Stop::at(place, Kind::FieldCount));
     }
     let name = fields.get(1);
     if !is_name(name) {
         return Err(Stop::at(place, Kind::Name));
     }
-    let Some(offset) = offset(fields.get(2)) else {
-        return Err(Stop::at(place, Kind::Offset));
-    };
-    if !is_dash(fields.get(3)) {
-        return Err(Stop::at(place, Kind::Save));
-    }
-    let format = format(alloc, place, fields.get(4))?;
-    Ok(Zone {
-        name: Vec::from_slice(alloc, name)?,
-        first: ZoneLine {
-            place,
-            offset,
-            format,
-        },
-        continuations: Vec::new(alloc),
-    })
+    let line = zone_fields(alloc, place, fields, 5)?;
+    Ok((Name::new(Vec::from_slice(alloc, name)?), line))
 }

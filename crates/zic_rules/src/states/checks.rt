@@ -2,8 +2,9 @@
 
 ghost use Rattle.std.specs.Prelude.{◌≡◌, ◌<◌, length, nat_lt, unsigned_abs, IfOk, IfErr};
 ghost use Rattle.zic_rules.specs.Fault.{IsSound, StopsZone};
+ghost use Rattle.zic_rules.specs.Zone.{IsPlainZone};
 
-use super::Timeline;
+use super::{Timeline, abbreviation_of};
 use crate::abbreviation::is_abbreviation;
 use std::alloc::Global;
 use zic_source::{Fault, Kind, Source, Stop, ZoneLine};
@@ -13,7 +14,9 @@ const MAX_OFFSET: u32 = 86_400;
 
 /// The states of a zone, after the checks that `Kind` numbers from 24 to 28.
 pub fn timeline<'a>(alloc: Global, source: &'a Source, zone: usize) -> Result<Timeline<'a>, Stop>
-    requires { zone < length source.now.zones }
+    requires zone { zone < length source.now.zones }
+    // For now.
+    requires plain { IsPlainZone (record { source = source.now; number = zone }) }
     ensures ok { IfOk result (λ t. t ≡ record { source = source.now; number = zone }) }
     ensures sound { IfOk result IsSound }
     ensures err { IfErr result (StopsZone (record { source = source.now; number = zone })) }
@@ -23,7 +26,7 @@ pub fn timeline<'a>(alloc: Global, source: &'a Source, zone: usize) -> Result<Ti
     if is_out_of_range(line) {
         return Err(stop_at(line, Kind::OffsetRange));
     }
-    if !is_abbreviation(line.format.octets()) {
+    if !is_abbreviation(abbreviation_of(&line.format)) {
         return Err(stop_at(line, Kind::BadAbbreviation));
     }
     Ok(Timeline { source, zone })

@@ -1,0 +1,10 @@
+use Rattle.std.proofs.Common.{◌≡◌, ◌<◌, ℕ, length}
+use Rattle.zic_source.specs.Chains.{HasEnd, AreRight}
+use Rattle.zic_source.proofs.chains.chain_ends.Given as goal
+
+abbrev pub invariant-loop-link : goal.invariant-loop-link
+invariant-loop-link l = record {
+  long : length l.ends.items ≡ length l.source.links;
+  found : (i : ℕ) → i < l.link → HasEnd l.ends.items i;
+  right : AreRight l.source l.ends.items;
+}
