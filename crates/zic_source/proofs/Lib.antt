@@ -1,4 +1,3 @@
-pub mod Buffer
 pub mod SameBytes
 pub mod Steps
 pub mod Binds
@@ -6,6 +5,7 @@ pub mod Words
 pub mod OnlyWords
 pub mod Splits
 pub mod Scan
+pub mod FieldEnds
 pub mod FirstLines
 pub mod Digits
 pub mod Times

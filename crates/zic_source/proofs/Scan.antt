@@ -1,9 +1,9 @@
 -- Taking a line apart byte by byte gives the fields of its code.
-use Rattle.std.proofs.Common.{◌≡◌, ℕ, ◌+◌, ◌%◌, ◌<◌, ◌≤◌, Bool, true, false, not, cond, eqb, List, [], ◌∷◌, ◌++◌, length, get_or, take, drop, map, Option, Some, None, Result, Ok, Err, refl, sym, ap, ◌∙◌, append_assoc, zero-add, arith, inl, inr}
+use Rattle.std.proofs.Common.{◌≡◌, ℕ, ◌+◌, ◌%◌, Bool, true, false, not, cond, eqb, List, [], ◌∷◌, ◌++◌, length, take, map, Option, Some, None, Result, Ok, Err, refl, sym, ap, ◌∙◌, append_assoc, zero-add, arith, inl, inr}
 use Rattle.std.specs.Prelude.{◌&&◌, filter, count_by, take_while, unwrap_or}
 use Rattle.std.specs.List.{slice_split, enumerate_from, list_all, onto_first}
 use Rattle.std.proofs.lemmas.Bool.{cases_Bool, cases_eq, eqb-true, eq-eqb, ne_eqb, and_parts, not-true}
-use Rattle.std.proofs.lemmas.List.{append-nil, map-append, take_at, length_push, at_drop_more, at_drop_all}
+use Rattle.std.proofs.lemmas.List.{append-nil, map-append, take_at, length_push}
 use Rattle.std.proofs.lemmas.List.Elements.{filter-append}
 use Rattle.std.proofs.lemmas.List.Splits.{slice_split-cons_yes, slice_split-cons_no}
 use Rattle.std.proofs.lemmas.List.Sums.{sum_by_push, sum_by-cons, take_while-cons}
@@ -13,26 +13,15 @@ use Rattle.zic_source.specs.declared.fault.Kind.TheVariants.{NotAscii, Quote}
 use Rattle.zic_source.specs.declared.field.Role.{Role}
 use Rattle.zic_source.specs.declared.field.Role.TheVariants as role
 use Rattle.zic_source.specs.Field.{Mark, code, fields, field_text, is_quote, is_allowed, is_odd, is_gap, is_some_part, starts_comment, is_ascii_code}
-use Rattle.zic_source.specs.Taken.{TakenFields, nothing_taken, role_of, begun, with_byte, ended, ended_fields}
+use Rattle.zic_source.specs.Taken.{TakenFields, nothing_taken, role_of, begun, with_byte, ended, ended_fields, scan}
 use Rattle.zic_source.specs.Reading.{fault_at, code_fields}
-
--- the fields of the bytes that are left, from what was taken before them
-abbrev pub scan : Place → Bool → TakenFields → List ℕ → Result (List (List ℕ)) Fault
-scan place quoted taken [] = cond quoted (Err (fault_at place Quote)) (Ok (ended taken).whole)
-scan place quoted taken (byte ∷ bytes) = elim (role_of byte quoted) [
-  | role.Comment ↦ Ok (ended taken).whole
-  | role.DoubleQuote ↦ scan place (not quoted) (begun taken) bytes
-  | role.Refused ↦ Err (fault_at place NotAscii)
-  | role.Gap ↦ scan place quoted (ended taken) bytes
-  | role.Text ↦ scan place quoted (with_byte taken byte) bytes
-]
 
 -- ---- marks, one after the other
 
 abbrev flipped : ℕ → Bool → Bool
 flipped byte quoted = cond (is_quote byte) (not quoted) quoted
 
-abbrev mark_of : ℕ → Bool → Mark
+abbrev pub mark_of : ℕ → Bool → Mark
 mark_of byte quoted = record { byte = byte; quoted = quoted }
 
 abbrev marked : Bool → List ℕ → List Mark
@@ -202,7 +191,7 @@ dispatch role.Refused place quoted taken byte bytes = Err (fault_at place NotAsc
 dispatch role.Gap place quoted taken byte bytes = scan place quoted (ended taken) bytes
 dispatch role.Text place quoted taken byte bytes = scan place quoted (with_byte taken byte) bytes
 
-dispatched : (r : Role) (place : Place) (quoted : Bool) (taken : TakenFields) (byte : ℕ) (bytes : List ℕ) → role_of byte quoted ≡ r → scan place quoted taken (byte ∷ bytes) ≡ dispatch r place quoted taken byte bytes
+pub dispatched : (r : Role) (place : Place) (quoted : Bool) (taken : TakenFields) (byte : ℕ) (bytes : List ℕ) → role_of byte quoted ≡ r → scan place quoted taken (byte ∷ bytes) ≡ dispatch r place quoted taken byte bytes
 dispatched role.Comment place quoted taken byte bytes e = rw (e, scan) refl
 dispatched role.DoubleQuote place quoted taken byte bytes e = rw (e, scan) refl
 dispatched role.Refused place quoted taken byte bytes e = rw (e, scan) refl
@@ -221,23 +210,23 @@ step_on place quoted whole whole' piece piece' byte bytes next plain flips ok sa
     rest ∙ sym (first ∙ second ∙ third)
 
 module _ (byte : ℕ) (quoted : Bool) where
-  role-comment : starts_comment (mark_of byte quoted) ≡ true → role_of byte quoted ≡ role.Comment
+  pub role-comment : starts_comment (mark_of byte quoted) ≡ true → role_of byte quoted ≡ role.Comment
   unfolding role_of
   role-comment e = rw e refl
 
-  role-quote : starts_comment (mark_of byte quoted) ≡ false → is_quote byte ≡ true → role_of byte quoted ≡ role.DoubleQuote
+  pub role-quote : starts_comment (mark_of byte quoted) ≡ false → is_quote byte ≡ true → role_of byte quoted ≡ role.DoubleQuote
   unfolding role_of
   role-quote e q = rw (e, q) refl
 
-  role-refused : starts_comment (mark_of byte quoted) ≡ false → is_quote byte ≡ false → is_allowed byte ≡ false → role_of byte quoted ≡ role.Refused
+  pub role-refused : starts_comment (mark_of byte quoted) ≡ false → is_quote byte ≡ false → is_allowed byte ≡ false → role_of byte quoted ≡ role.Refused
   unfolding role_of
   role-refused e q a = rw (e, q, a) refl
 
-  role-gap : starts_comment (mark_of byte quoted) ≡ false → is_quote byte ≡ false → is_allowed byte ≡ true → is_gap (mark_of byte quoted) ≡ true → role_of byte quoted ≡ role.Gap
+  pub role-gap : starts_comment (mark_of byte quoted) ≡ false → is_quote byte ≡ false → is_allowed byte ≡ true → is_gap (mark_of byte quoted) ≡ true → role_of byte quoted ≡ role.Gap
   unfolding role_of
   role-gap e q a g = rw (e, q, a, g) refl
 
-  role-text : starts_comment (mark_of byte quoted) ≡ false → is_quote byte ≡ false → is_allowed byte ≡ true → is_gap (mark_of byte quoted) ≡ false → role_of byte quoted ≡ role.Text
+  pub role-text : starts_comment (mark_of byte quoted) ≡ false → is_quote byte ≡ false → is_allowed byte ≡ true → is_gap (mark_of byte quoted) ≡ false → role_of byte quoted ≡ role.Text
   unfolding role_of
   role-text e q a g = rw (e, q, a, g) refl
 
@@ -297,15 +286,3 @@ scan_is place line =
     ∙ ap (λ (b : Bool). answer place (is_ascii_code line) b (texts_from [] (code line))) opens
     ∙ ap (answer place (is_ascii_code line) (is_odd (count_by (λ m. is_quote m.byte) (code line)))) (texts_from-nothing (slice_split is_gap (code line)))
     ∙ answer_is place (is_ascii_code line) (is_odd (count_by (λ m. is_quote m.byte) (code line))) (fields line)
-
--- ---- the loop over the bytes of a line
-
-module _ (place : Place) (quoted : Bool) (taken : TakenFields) (line : List ℕ) (index : ℕ) (lt : index < length line)
-    (so_far : scan place quoted taken (drop index line) ≡ scan place false nothing_taken line) where
-  pub met : (r : Role) → role_of (get_or line index 0) quoted ≡ r → dispatch r place quoted taken (get_or line index 0) (drop (index + 1) line) ≡ scan place false nothing_taken line
-  met r e = sym (at_drop_more (scan place quoted taken) line index 0 lt ∙ dispatched r place quoted taken (get_or line index 0) (drop (index + 1) line) e) ∙ so_far
-
--- at the end of the line
-pub at_end : (place : Place) (quoted : Bool) (taken : TakenFields) (line : List ℕ) (index : ℕ) → length line ≤ index → scan place quoted taken (drop index line) ≡ scan place false nothing_taken line
-    → code_fields place line ≡ cond quoted (Err (fault_at place Quote)) (Ok (ended taken).whole)
-at_end place quoted taken line index le so_far = sym (scan_is place line) ∙ sym so_far ∙ at_drop_all (scan place quoted taken) line index le

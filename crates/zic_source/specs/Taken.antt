@@ -1,9 +1,12 @@
 -- How the code takes a line apart, byte by byte; no public contract cites it.
-use Rattle.std.specs.Prelude.{ℕ, ◌≤◌, Bool, not, List, [], ◌∷◌, ◌++◌, length, slice_range, Option, Some, None, unwrap_or, if◌then◌else◌}
-use Rattle.zic_source.specs.declared.field.Span.{Span}
+use Rattle.std.specs.Prelude.{◌≡◌, ℕ, Bool, true, not, ◌&&◌, List, [], ◌∷◌, ◌++◌, filter, All, Option, Some, None, Result, Ok, Err, unwrap_or, if◌then◌else◌, nat_le}
+use Rattle.zic_source.specs.declared.place.Place.{Place}
+use Rattle.zic_source.specs.declared.fault.Fault.{Fault}
+use Rattle.zic_source.specs.declared.fault.Kind.TheVariants.{NotAscii, Quote}
 use Rattle.zic_source.specs.declared.field.Role.{Role}
 use Rattle.zic_source.specs.declared.field.Role.TheVariants as role
 use Rattle.zic_source.specs.Field.{Mark, is_quote, is_allowed, starts_comment, is_gap, dash_if_empty}
+use Rattle.zic_source.specs.Reading.{fault_at}
 
 -- the fields that are whole, and the text so far of one that isn't
 pub record TakenFields : Type 0 where
@@ -38,11 +41,30 @@ role_of byte quoted = let mark : Mark = record { byte = byte; quoted = quoted } 
     else (if not (is_allowed byte) then role.Refused
     else (if is_gap mark then role.Gap else role.Text)))
 
--- the part of the buffer where a field stands
-abbrev pub part_at : List ℕ → Span → List ℕ
-part_at bytes span = slice_range bytes span.start span.«end»
+-- `$` to `~`, which are text wherever they stand
+abbrev pub is_plain : ℕ → Bool
+is_plain byte = nat_le 36 byte && nat_le byte 126
 
--- the span is one of the buffer
-pub record IsWithin (bytes : List ℕ) (span : Span) : Type 0 where
-  pub rises : span.start ≤ span.«end»
-  pub inside : span.«end» ≤ length bytes
+-- each byte is plain
+abbrev pub ArePlain : List ℕ → Type 0
+ArePlain bytes = All (λ byte. is_plain byte ≡ true) bytes
+
+-- the bytes without the double quotes
+abbrev pub without_quotes : List ℕ → List ℕ
+without_quotes bytes = filter (λ byte. not (is_quote byte)) bytes
+
+-- the text so far of a field of these bytes; where there is none, no field is begun
+abbrev pub begun_text : List ℕ → Option (List ℕ)
+begun_text [] = None
+begun_text (byte ∷ bytes) = Some (without_quotes (byte ∷ bytes))
+
+-- the fields of the bytes that are left, from what was taken before them
+abbrev pub scan : Place → Bool → TakenFields → List ℕ → Result (List (List ℕ)) Fault
+scan place quoted taken [] = if quoted then Err (fault_at place Quote) else Ok (ended taken).whole
+scan place quoted taken (byte ∷ bytes) = elim (role_of byte quoted) [
+  | role.Comment ↦ Ok (ended taken).whole
+  | role.DoubleQuote ↦ scan place (not quoted) (begun taken) bytes
+  | role.Refused ↦ Err (fault_at place NotAscii)
+  | role.Gap ↦ scan place quoted (ended taken) bytes
+  | role.Text ↦ scan place quoted (with_byte taken byte) bytes
+]

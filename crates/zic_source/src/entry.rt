@@ -30,8 +30,8 @@ pub(crate) enum Entry {
 
 /// What the fields of a line say that begins with a keyword.
 fn keyword_line(alloc: Global, place: Place, fields: &Fields) -> Result<Entry, Stop>
-    requires { 0 < length fields.now.whole }
-    ensures { Gives lines.line_entry result (keyword_line place (keyword_of (slice_index_or fields.now.whole 0 [])) fields.now.whole) }
+    requires { 0 < length fields.now }
+    ensures { Gives lines.line_entry result (keyword_line place (keyword_of (slice_index_or fields.now 0 [])) fields.now) }
 {
     let Some(keyword) = parse_keyword(fields.get(0)) else {
         return Err(Stop::at(place, Kind::Keyword));
@@ -54,7 +54,7 @@ pub(crate) fn line_entry(
     place: Place,
     fields: &Fields,
 ) -> Result<Option<Entry>, Stop>
-    ensures { Gives (λ entry. option_map lines.line_entry entry) result (entry_of awaited place fields.now.whole) }
+    ensures { Gives (λ entry. option_map lines.line_entry entry) result (entry_of awaited place fields.now) }
 {
     if fields.len() == 0 {
         return Ok(None);

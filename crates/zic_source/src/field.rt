@@ -1,14 +1,16 @@
 //! The fields of a line.
 
-ghost use Rattle.std.specs.Prelude.{◌≡◌, ◌<◌, [], length, slice_index_or, OnOk};
-ghost use Rattle.zic_source.specs.Field.{is_space, is_allowed, is_dash};
+ghost use Rattle.std.specs.Prelude.{◌≡◌, ◌<◌, ◌≤◌, false, [], length, slice_index_or, slice_range, IfOk, OnOk};
+ghost use Rattle.std.specs.Cow.{cow_slice_items};
+ghost use Rattle.zic_source.specs.Field.{is_space, is_allowed, is_dash, dash_if_empty};
 ghost use Rattle.zic_source.specs.Stop.{Gives};
 ghost use Rattle.zic_source.specs.Reading.{line_fields, code_fields};
-ghost use Rattle.zic_source.specs.Taken.{role_of, nothing_taken, begun, with_byte, ended};
+ghost use Rattle.zic_source.specs.Taken.{role_of, is_plain, ArePlain, without_quotes, begun_text, ended_fields};
 
 use crate::fault::{Kind, Stop};
 use crate::place::Place;
 use std::alloc::{AllocError, Global};
+use std::borrow::CowSlice;
 use std::marker::Model;
 
 /// How many bytes a line may have without its newline.
@@ -38,6 +40,13 @@ fn is_allowed(byte: u8) -> bool
     is_space(byte) || matches!(byte, 0x21..=0x7e)
 }
 
+/// A byte that is text wherever it stands, as most are.
+fn is_plain(byte: u8) -> bool
+    ensures { result ≡ is_plain byte }
+{
+    matches!(byte, b'$'..=b'~')
+}
+
 /// What a byte is for its line.
 #[derive(Clone, Copy, Debug)]
 enum Role {
@@ -59,148 +68,156 @@ fn role_of(byte: u8, quoted: bool) -> Role
     ensures { result ≡ role_of byte quoted }
 {
     match byte {
-        // Most bytes, which are text wherever they stand.
-        b'$'..=b'~' => Role::Text,
+        _ if is_plain(byte) => Role::Text,
+        _ if is_space(byte) && !quoted => Role::Gap,
         b'#' if !quoted => Role::Comment,
         b'"' => Role::DoubleQuote,
-        _ if !is_allowed(byte) => Role::Refused,
-        _ if is_space(byte) && !quoted => Role::Gap,
-        _ => Role::Text,
+        _ if is_allowed(byte) => Role::Text,
+        _ => Role::Refused,
     }
 }
 
-/// Where a field stands in the buffer.
-#[derive(Clone, Copy, Debug)]
-struct Span {
-    start: usize,
-    end: usize,
+/// Where the plain bytes end that stand from here on.
+fn plain_end(line: &[u8], start: usize) -> usize
+    requires { start ≤ length line.now }
+    ensures rises { start ≤ result }
+    ensures inside { result ≤ length line.now }
+    ensures plain { ArePlain (slice_range line.now start result) }
+{
+    let mut end = start;
+    while end < line.len() && is_plain(line[end]) {
+        end += 1;
+    }
+    end
 }
 
-/// The fields of one line, without their double quotes, in buffers that serve line after line.
+/// The text of a field that has double quotes: what is left without them, or `-`.
+#[cold]
+fn text_without_quotes<'a>(alloc: Global, field: &[u8]) -> Result<CowSlice<'a, u8>, AllocError>
+    ensures { IfOk result (λ text. cow_slice_items text ≡ dash_if_empty (without_quotes field.now)) }
+{
+    let mut text = Vec::new(alloc);
+    for byte in field {
+        if *byte != b'"' {
+            text.push(*byte)?;
+        }
+    }
+    if text.is_empty() {
+        return Ok(CowSlice::Borrowed(b"-"));
+    }
+    Ok(CowSlice::Owned(text))
+}
+
+/// The fields of one line, without their double quotes, in a list that serves line after line.
 #[derive(Debug, Drop)]
-pub(crate) struct Fields {
-    bytes: Vec<u8>,
-    spans: Vec<Span>,
-    /// Where the field begins that isn't whole yet.
-    started: Option<usize>,
+pub(crate) struct Fields<'a> {
+    /// Parts of the line; only what has double quotes is copied.
+    texts: Vec<CowSlice<'a, u8>>,
 }
 
-impl Model for Fields {
-    ghost use Rattle.std.specs.Prelude.{◌≤◌, map, drop, length, All, IfSome, option_map};
-    ghost use Rattle.zic_source.specs.Taken.{TakenFields, part_at, IsWithin};
+impl<'a> Model for Fields<'a> {
+    ghost use Rattle.std.specs.Prelude.{ℕ, List, map};
+    ghost use Rattle.std.specs.Cow.{cow_slice_items};
 
-    ghost Value = { TakenFields };
+    ghost Value = { List (List ℕ) };
 
-    ghost view = { λ f. record {
-      whole = map (part_at f.bytes.items) f.spans.items;
-      current = option_map (λ start. drop start f.bytes.items) f.started;
-    } };
-
-    ghost invariant = { λ f. All (IsWithin f.bytes.items) f.spans.items
-        × IfSome f.started (λ start. start ≤ length f.bytes.items) };
+    ghost view = { λ f. map cow_slice_items f.texts.items };
 }
 
-impl Fields {
+impl<'a> Fields<'a> {
     /// No fields; takes no memory yet.
     pub(crate) fn new(alloc: Global) -> Self
-        ensures { result ≡ nothing_taken }
+        ensures { result ≡ [] }
     {
         Fields {
-            bytes: Vec::new(alloc),
-            spans: Vec::new(alloc),
-            started: None,
+            texts: Vec::new(alloc),
         }
     }
 
     /// How many fields there are.
     pub(crate) fn len(&self) -> usize
-        ensures { result ≡ length self.now.whole }
+        ensures { result ≡ length self.now }
     {
-        self.spans.len()
+        self.texts.len()
     }
 
     /// A field, counted from 0.
     pub(crate) fn get(&self, index: usize) -> &[u8]
-        requires { index < length self.now.whole }
-        ensures { result.now ≡ slice_index_or self.now.whole index [] }
+        requires { index < length self.now }
+        ensures { result.now ≡ slice_index_or self.now index [] }
     {
-        let span = self.spans[index];
-        &self.bytes[span.start..span.end]
-    }
-
-    fn clear(&mut self)
-        ensures { self.new ≡ nothing_taken }
-    {
-        self.bytes.clear();
-        self.spans.clear();
-        self.started = None;
-    }
-
-    /// Begins a field, where none is begun.
-    fn begin(&mut self)
-        ensures { self.new ≡ begun self.old }
-    {
-        if self.started.is_none() {
-            self.started = Some(self.bytes.len());
-        }
-    }
-
-    /// Adds a byte to the field that is begun, or begins one.
-    fn push(&mut self, byte: u8) -> Result<(), AllocError>
-        ensures { OnOk result (self.new ≡ with_byte self.old byte) }
-    {
-        self.begin();
-        self.bytes.push(byte)?;
-        Ok(())
-    }
-
-    /// Ends the field that is begun, if there is one. An empty one is `-`.
-    fn end(&mut self) -> Result<(), AllocError>
-        ensures { OnOk result (self.new ≡ ended self.old) }
-    {
-        if let Some(start) = self.started {
-            if start == self.bytes.len() {
-                self.bytes.push(b'-')?;
-            }
-            let end = self.bytes.len();
-            self.spans.push(Span { start, end })?;
-            self.started = None;
-        }
-        Ok(())
+        self.texts[index].as_slice()
     }
 
     /// Takes a line apart: the fields up to its comment.
     #[tactic(auto, unfolding(crate::specs::Reading::line_fields))]
-    pub(crate) fn take_line(&mut self, place: Place, line: &[u8]) -> Result<(), Stop>
-        ensures { Gives (λ _. self.new.whole) result (line_fields (record { place = place; bytes = line.now })) }
+    pub(crate) fn take_line(
+        &mut self,
+        alloc: Global,
+        place: Place,
+        line: &'a [u8],
+    ) -> Result<(), Stop>
+        ensures { Gives (λ _. self.new) result (line_fields (record { place = place; bytes = line.now })) }
     {
         if line.len() > LONGEST_LINE {
             return Err(Stop::at(place, Kind::LineTooLong));
         }
-        self.take_code(place, line)
+        self.take_code(alloc, place, line)
     }
 
     /// Takes the bytes of a line up to its comment.
-    fn take_code(&mut self, place: Place, line: &[u8]) -> Result<(), Stop>
-        ensures { Gives (λ _. self.new.whole) result (code_fields place line.now) }
+    fn take_code(&mut self, alloc: Global, place: Place, line: &'a [u8]) -> Result<(), Stop>
+        ensures { Gives (λ _. self.new) result (code_fields place line.now) }
     {
-        self.clear();
+        self.texts.clear();
         let mut quoted = false;
-        for byte in line {
-            match role_of(*byte, quoted) {
-                Role::Comment => return Ok(self.end()?),
+        let mut start = 0;
+        let mut has_quotes = false;
+        let mut end = plain_end(line, 0);
+        while end < line.len() {
+            match role_of(line[end], quoted) {
+                Role::Comment => break,
                 Role::DoubleQuote => {
                     quoted = !quoted;
-                    self.begin();
+                    has_quotes = true;
                 }
                 Role::Refused => return Err(Stop::at(place, Kind::NotAscii)),
-                Role::Gap => self.end()?,
-                Role::Text => self.push(*byte)?,
+                Role::Gap => {
+                    self.push_field(alloc, &line[start..end], has_quotes)?;
+                    start = end + 1;
+                    has_quotes = false;
+                }
+                Role::Text => {}
             }
+            end = plain_end(line, end + 1);
         }
         if quoted {
             return Err(Stop::at(place, Kind::Quote));
         }
-        Ok(self.end()?)
+        self.push_field(alloc, &line[start..end], has_quotes)?;
+        Ok(())
+    }
+
+    /// Adds a field, if there is one: between two gaps there is none.
+    #[inline]
+    fn push_field(
+        &mut self,
+        alloc: Global,
+        field: &'a [u8],
+        has_quotes: bool,
+    ) -> Result<(), AllocError>
+        requires { has_quotes ≡ false → without_quotes field.now ≡ field.now }
+        ensures { OnOk result (self.new ≡ ended_fields self.old (begun_text field.now)) }
+    {
+        if field.is_empty() {
+            return Ok(());
+        }
+        let text = if has_quotes {
+            text_without_quotes(alloc, field)?
+        } else {
+            CowSlice::Borrowed(field)
+        };
+        self.texts.push(text)?;
+        Ok(())
     }
 }

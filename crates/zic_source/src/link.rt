@@ -23,7 +23,7 @@ pub struct Link {
 /// What the fields of a Link line say.
 #[tactic(auto, unfolding(crate::specs::Reading::link_line))]
 pub(crate) fn link_line(alloc: Global, place: Place, fields: &Fields) -> Result<Link, Stop>
-    ensures { Gives (λ link. link) result (link_line place fields.now.whole) }
+    ensures { Gives (λ link. link) result (link_line place fields.now) }
 {
     if fields.len() != 3 {
         return Err(Stop::at(place, Kind::FieldCount));

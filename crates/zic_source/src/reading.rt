@@ -20,9 +20,9 @@ use crate::place::Place;
 use crate::rule::Rule;
 use crate::set_sizes::SetSizes;
 use crate::source::{Source, Zone};
-use crate::split::split_once;
 use crate::whole::check_whole;
 use crate::zone_line::ZoneLine;
+use memchr::memchr;
 use std::alloc::Global;
 
 /// How many Rule lines there may be.
@@ -40,16 +40,15 @@ fn first_line(text: &[u8]) -> (&[u8], &[u8])
     ensures line { lines_of text.now ≡ result.0.now ∷ lines_of result.1.now }
     ensures shorter { length result.1.now < length text.now }
 {
-    let (line, rest) = split_once(text, b'\n');
-    match rest {
-        None => (line, &[]),
-        Some(rest) => (line, rest),
+    match memchr(b'\n', text) {
+        None => (text, &[]),
+        Some(end) => (&text[..end], &text[end + 1..]),
     }
 }
 
 /// What was read so far.
 #[derive(Drop)]
-struct Reader {
+struct Reader<'a> {
     source: Source,
     /// How many rules of the source each set has.
     sizes: SetSizes,
@@ -57,10 +56,10 @@ struct Reader {
     names: Names,
     /// How many Zone and continuation lines it has.
     zone_lines: usize,
-    fields: Fields,
+    fields: Fields<'a>,
 }
 
-impl Reader {
+impl<'a> Reader<'a> {
     /// Nothing was read yet.
     fn new(alloc: Global) -> Self
         ensures source { result.source ≡ no_lines }
@@ -185,20 +184,20 @@ impl Reader {
 
     /// Reads a line.
     #[tactic(auto, unfolding(crate::specs::Reading::line_read))]
-    fn read_line(&mut self, alloc: Global, place: Place, line: &[u8]) -> Result<(), Stop>
+    fn read_line(&mut self, alloc: Global, place: Place, line: &'a [u8]) -> Result<(), Stop>
         requires { Tracks self.old }
         ensures read { Gives (λ _. self.new.source) result
             (line_read self.old.source (record { place = place; bytes = line.now })) }
         ensures tracks { OnOk result (Tracks self.new) }
     {
-        self.fields.take_line(place, line)?;
+        self.fields.take_line(alloc, place, line)?;
         let awaited = self.source.open_place().is_some();
         let entry = line_entry(alloc, awaited, place, &self.fields)?;
         self.add(alloc, place, entry)
     }
 
     /// Reads the lines of a text.
-    fn read_lines(&mut self, alloc: Global, number: u64, text: &[u8]) -> Result<(), Stop>
+    fn read_lines(&mut self, alloc: Global, number: u64, text: &'a [u8]) -> Result<(), Stop>
         requires { Tracks self.old }
         ensures read { Gives (λ _. self.new.source) result (lines_read self.old.source (text_lines number text.now)) }
         ensures tracks { OnOk result (Tracks self.new) }
@@ -216,7 +215,7 @@ impl Reader {
 
     /// Reads a text, which may not end behind an UNTIL.
     #[tactic(auto, unfolding(crate::specs::Reading::text_read))]
-    fn read_text(&mut self, alloc: Global, number: u64, text: &[u8]) -> Result<(), Stop>
+    fn read_text(&mut self, alloc: Global, number: u64, text: &'a [u8]) -> Result<(), Stop>
         requires { Tracks self.old }
         ensures read { Gives (λ _. self.new.source) result (text_read self.old.source (text_lines number text.now)) }
         ensures tracks { OnOk result (Tracks self.new) }
@@ -230,7 +229,7 @@ impl Reader {
 }
 
 /// The lines of the texts, or the first fault of a line or a text's end.
-fn read_texts(alloc: Global, texts: &[Vec<u8>]) -> Result<Reader, Stop>
+fn read_texts<'a>(alloc: Global, texts: &'a [Vec<u8>]) -> Result<Reader<'a>, Stop>
     ensures read { Gives (λ reader. reader.source) result (reading (texts_of texts.now)) }
     ensures tracks { IfOk result Tracks }
 {

@@ -76,7 +76,7 @@ fn rule_when(
 /// What the fields of a Rule line say.
 #[tactic(auto, unfolding(crate::specs::Reading::rule_line, crate::specs::Reading::rule_of))]
 pub(crate) fn rule_line(alloc: Global, place: Place, fields: &Fields) -> Result<Rule, Stop>
-    ensures { Gives (λ rule. rule) result (rule_line place fields.now.whole) }
+    ensures { Gives (λ rule. rule) result (rule_line place fields.now) }
 {
     if fields.len() != 10 {
         return Err(Stop::at(place, Kind::FieldCount));

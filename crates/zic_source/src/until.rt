@@ -26,9 +26,9 @@ pub struct Until {
 }
 
 /// The field so many behind the first, or what a missing one means.
-fn field_or<'a>(fields: &'a Fields, first: usize, behind: usize, missing: &'a [u8]) -> &'a [u8]
-    requires { first ≤ length fields.now.whole }
-    ensures { result.now ≡ slice_index_or fields.now.whole (first + behind) missing.now }
+fn field_or<'a>(fields: &'a Fields<'a>, first: usize, behind: usize, missing: &'a [u8]) -> &'a [u8]
+    requires { first ≤ length fields.now }
+    ensures { result.now ≡ slice_index_or fields.now (first + behind) missing.now }
 {
     if behind < fields.len() - first {
         fields.get(first + behind)
@@ -58,8 +58,8 @@ fn until_at(year_field: &[u8], month_field: &[u8], day: &[u8], time: &[u8]) -> O
 /// The UNTIL whose fields begin at this one: YEAR [MONTH [DAY [TIME]]], or none where there is no such field.
 #[tactic(auto, unfolding(crate::specs::Until::until_of))]
 pub(crate) fn parse_until(fields: &Fields, first: usize) -> Option<Option<Until>>
-    requires { length (drop first fields.now.whole) ≤ 4 }
-    ensures { result ≡ until_of (drop first fields.now.whole) }
+    requires { length (drop first fields.now) ≤ 4 }
+    ensures { result ≡ until_of (drop first fields.now) }
 {
     if first >= fields.len() {
         return Some(None);

@@ -33,11 +33,11 @@ pub struct ZoneLine {
 #[tactic(auto, unfolding(crate::specs::Reading::zone_fields))]
 fn zone_fields(alloc: Global, place: Place, fields: &Fields, until: usize) -> Result<ZoneLine, Stop>
     requires three { 3 ≤ until }
-    requires least { until ≤ length fields.now.whole }
-    requires most { length fields.now.whole ≤ until + 4 }
-    ensures { Gives (λ line. line) result (zone_fields place (slice_index_or fields.now.whole (until - 3) [])
-        (slice_index_or fields.now.whole (until - 2) []) (slice_index_or fields.now.whole (until - 1) [])
-        (drop until fields.now.whole)) }
+    requires least { until ≤ length fields.now }
+    requires most { length fields.now ≤ until + 4 }
+    ensures { Gives (λ line. line) result (zone_fields place (slice_index_or fields.now (until - 3) [])
+        (slice_index_or fields.now (until - 2) []) (slice_index_or fields.now (until - 1) [])
+        (drop until fields.now)) }
 {
     let Some(offset) = offset(fields.get(until - 3)) else {
         return Err(Stop::at(place, Kind::Offset));
@@ -63,7 +63,7 @@ pub(crate) fn continuation_line(
     place: Place,
     fields: &Fields,
 ) -> Result<ZoneLine, Stop>
-    ensures { Gives (λ line. line) result (continuation_line place fields.now.whole) }
+    ensures { Gives (λ line. line) result (continuation_line place fields.now) }
 {
     if fields.len() < 3 || fields.len() > 7 {
         return Err(Stop::at(place, Kind::FieldCount));
@@ -78,7 +78,7 @@ pub(crate) fn zone_line(
     place: Place,
     fields: &Fields,
 ) -> Result<(Name, ZoneLine), Stop>
-    ensures { Gives (λ zone. (zone.0, zone.1)) result (zone_line place fields.now.whole) }
+    ensures { Gives (λ zone. (zone.0, zone.1)) result (zone_line place fields.now) }
 {
     if fields.len() < 5 || fields.len() > 9 {
         return Err(Stop::at(place, Kind::FieldCount));

@@ -1,11 +1,14 @@
-use Rattle.std.proofs.Common.{◌∷◌, ◌∙◌, eqb, ap, List, ℕ, Option}
-use Rattle.std.specs.Borrow.{Bor}
-use Rattle.zic_source.specs.Parts.{other_parts}
-use Rattle.zic_source.proofs.FirstLines.{line_ended, last_line}
+use Rattle.std.proofs.Common.{◌∷◌, ◌+◌, List, ℕ, take, ap, sym, ◌∙◌}
+use Rattle.std.proofs.lemmas.List.{take_rest}
+use Rattle.zic_source.specs.Line.{lines_of}
+use Rattle.zic_source.proofs.FirstLines.{found, not_found}
 use Rattle.zic_source.proofs.reading.first_line.Goals as goal
 
 pub returns-in-None-clause-line : goal.returns-in-None-clause-line
-returns-in-None-clause-line c = last_line c.args.text.now c.split_once.result.0.now c.requires (c.split_once.ensures.parts ∙ ap (λ (o : Option (Bor (List ℕ))). c.split_once.result.0.now ∷ other_parts (λ byte. eqb byte 10) o) c.in-None.is)
+returns-in-None-clause-line c = not_found c.args.text.now c.requires c.in-None.ensures
 
 pub returns-in-Some-clause-line : goal.returns-in-Some-clause-line
-returns-in-Some-clause-line c = line_ended c.args.text.now c.split_once.result.0.now c.in-Some.rest.now (c.split_once.ensures.parts ∙ ap (λ (o : Option (Bor (List ℕ))). c.split_once.result.0.now ∷ other_parts (λ byte. eqb byte 10) o) c.in-Some.is)
+returns-in-Some-clause-line c =
+    let text : List ℕ = c.args.text.now in
+    found text c.in-Some.«end» c.in-Some.ensures
+    ∙ ap (λ (rest : List ℕ). take c.in-Some.«end» text ∷ lines_of rest) (sym (take_rest text (c.in-Some.«end» + 1)))

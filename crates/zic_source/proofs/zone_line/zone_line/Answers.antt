@@ -8,7 +8,7 @@ use Rattle.zic_source.proofs.zone_line.zone_line.Goals as goal
 
 pub returns-then-not-is_name : goal.returns-then-not-is_name
 returns-then-not-is_name c =
-    let fields = c.args.fields.now.whole in
+    let fields = c.args.fields.now in
     let least : 5 ≤ length fields = omega arith in
     let most : length fields ≤ 9 = omega arith in
     rw c.at-then-not-is_name.ensures (zone_at c.args.place fields c.get-name.result.now least most c.get-name.ensures ∙ rw (sym c.if-not-is_name.ensures) refl)
@@ -16,7 +16,7 @@ returns-then-not-is_name c =
 pub returns-in_err-line : goal.returns-in_err-line
 returns-in_err-line c =
     let p = err_from_is_err_and c.from_residual.result c.from_residual.ensures.1 in
-    let fields = c.args.fields.now.whole in
+    let fields = c.args.fields.now in
     let name = c.get-name.result.now in
     let least : 5 ≤ length fields = omega arith in
     let most : length fields ≤ 9 = omega arith in
@@ -27,7 +27,7 @@ returns-in_err-line c =
 
 pub returns : goal.returns
 returns c =
-    let fields = c.args.fields.now.whole in
+    let fields = c.args.fields.now in
     let name = c.get-name.result.now in
     let least : 5 ≤ length fields = omega arith in
     let most : length fields ≤ 9 = omega arith in
