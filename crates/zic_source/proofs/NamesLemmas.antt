@@ -84,28 +84,28 @@ pub nobody : (names : Names) (source : SourceLines) (name : List ℕ) → Indexe
 nobody names source name is = names_tell names source name is (who names name) refl (is_named source name) refl
 
 -- what was told of names is told after a new name
-module _ (f g : List ℕ → Option Named) (name : List ℕ) (one : Named) (fresh : is_some (f name) ≡ false) (told : (other : List ℕ) → g other ≡ cond (bytes_eq other name) (Some one) (f other)) where
+module _ (f g : List ℕ → Option Named) (name : List ℕ) (one : Named) (fresh : is_some (f name) ≡ false) (told : (other : List ℕ) → g other ≡ cond (bytes_eq name other) (Some one) (f other)) where
   told_new : g name ≡ Some one
   told_new = told name ∙ ap (λ (b : Bool). cond b (Some one) (f name)) (bytes_eq_itself name)
 
-  told_by : (other : List ℕ) (who : Named) → f other ≡ Some who → (b : Bool) → bytes_eq other name ≡ b → cond b (Some one) (f other) ≡ Some who
+  told_by : (other : List ℕ) (who : Named) → f other ≡ Some who → (b : Bool) → bytes_eq name other ≡ b → cond b (Some one) (f other) ≡ Some who
   told_by other who e true same = absurd (
-      let some : is_some (f name) ≡ true = ap (λ (l : List ℕ). is_some (f l)) (sym (bytes_eq_means other name same)) ∙ ap (λ (o : Option Named). is_some o) e in cc)
+      let some : is_some (f name) ≡ true = ap (λ (l : List ℕ). is_some (f l)) (bytes_eq_means name other same) ∙ ap (λ (o : Option Named). is_some o) e in cc)
   told_by other who e false same = e
 
   told_still : (other : List ℕ) (who : Named) → f other ≡ Some who → g other ≡ Some who
-  told_still other who e = told other ∙ told_by other who e (bytes_eq other name) refl
+  told_still other who e = told other ∙ told_by other who e (bytes_eq name other) refl
 
-  told_from : (other : List ℕ) (who : Named) (b : Bool) → bytes_eq other name ≡ b → cond b (Some one) (f other) ≡ Some who → ((name ≡ other) × (one ≡ who)) ⊎ (f other ≡ Some who)
-  told_from other who true same e = inl (sym (bytes_eq_means other name same), cc)
+  told_from : (other : List ℕ) (who : Named) (b : Bool) → bytes_eq name other ≡ b → cond b (Some one) (f other) ≡ Some who → ((name ≡ other) × (one ≡ who)) ⊎ (f other ≡ Some who)
+  told_from other who true same e = inl (bytes_eq_means name other same, cc)
   told_from other who false same e = inr e
 
   told_cases : (other : List ℕ) (who : Named) → g other ≡ Some who → ((name ≡ other) × (one ≡ who)) ⊎ (f other ≡ Some who)
-  told_cases other who e = told_from other who (bytes_eq other name) refl (sym (told other) ∙ e)
+  told_cases other who e = told_from other who (bytes_eq name other) refl (sym (told other) ∙ e)
 
 -- a zone's name is new
 pub zone_kept : (names names' : Names) (source : SourceLines) (zone : ZoneLines) → Indexes names source → is_named source zone.name ≡ false
-    → ((other : List ℕ) → who names' other ≡ cond (bytes_eq other zone.name) (Some (named.Zone (length source.zones))) (who names other))
+    → ((other : List ℕ) → who names' other ≡ cond (bytes_eq zone.name other) (Some (named.Zone (length source.zones))) (who names other))
     → Indexes names' (record source { zones = source.zones ++ zone ∷ [] })
 zone_kept names names' source zone is new told =
     let one : Named = named.Zone (length source.zones) in
@@ -130,7 +130,7 @@ zone_kept names names' source zone is new told =
 
 -- a link's name is new
 pub link_kept : (names names' : Names) (source : SourceLines) (link : Link) → Indexes names source → is_named source link.name ≡ false
-    → ((other : List ℕ) → who names' other ≡ cond (bytes_eq other link.name) (Some (named.Link (length source.links))) (who names other))
+    → ((other : List ℕ) → who names' other ≡ cond (bytes_eq link.name other) (Some (named.Link (length source.links))) (who names other))
     → Indexes names' (record source { links = source.links ++ link ∷ [] })
 link_kept names names' source link is new told =
     let one : Named = named.Link (length source.links) in

@@ -17,16 +17,16 @@ use Rattle.zic_source.specs.Reading.{fault_at, with_zone, with_link, is_full_of_
 use Rattle.zic_source.proofs.NamesLemmas.{nobody}
 use Rattle.zic_source.proofs.ZoneLists.{continued_lines}
 
--- what a look-up tells
-pub looked_up : (names : Names) (source : SourceLines) (name octets : List ℕ) (found : Option Named) (b : Bool) → Indexes names source → octets ≡ name → found ≡ who names octets → b ≡ is_some found → is_named source name ≡ b
-looked_up names source name octets found b is same e h =
+-- what the look-up of a copy of a name tells
+pub looked_up : (names : Names) (source : SourceLines) (name copy : List ℕ) (found : Option Named) (b : Bool) → Indexes names source → copy ≡ name → found ≡ who names copy → b ≡ is_some found → is_named source name ≡ b
+looked_up names source name copy found b is same e h =
     sym (nobody names source name is) ∙ ap (λ (n : List ℕ). is_some (who names n)) (sym same) ∙ ap is_some (sym e) ∙ sym h
 
 -- what an insertion tells, of the name itself
 pub inserted : (names names' : Names) (key name : List ℕ) (at at' : Named) → key ≡ name → at ≡ at'
-    → ((other : List ℕ) → who names' other ≡ cond (bytes_eq other key) (Some at) (who names other)) → (other : List ℕ) → who names' other ≡ cond (bytes_eq other name) (Some at') (who names other)
+    → ((other : List ℕ) → who names' other ≡ cond (bytes_eq key other) (Some at) (who names other)) → (other : List ℕ) → who names' other ≡ cond (bytes_eq name other) (Some at') (who names other)
 inserted names names' key name at at' same same_at h other =
-    h other ∙ ap (λ (k : List ℕ). cond (bytes_eq other k) (Some at) (who names other)) same ∙ ap (λ (a : Named). cond (bytes_eq other name) (Some a) (who names other)) same_at
+    h other ∙ ap (λ (k : List ℕ). cond (bytes_eq k other) (Some at) (who names other)) same ∙ ap (λ (a : Named). cond (bytes_eq name other) (Some a) (who names other)) same_at
 
 pub full_of_lines : (source : SourceLines) (n : ℕ) → n ≡ length (zone_lines_of source) → 10_000 ≤ n → is_full_of_lines source ≡ true
 full_of_lines source n e le = le-leb _ _ (omega arith)

@@ -1,6 +1,6 @@
 -- How the code finds who has a name; no public contract cites it.
 use Rattle.std.specs.Prelude.{◌≡◌, ℕ, List, Option, Some, slice_get, IsSomeAnd, bytes_eq}
-use Rattle.std.specs.HashMap.{get_by}
+use Rattle.std.specs.HashMap.{get}
 use Rattle.zic_source.specs.declared.link.Link.{Link}
 use Rattle.zic_source.specs.declared.names.Named.{Named}
 use Rattle.zic_source.specs.declared.names.Named.TheVariants as named
@@ -9,7 +9,7 @@ use Rattle.zic_source.specs.Source.{SourceLines, ZoneLines}
 
 -- who has this name
 abbrev pub who : Names → List ℕ → Option Named
-who names name = get_by (λ key. bytes_eq name key.items) names.names
+who names name = get bytes_eq names.names name
 
 -- The names are those of the zones and links of the source, each of one of them.
 pub record Indexes (names : Names) (source : SourceLines) : Type 0 where

@@ -45,7 +45,7 @@ fn follow(
         }
         ends[link] = Some(End::Never);
         path.push(link)?;
-        match names.get(source.link(link).target.octets()) {
+        match names.get(&source.link(link).target) {
             None => return Ok(End::Nowhere),
             Some(Named::Zone(_)) => return Ok(End::Zone),
             Some(Named::Link(next)) => link = next,

@@ -1,6 +1,6 @@
 //! What one line says.
 
-ghost use Rattle.std.specs.Prelude.{option_map};
+ghost use Rattle.std.specs.Prelude.{Some};
 ghost use Rattle.zic_source.specs.Stop.{Gives};
 ghost use Rattle.zic_source.specs.Zone as lines;
 ghost use Rattle.zic_source.specs.Reading.{entry_of, keyword_line};
@@ -46,21 +46,19 @@ fn keyword_line(alloc: Global, place: Place, fields: &Fields) -> Result<Entry, S
     }
 }
 
-/// What fields say: nothing where there is none. Where a continuation line is awaited they are its fields.
+/// What fields say. Where a continuation line is awaited they are its fields.
 #[tactic(auto, unfolding(crate::specs::Reading::entry_of))]
 pub(crate) fn line_entry(
     alloc: Global,
     awaited: bool,
     place: Place,
     fields: &Fields,
-) -> Result<Option<Entry>, Stop>
-    ensures { Gives (λ entry. option_map lines.line_entry entry) result (entry_of awaited place fields.now) }
+) -> Result<Entry, Stop>
+    requires { 0 < length fields.now }
+    ensures { Gives (λ entry. Some (lines.line_entry entry)) result (entry_of awaited place fields.now) }
 {
-    if fields.len() == 0 {
-        return Ok(None);
-    }
     if awaited {
-        return Ok(Some(Entry::Continuation(continuation_line(alloc, place, fields)?)));
+        return Ok(Entry::Continuation(continuation_line(alloc, place, fields)?));
     }
-    Ok(Some(keyword_line(alloc, place, fields)?))
+    keyword_line(alloc, place, fields)
 }

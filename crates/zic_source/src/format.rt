@@ -11,13 +11,14 @@ use crate::fault::{Kind, Stop};
 use crate::field::is_dash;
 use crate::place::Place;
 use crate::split::split_once;
+use smallvec::SmallVec;
 use std::alloc::{AllocError, Global};
 use std::marker::Model;
 
 /// A part of a FORMAT; clauses see its octets, which are printable ASCII and white space.
 #[derive(Debug, Drop)]
 pub struct FormatPart {
-    text: Vec<u8>,
+    text: SmallVec<u8, 16>,
 }
 
 impl Model for FormatPart {
@@ -36,7 +37,7 @@ impl FormatPart {
         ensures { IfOk result (λ part. part ≡ octets.now) }
     {
         Ok(FormatPart {
-            text: Vec::from_slice(alloc, octets)?,
+            text: SmallVec::from_slice(alloc, octets)?,
         })
     }
 

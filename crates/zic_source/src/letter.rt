@@ -1,10 +1,11 @@
 //! Letters of rules.
 
-ghost use Rattle.std.specs.Prelude.{◌≡◌, option_map};
+ghost use Rattle.std.specs.Prelude.{◌≡◌};
 ghost use Rattle.std.specs.List.{list_all};
 ghost use Rattle.zic_source.specs.Letter.{is_letter_byte, letter_of};
 
 use crate::field::is_dash;
+use arrayvec::ArrayVec;
 use std::marker::Model;
 
 /// How many bytes a letter may have.
@@ -13,7 +14,7 @@ const LONGEST_LETTER: usize = 16;
 /// What `%s` of a FORMAT stands for: at most 16 ASCII letters, digits, `+` and `-`; clauses see its octets.
 #[derive(Debug, Drop)]
 pub struct Letter {
-    text: Vec<u8>,
+    text: ArrayVec<u8, LONGEST_LETTER>,
 }
 
 impl Model for Letter {
@@ -25,13 +26,6 @@ impl Model for Letter {
 }
 
 impl Letter {
-    /// The letter of these octets; the field `-` is the empty letter.
-    pub(crate) fn new(text: Vec<u8>) -> Self
-        ensures { result ≡ text.items }
-    {
-        Letter { text }
-    }
-
     /// The octets, empty where the field is `-`.
     pub fn octets(&self) -> &[u8]
         ensures { result.now ≡ self.now }
@@ -55,15 +49,15 @@ fn are_letter_bytes(field: &[u8]) -> bool
 
 /// LETTER: at most 16 of the allowed bytes; the field `-` is the empty letter.
 #[tactic(auto, unfolding(crate::specs::Letter::letter_of))]
-pub(crate) fn letter_octets(field: &[u8]) -> Option<&[u8]>
-    ensures { option_map (λ letter. letter.now) result ≡ letter_of field.now }
+pub(crate) fn parse_letter(field: &[u8]) -> Option<Letter>
+    ensures { result ≡ letter_of field.now }
 {
+    let mut text = ArrayVec::new();
     if is_dash(field) {
-        return Some(&field[..0]);
+        return Some(Letter { text });
     }
-    if field.len() <= LONGEST_LETTER && are_letter_bytes(field) {
-        Some(field)
-    } else {
-        None
+    if !are_letter_bytes(field) || text.try_extend_from_slice(field).is_err() {
+        return None;
     }
+    Some(Letter { text })
 }

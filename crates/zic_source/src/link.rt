@@ -38,7 +38,7 @@ pub(crate) fn link_line(alloc: Global, place: Place, fields: &Fields) -> Result<
     }
     Ok(Link {
         place,
-        target: Name::new(Vec::from_slice(alloc, target)?),
-        name: Name::new(Vec::from_slice(alloc, name)?),
+        target: Name::new(alloc, target)?,
+        name: Name::new(alloc, name)?,
     })
 }

@@ -1,10 +1,18 @@
 //! Names of zones and links.
 
-ghost use Rattle.std.specs.Prelude.{◌≡◌, ◌==◌};
+ghost use Rattle.std.specs.Prelude.{◌≡◌, ◌==◌, IfOk, bytes_eq};
+ghost use Rattle.std.specs.Hash as fed;
+ghost use Rattle.std.specs.Cmp.{partial_equiv_from_equiv};
+ghost use Rattle.std.specs.Cmp.Lexicographic.{nat_list_eq_equiv};
+ghost use Rattle.std.specs.Cmp.Rules.{hashing};
+ghost use Rattle.std.proofs.Common.{rules};
 ghost use Rattle.std.specs.List.{list_all, slice_split};
 ghost use Rattle.zic_source.specs.Name.{is_name, is_name_byte, is_name_part};
 
 use crate::field::is_dash;
+use smallvec::SmallVec;
+use std::alloc::{AllocError, Global};
+use std::hash::{Hash, Hasher};
 use std::marker::Model;
 
 /// How many bytes a name may have.
@@ -13,7 +21,7 @@ pub(crate) const LONGEST_NAME: usize = 255;
 /// The name of a zone or a link: 1 to 255 ASCII letters, digits, `_`, `-`, `+`, `.` and `/`; clauses see its octets.
 #[derive(Debug, Drop)]
 pub struct Name {
-    text: Vec<u8>,
+    text: SmallVec<u8, 32>,
 }
 
 impl Model for Name {
@@ -26,10 +34,11 @@ impl Model for Name {
 
 impl Name {
     /// The name of these octets.
-    pub(crate) fn new(text: Vec<u8>) -> Self
-        ensures { result ≡ text.items }
+    pub(crate) fn new(alloc: Global, octets: &[u8]) -> Result<Self, AllocError>
+        ensures { IfOk result (λ name. name ≡ octets.now) }
     {
-        Name { text }
+        let text = SmallVec::from_slice(alloc, octets)?;
+        Ok(Name { text })
     }
 
     /// The octets.
@@ -37,6 +46,38 @@ impl Name {
         ensures { result.now ≡ self.now }
     {
         &self.text
+    }
+}
+
+impl Clone for Name {
+    ghost is_clone = { λ name copy. copy ≡ name };
+
+    fn clone(&self) -> Result<Name, AllocError> {
+        Name::new(*self.text.allocator(), self.octets())
+    }
+}
+
+impl PartialEq for Name {
+    ghost eq = { bytes_eq };
+
+    ghost laws = { partial_equiv_from_equiv nat_list_eq_equiv };
+
+    fn eq(&self, other: &Name) -> bool {
+        self.octets() == other.octets()
+    }
+}
+
+impl Eq for Name {
+    ghost laws = { nat_list_eq_equiv };
+}
+
+impl Hash for Name {
+    ghost hash_input = { fed.slice fed.u8 };
+
+    ghost respects_eq = { Prim.search (hashing, rules) };
+
+    fn hash<H: Hasher>(&self, state: &mut H) {
+        self.octets().hash(state);
     }
 }
 

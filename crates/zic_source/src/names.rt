@@ -1,9 +1,10 @@
 //! Who has a name.
 
-ghost use Rattle.std.specs.Prelude.{◌≡◌, ℕ, List, Some, OnOk, if◌then◌else◌, bytes_eq};
+ghost use Rattle.std.specs.Prelude.{◌≡◌, ℕ, List, Some, IfOk, OnOk, if◌then◌else◌, bytes_eq};
 ghost use Rattle.zic_source.specs.Source.{no_lines};
 ghost use Rattle.zic_source.specs.Names.{who, Indexes};
 
+use crate::name::Name;
 use std::alloc::{AllocError, Global};
 use std::collections::HashMap;
 
@@ -17,7 +18,7 @@ pub(crate) enum Named {
 /// The names of zones and links.
 #[derive(Drop)]
 pub(crate) struct Names {
-    names: HashMap<Vec<u8>, Named>,
+    names: HashMap<Name, Named>,
 }
 
 impl Names {
@@ -31,17 +32,17 @@ impl Names {
     }
 
     /// Who has this name, if anyone.
-    pub(crate) fn get(&self, name: &[u8]) -> Option<Named>
+    pub(crate) fn get(&self, name: &Name) -> Option<Named>
         ensures { result ≡ who self.now name.now }
     {
         self.names.get(name).copied()
     }
 
-    /// Gives this name to a zone or a link.
-    pub(crate) fn insert(&mut self, name: Vec<u8>, named: Named) -> Result<(), AllocError>
-        ensures { OnOk result ((other : List ℕ) → who self.new other ≡ (if bytes_eq other name.items then Some named else who self.old other)) }
+    /// Gives this name to a zone or a link, and tells who had it before, if anyone.
+    pub(crate) fn insert(&mut self, name: Name, named: Named) -> Result<Option<Named>, AllocError>
+        ensures before { IfOk result (λ before. before ≡ who self.old name) }
+        ensures named { OnOk result ((other : List ℕ) → who self.new other ≡ (if bytes_eq name other then Some named else who self.old other)) }
     {
-        self.names.insert(name, named)?;
-        Ok(())
+        Ok(self.names.insert(name, named)?)
     }
 }

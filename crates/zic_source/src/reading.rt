@@ -1,6 +1,6 @@
 //! Source texts, line by line.
 
-ghost use Rattle.std.specs.Prelude.{◌≡◌, ◌∷◌, ◌<◌, Ok, IfOk, IfErr, OnOk, length, option_map};
+ghost use Rattle.std.specs.Prelude.{◌≡◌, ◌∷◌, ◌<◌, Ok, IfOk, IfErr, Some, OnOk, length};
 ghost use Rattle.zic_source.specs.Source.{SourceLines, no_lines};
 ghost use Rattle.zic_source.specs.Zone.{line_entry};
 ghost use Rattle.zic_source.specs.Stop.{Gives};
@@ -76,13 +76,12 @@ impl<'a> Reader<'a> {
 
     /// Adds a rule, where there may be one more of its set and of all.
     #[tactic(auto, unfolding(crate::specs::Reading::with_rule))]
-    fn add_rule(&mut self, alloc: Global, place: Place, rule: Rule) -> Result<(), Stop>
+    fn add_rule(&mut self, place: Place, rule: Rule) -> Result<(), Stop>
         requires { Tracks self.old }
         ensures read { Gives (λ _. self.new.source) result (with_rule place self.old.source rule) }
         ensures tracks { OnOk result (Tracks self.new) }
     {
-        let name = Vec::from_slice(alloc, rule.name.octets())?;
-        self.sizes.add(place, name)?;
+        self.sizes.add(place, &rule.name)?;
         if self.source.rules() >= MOST_RULES {
             return Err(Stop::at(place, Kind::TooMany));
         }
@@ -111,14 +110,13 @@ impl<'a> Reader<'a> {
         ensures read { Gives (λ _. self.new.source) result (with_zone place self.old.source name line) }
         ensures tracks { OnOk result (Tracks self.new) }
     {
-        if self.names.get(name.octets()).is_some() {
+        let zone = Named::Zone(self.source.zones());
+        if self.names.insert(name.clone()?, zone)?.is_some() {
             return Err(Stop::at(place, Kind::DuplicateName));
         }
         if self.zone_lines >= MOST_ZONE_LINES || self.is_full_of_names() {
             return Err(Stop::at(place, Kind::TooMany));
         }
-        let key = Vec::from_slice(alloc, name.octets())?;
-        self.names.insert(key, Named::Zone(self.source.zones()))?;
         self.source.push_zone(Zone {
             name,
             first: line,
@@ -148,41 +146,39 @@ impl<'a> Reader<'a> {
 
     /// Adds a link, where its name is new.
     #[tactic(auto, unfolding(crate::specs::Reading::with_link))]
-    fn add_link(&mut self, alloc: Global, place: Place, link: Link) -> Result<(), Stop>
+    fn add_link(&mut self, place: Place, link: Link) -> Result<(), Stop>
         requires { Tracks self.old }
         ensures read { Gives (λ _. self.new.source) result (with_link place self.old.source link) }
         ensures tracks { OnOk result (Tracks self.new) }
     {
-        if self.names.get(link.name.octets()).is_some() {
+        let named = Named::Link(self.source.links());
+        if self.names.insert(link.name.clone()?, named)?.is_some() {
             return Err(Stop::at(place, Kind::DuplicateName));
         }
         if self.is_full_of_names() {
             return Err(Stop::at(place, Kind::TooMany));
         }
-        let key = Vec::from_slice(alloc, link.name.octets())?;
-        self.names.insert(key, Named::Link(self.source.links()))?;
         self.source.push_link(link)?;
         Ok(())
     }
 
     /// Adds what a line says.
     #[tactic(auto, unfolding(crate::specs::Reading::with_entry))]
-    fn add(&mut self, alloc: Global, place: Place, entry: Option<Entry>) -> Result<(), Stop>
+    fn add(&mut self, alloc: Global, place: Place, entry: Entry) -> Result<(), Stop>
         requires { Tracks self.old }
         ensures read { Gives (λ _. self.new.source) result
-            (with_entry place self.old.source (option_map line_entry entry)) }
+            (with_entry place self.old.source (Some (line_entry entry))) }
         ensures tracks { OnOk result (Tracks self.new) }
     {
         match entry {
-            None => Ok(()),
-            Some(Entry::Rule(rule)) => self.add_rule(alloc, place, rule),
-            Some(Entry::Zone(name, line)) => self.add_zone(alloc, place, name, line),
-            Some(Entry::Continuation(line)) => self.add_continuation(place, line),
-            Some(Entry::Link(link)) => self.add_link(alloc, place, link),
+            Entry::Rule(rule) => self.add_rule(place, rule),
+            Entry::Zone(name, line) => self.add_zone(alloc, place, name, line),
+            Entry::Continuation(line) => self.add_continuation(place, line),
+            Entry::Link(link) => self.add_link(place, link),
         }
     }
 
-    /// Reads a line.
+    /// Reads a line, which may be blank.
     #[tactic(auto, unfolding(crate::specs::Reading::line_read))]
     fn read_line(&mut self, alloc: Global, place: Place, line: &'a [u8]) -> Result<(), Stop>
         requires { Tracks self.old }
@@ -192,6 +188,9 @@ impl<'a> Reader<'a> {
     {
         self.fields.take_line(alloc, place, line)?;
         let awaited = self.source.open_place().is_some();
+        if self.fields.len() == 0 {
+            return Ok(());
+        }
         let entry = line_entry(alloc, awaited, place, &self.fields)?;
         self.add(alloc, place, entry)
     }

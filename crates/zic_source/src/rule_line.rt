@@ -7,7 +7,7 @@ use crate::clock::{ClockTime, clock_time};
 use crate::day_form::day_form;
 use crate::fault::{Kind, Stop};
 use crate::field::{Fields, is_dash};
-use crate::letter::{Letter, letter_octets};
+use crate::letter::parse_letter;
 use crate::month::month;
 use crate::place::Place;
 use crate::rule::Rule;
@@ -93,12 +93,12 @@ pub(crate) fn rule_line(alloc: Global, place: Place, fields: &Fields) -> Result<
     let Some(saving) = save(fields.get(8)) else {
         return Err(Stop::at(place, Kind::Save));
     };
-    let Some(letter) = letter_octets(fields.get(9)) else {
+    let Some(letter) = parse_letter(fields.get(9)) else {
         return Err(Stop::at(place, Kind::Letter));
     };
     Ok(Rule {
         place,
-        name: SetName::new(Vec::from_slice(alloc, name)?),
+        name: SetName::new(alloc, name)?,
         first: years.first,
         last: years.last,
         month: when.month,
@@ -107,6 +107,6 @@ pub(crate) fn rule_line(alloc: Global, place: Place, fields: &Fields) -> Result<
         form: when.at.form,
         save: saving.seconds,
         daylight: saving.daylight,
-        letter: Letter::new(Vec::from_slice(alloc, letter)?),
+        letter,
     })
 }

@@ -50,5 +50,5 @@ pub(crate) fn parse_rules(alloc: Global, place: Place, field: &[u8]) -> Result<R
     if !is_set_name(field) {
         return Err(Stop::at(place, Kind::Name));
     }
-    Ok(Rules::Set(SetName::new(Vec::from_slice(alloc, field)?)))
+    Ok(Rules::Set(SetName::new(alloc, field)?))
 }

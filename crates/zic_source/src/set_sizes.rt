@@ -1,7 +1,6 @@
 //! How many rules each set has.
 
 ghost use Rattle.std.specs.Prelude.{◌≡◌, ◌+◌, ℕ, List, Ok, Err, OnOk, if◌then◌else◌, nat_le, bytes_eq};
-ghost use Rattle.std.specs.Global.{Vec};
 ghost use Rattle.zic_source.specs.declared.fault.Kind.TheVariants.{TooMany};
 ghost use Rattle.zic_source.specs.declared.rule.Rule.{Rule};
 ghost use Rattle.zic_source.specs.Stop.{Gives};
@@ -11,6 +10,7 @@ ghost use Rattle.zic_source.specs.Whole.{is_set};
 
 use crate::fault::{Kind, Stop};
 use crate::place::Place;
+use crate::set_name::SetName;
 use std::alloc::Global;
 use std::collections::HashMap;
 
@@ -20,7 +20,7 @@ const MOST_RULES_OF_SET: usize = 1000;
 /// How many Rule lines each set has so far.
 #[derive(Drop)]
 pub(crate) struct SetSizes {
-    sizes: HashMap<Vec<u8>, usize>,
+    sizes: HashMap<SetName, usize>,
 }
 
 impl SetSizes {
@@ -36,21 +36,24 @@ impl SetSizes {
     }
 
     /// Counts one more rule of the set, where it may have one more.
-    pub(crate) fn add(&mut self, place: Place, name: Vec<u8>) -> Result<(), Stop>
-        ensures limit { Gives (λ done. done) result (if nat_le 1000 (counted self.old name) then Err (fault_at place TooMany) else Ok tt) }
-        ensures one_more { OnOk result ((other : Vec ℕ) → counted self.new other
-            ≡ counted self.old other + (if bytes_eq other.items name.items then 1 else 0)) }
+    pub(crate) fn add(&mut self, place: Place, name: &SetName) -> Result<(), Stop>
+        ensures limit { Gives (λ done. done) result (if nat_le 1000 (counted self.old name.now) then Err (fault_at place TooMany) else Ok tt) }
+        ensures one_more { OnOk result ((other : List ℕ) → counted self.new other
+            ≡ counted self.old other + (if bytes_eq other name.now then 1 else 0)) }
     {
-        let size = self.sizes.get(&name).copied().unwrap_or(0);
-        if size >= MOST_RULES_OF_SET {
+        let Some(size) = self.sizes.get_mut(name) else {
+            self.sizes.insert(name.clone()?, 1)?;
+            return Ok(());
+        };
+        if *size >= MOST_RULES_OF_SET {
             return Err(Stop::at(place, Kind::TooMany));
         }
-        self.sizes.insert(name, size + 1)?;
+        *size += 1;
         Ok(())
     }
 
     /// Whether the set has a rule.
-    pub(crate) fn has(&self, name: &[u8]) -> bool
+    pub(crate) fn has(&self, name: &SetName) -> bool
         ensures { (rules : List Rule) → Counts self.now rules → result ≡ is_set rules name.now }
     {
         self.sizes.get(name).copied().unwrap_or(0) > 0

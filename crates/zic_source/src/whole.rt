@@ -45,7 +45,7 @@ fn line_fault(line: &ZoneLine, sizes: &SetSizes) -> Option<Fault>
     ensures { (rules : List Rule) → Counts sizes.now rules → IsFirst (LineIsRight rules line.now) (LineHas rules line.now) result }
 {
     match &line.rules {
-        Rules::Set(name) if !sizes.has(name.octets()) => Some(Fault {
+        Rules::Set(name) if !sizes.has(name) => Some(Fault {
             place: line.place,
             kind: Kind::UnknownRules,
         }),

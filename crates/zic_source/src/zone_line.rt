@@ -88,5 +88,5 @@ pub(crate) fn zone_line(
         return Err(Stop::at(place, Kind::Name));
     }
     let line = zone_fields(alloc, place, fields, 5)?;
-    Ok((Name::new(Vec::from_slice(alloc, name)?), line))
+    Ok((Name::new(alloc, name)?, line))
 }

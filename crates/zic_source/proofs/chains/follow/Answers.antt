@@ -19,19 +19,19 @@ returns-in-Some c =
 
 pub returns-in-None : goal.returns-in-None
 returns-in-None c =
-    let to : who c.args.names.now c.link.result.now.target ≡ None = ap (who c.args.names.now) (sym c.octets.ensures) ∙ sym c.in-None.ensures in
+    let to : who c.args.names.now c.link.result.now.target ≡ None = sym c.in-None.ensures in
     let end : ChainEnds c.args.source.now c.loop-ends.link ends.Nowhere = of_number c.args.source.now c.loop-ends.link c.link.result.now ends.Nowhere c.link.ensures (ends_nowhere c.args.names.now c.args.source.now c.requires.names c.link.result.now to) in
     let over = walk_stops_after c.requires.names c.loop-ends.invariant ends.Nowhere _ c.in_ok-push.ensures.items end in
     record { within = over.within; right = over.right; others = over.others; found = over.found }
 
 pub returns-in-Some-Zone : goal.returns-in-Some-Zone
 returns-in-Some-Zone c =
-    let to : who c.args.names.now c.link.result.now.target ≡ Some (named.Zone c.in-Some-Zone.field-0-0) = ap (who c.args.names.now) (sym c.octets.ensures) ∙ sym c.in-Some-Zone.ensures ∙ ap (λ (n : Named). Some n) c.in-Some-Zone.field-0-is in
+    let to : who c.args.names.now c.link.result.now.target ≡ Some (named.Zone c.in-Some-Zone.field-0-0) = sym c.in-Some-Zone.ensures ∙ ap (λ (n : Named). Some n) c.in-Some-Zone.field-0-is in
     let end : ChainEnds c.args.source.now c.loop-ends.link ends.Zone = of_number c.args.source.now c.loop-ends.link c.link.result.now ends.Zone c.link.ensures (ends_at_zone c.args.names.now c.args.source.now c.requires.names c.link.result.now c.in-Some-Zone.field-0-0 to) in
     let over = walk_stops_after c.requires.names c.loop-ends.invariant ends.Zone _ c.in_ok-push.ensures.items end in
     record { within = over.within; right = over.right; others = over.others; found = over.found }
 
 pub loop-ends-preserved : goal.loop-ends-preserved
 loop-ends-preserved c =
-    let to : who c.args.names.now c.link.result.now.target ≡ Some (named.Link c.in-Some-Link.next) = ap (who c.args.names.now) (sym c.octets.ensures) ∙ sym c.in-Some-Link.ensures ∙ ap (λ (n : Named). Some n) c.in-Some-Link.field-0-is in
+    let to : who c.args.names.now c.link.result.now.target ≡ Some (named.Link c.in-Some-Link.next) = sym c.in-Some-Link.ensures ∙ ap (λ (n : Named). Some n) c.in-Some-Link.field-0-is in
     walk_on c.requires.names c.loop-ends.invariant c.link.result.now c.in-Some-Link.next _ c.in_ok-push.ensures.items c.link.ensures to

@@ -12,7 +12,5 @@ returns-then-not-is_name-2 c =
 pub returns : goal.returns
 returns c =
     let three : length c.args.fields.now ≡ 3 = sym c.len.ensures ∙ c.if-len-ne3.false in
-    let target = c.new.ensures ∙ c.in_ok-from_slice.ensures.items in
-    let name = c.new-2.ensures ∙ c.in_ok-from_slice-2.ensures.items in
     link_at c.args.place c.args.fields.now c.get-target.result.now c.get-name.result.now three c.get-target.ensures c.get-name.ensures
-    ∙ rw (sym c.if-not-is_name.ensures, sym c.if-not-is_name-2.ensures, target, name) refl
+    ∙ rw (sym c.if-not-is_name.ensures, sym c.if-not-is_name-2.ensures, c.in_ok-new.ensures, c.in_ok-new-2.ensures) refl

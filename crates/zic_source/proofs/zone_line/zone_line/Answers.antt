@@ -31,5 +31,4 @@ returns c =
     let name = c.get-name.result.now in
     let least : 5 ≤ length fields = omega arith in
     let most : length fields ≤ 9 = omega arith in
-    let named = c.new.ensures ∙ c.in_ok-from_slice.ensures.items in
-    zone_at c.args.place fields name least most c.get-name.ensures ∙ rw (sym c.if-not-is_name.ensures, c.in_ok-line.ensures, named) refl
+    zone_at c.args.place fields name least most c.get-name.ensures ∙ rw (sym c.if-not-is_name.ensures, c.in_ok-line.ensures, c.in_ok-new.ensures) refl

@@ -1,7 +1,5 @@
-use Rattle.std.proofs.Common.{rules, ◌≡◌, ℕ, ◌<◌, ◌+◌, ◌^◌, Bool, true, false, cond, ltb, List, [], ◌∷◌, length, Option, refl, ap, ◌∙◌, arith}
-use denote.RawPtr.{null_ptr}
+use Rattle.std.proofs.Common.{◌≡◌, ℕ, ◌+◌, Bool, true, false, cond, ltb, List, [], ◌∷◌, Option, refl, ap, ◌∙◌, arith}
 use Rattle.std.specs.Prelude.{◌||◌, bytes_eq, unwrap_or}
-use Rattle.std.specs.Global.{Vec}
 use Rattle.std.specs.Cmp.Lexicographic.{nat_list_eq_equiv}
 use Rattle.std.proofs.lemmas.Bool.{lt-ltb}
 use Rattle.std.proofs.lemmas.List.Sums.{sum_by-cons}
@@ -9,10 +7,6 @@ use Rattle.zic_source.specs.declared.rule.Rule.{Rule}
 use Rattle.zic_source.specs.Source.{set_size}
 use Rattle.zic_source.specs.Whole.{is_set}
 use Rattle.zic_source.proofs.set_sizes.SetSizes.has.Goals as goal
-
--- a vector of these octets, somewhere
-vec_of : (xs : List ℕ) → length xs < 2 ^ 63 → Vec ℕ
-vec_of xs small = record { ptr = null_ptr; len = length xs; cap = length xs; alloc = record { memory = record { seal = tt } }; items = xs; ok = (refl, omega arith); small = small }
 
 one_more : (b any : Bool) (n : ℕ) → ltb 0 n ≡ any → ltb 0 (cond b 1 0 + n) ≡ (b || any)
 one_more true any n e = lt-ltb 0 (1 + n) (omega arith)
@@ -25,9 +19,6 @@ is_set_size (rule ∷ rules) name =
     ∙ ap (λ (b : Bool). b || is_set rules name) (nat_list_eq_equiv.symm name rule.name)
 
 pub returns : goal.returns
-unfolding vec_of
-returns c =
-    let bound : length c.args.name.now < 2 ^ 63 = search rules in
-    λ rules counts.
-    let size : c.unwrap_or.result ≡ set_size c.args.name.now rules = c.unwrap_or.ensures ∙ ap (λ (o : Option ℕ). unwrap_or o 0) (c.copied.ensures ∙ c.get.ensures.value) ∙ counts (vec_of c.args.name.now bound) in
+returns c = λ rules counts.
+    let size : c.unwrap_or.result ≡ set_size c.args.name.now rules = c.unwrap_or.ensures ∙ ap (λ (o : Option ℕ). unwrap_or o 0) (c.copied.ensures ∙ c.get.ensures.value) ∙ counts c.args.name.now in
     ap (ltb 0) size ∙ is_set_size rules c.args.name.now
