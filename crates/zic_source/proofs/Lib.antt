@@ -2,7 +2,8 @@ pub mod SameBytes
 pub mod Steps
 pub mod Binds
 pub mod Words
-pub mod OnlyWords
+pub mod OnlyPlaces
+pub mod FirstLetters
 pub mod Splits
 pub mod Scan
 pub mod FieldEnds

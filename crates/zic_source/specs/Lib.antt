@@ -12,6 +12,7 @@ pub mod Line
 pub mod Field
 pub mod Taken
 pub mod Word
+pub mod FirstLetter
 pub mod Keyword
 pub mod Name
 pub mod Time

@@ -1,33 +1,40 @@
 //! Which day of the month a rule names.
 
-ghost use Rattle.std.specs.Prelude.{◌≡◌, ◌≤◌, ◌<◌, ◌==◌, IfSome, option_map};
+ghost use Rattle.std.specs.Prelude.{◌≡◌, ◌≤◌, ◌<◌, ◌==◌, IfSome, map, option_map};
 ghost use Rattle.std.specs.List.{slice_split};
 ghost use Rattle.std.specs.Int.{IsInRange};
 ghost use Rattle.zic_calendar.specs.Calendar.{month_length};
-ghost use Rattle.zic_source.specs.DayForm.{weekday_of, day_within, last_weekday, both_parts, weekday_and_day, day_form_of};
+ghost use Rattle.zic_source.specs.FirstLetter.{endings};
+ghost use Rattle.zic_source.specs.DayForm.{weekday_words, weekday_of, day_within, last_weekday, both_parts, weekday_and_day, day_form_of};
 
 use crate::split::split_once;
 use crate::time::number;
-use crate::word::{begins_word, only_word};
+use crate::word::only_place;
 use zic_calendar::{On, days_in_month};
 
-const WEEKDAYS: [&[u8]; 7] = [
-    b"Sunday",
-    b"Monday",
-    b"Tuesday",
-    b"Wednesday",
-    b"Thursday",
-    b"Friday",
-    b"Saturday",
-];
+/// How the weekdays that begin with this letter go on, and the place of each in the week.
+fn endings(letter: u8) -> &'static [(u8, &'static [u8])]
+    ensures { map (λ weekday. (weekday.0, weekday.1.now)) result.now ≡ endings letter weekday_words }
+{
+    match letter {
+        b's' => &[(0, b"unday"), (6, b"aturday")],
+        b'm' => &[(1, b"onday")],
+        b't' => &[(2, b"uesday"), (4, b"hursday")],
+        b'w' => &[(3, b"ednesday")],
+        b'f' => &[(5, b"riday")],
+        _ => &[],
+    }
+}
 
 /// A weekday, 0 (Sunday) to 6, from its name in English or a prefix of it that no other weekday has.
 #[tactic(auto, unfolding(crate::specs::DayForm::weekday_of))]
 fn weekday(field: &[u8]) -> Option<u8>
     ensures { result ≡ weekday_of field.now }
 {
-    let place = only_word(&WEEKDAYS, field)?;
-    Some(place as u8)
+    match field {
+        [first, rest @ ..] => only_place(endings(first.to_ascii_lowercase()), rest),
+        [] => None,
+    }
 }
 
 /// A day of the month: one or two digits, from 1 to the longest.
@@ -48,7 +55,7 @@ fn day_within(longest: u8, field: &[u8]) -> Option<u8>
 fn last_weekday(field: &[u8]) -> Option<u8>
     ensures { result ≡ last_weekday field.now }
 {
-    if !begins_word(field, b"last") || field.len() < 4 {
+    if field.len() < 4 || !field[..4].eq_ignore_ascii_case(b"last") {
         return None;
     }
     weekday(&field[4..])

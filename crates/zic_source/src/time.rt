@@ -15,7 +15,15 @@ pub(crate) const MOST_DIGITS: usize = 9;
 pub(crate) const DAY: u32 = 86400;
 
 /// Billionths in a second.
-const BILLION: u128 = 1_000_000_000;
+const BILLION: u32 = 1_000_000_000;
+
+/// A time without its sign.
+#[derive(Clone, Copy, Debug)]
+struct Time {
+    seconds: u64,
+    /// What it has beyond its seconds, below a billion.
+    billionths: u32,
+}
 
 /// The number that the text spells in decimal digits: at least one, and at most so many.
 #[tactic(auto, unfolding(crate::specs::Time::number))]
@@ -58,60 +66,82 @@ fn decimals(text: &[u8]) -> Option<u32>
     Some(n * 10u32.pow((MOST_DIGITS - text.len()) as u32))
 }
 
-/// Seconds below 60, with decimals where there is a point, in billionths.
+/// Seconds below 60, with decimals where there is a point.
 #[tactic(auto, unfolding(crate::specs::Time::seconds_from))]
-fn seconds(text: &[u8]) -> Option<u64>
-    ensures value { result ≡ seconds_from (slice_split (λ byte. byte == 46) text.now) }
-    ensures fits { IfSome result (λ time. time < 10 ^ 11) }
+fn seconds(text: &[u8]) -> Option<Time>
+    ensures value { option_map (λ time. 10 ^ 9 * time.seconds + time.billionths) result ≡ seconds_from (slice_split (λ byte. byte == 46) text.now) }
+    ensures seconds { IfSome result (λ time. time.seconds < 60) }
+    ensures billionths { IfSome result (λ time. time.billionths < 10 ^ 9) }
 {
     let (whole, fraction) = split_once(text, b'.');
-    let whole = 1_000_000_000 * sixtieths(whole)?;
+    let seconds = sixtieths(whole)?;
     let Some(fraction) = fraction else {
-        return Some(whole);
+        return Some(Time {
+            seconds,
+            billionths: 0,
+        });
     };
     let (fraction, more) = split_once(fraction, b'.');
     match more {
         None => {
-            let fraction = decimals(fraction)?;
-            Some(whole + u64::from(fraction))
+            let billionths = decimals(fraction)?;
+            Some(Time {
+                seconds,
+                billionths,
+            })
         }
         Some(_) => None,
     }
 }
 
-/// Hours, or hours and minutes, or hours, minutes and seconds, without a sign, in billionths of a second.
+/// Hours, or hours and minutes, or hours, minutes and seconds, without a sign.
 #[tactic(auto, unfolding(crate::specs::Time::magnitude_from))]
-fn magnitude(text: &[u8]) -> Option<u128>
-    ensures { result ≡ magnitude text.now }
+fn magnitude(text: &[u8]) -> Option<Time>
+    ensures value { option_map (λ time. 10 ^ 9 * time.seconds + time.billionths) result ≡ magnitude text.now }
+    ensures seconds { IfSome result (λ time. time.seconds < 10 ^ 13) }
+    ensures billionths { IfSome result (λ time. time.billionths < 10 ^ 9) }
 {
     let (hours, minutes) = split_once(text, b':');
     let hours = 3600 * u64::from(number(hours, MOST_DIGITS)?);
     let Some(minutes) = minutes else {
-        return Some(BILLION * u128::from(hours));
+        return Some(Time {
+            seconds: hours,
+            billionths: 0,
+        });
     };
+    // Most times are hours and minutes.
+    if let Some(minutes) = sixtieths(minutes) {
+        return Some(Time {
+            seconds: hours + 60 * minutes,
+            billionths: 0,
+        });
+    }
     let (minutes, rest) = split_once(minutes, b':');
     let minutes = hours + 60 * sixtieths(minutes)?;
-    let Some(rest) = rest else {
-        return Some(BILLION * u128::from(minutes));
-    };
+    let rest = rest?;
     let (rest, more) = split_once(rest, b':');
     match more {
         None => {
             let rest = seconds(rest)?;
-            Some(BILLION * u128::from(minutes) + u128::from(rest))
+            let seconds = minutes + rest.seconds;
+            Some(Time {
+                seconds,
+                billionths: rest.billionths,
+            })
         }
         Some(_) => None,
     }
 }
 
-/// The whole second that is nearest to so many billionths, and of two that are as near the even one.
-fn nearest_second(time: u128) -> u128
-    ensures value { result ≡ rounded time }
-    ensures nearest { IsNearestSecond time result }
+/// The whole second that is nearest to a time, and of two that are as near the even one.
+fn nearest_second(time: Time) -> u64
+    requires seconds { time.seconds < 10 ^ 13 }
+    requires billionths { time.billionths < 10 ^ 9 }
+    ensures value { result ≡ rounded (10 ^ 9 * time.seconds + time.billionths) }
+    ensures nearest { IsNearestSecond (10 ^ 9 * time.seconds + time.billionths) result }
 {
-    let whole = time / BILLION;
-    let rest = time % BILLION;
-    match (2 * rest).cmp(&BILLION) {
+    let whole = time.seconds;
+    match (2 * time.billionths).cmp(&BILLION) {
         Ordering::Less => whole,
         Ordering::Equal => whole + whole % 2,
         Ordering::Greater => whole + 1,
@@ -126,7 +156,7 @@ fn whole_seconds(text: &[u8], limit: u32) -> Option<u32>
 {
     let time = magnitude(text)?;
     let seconds = nearest_second(time);
-    if seconds <= u128::from(limit) {
+    if seconds <= u64::from(limit) {
         Some(seconds as u32)
     } else {
         None

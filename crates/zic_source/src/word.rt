@@ -1,30 +1,43 @@
 //! Words, in full or cut.
 
-ghost use Rattle.std.specs.Prelude.{◌≡◌, ◌<◌, IfSome, length, map};
-ghost use Rattle.zic_source.specs.Word.{begins_word, only_word};
+ghost use Rattle.std.specs.Prelude.{◌≡◌, ◌&&◌, length, map, nat_eq, nat_lt};
+ghost use Rattle.std.specs.List.{starts_with};
+ghost use Rattle.std.specs.Str.{str_to_ascii_lowercase};
+ghost use Rattle.zic_source.specs.FirstLetter.{only_place};
 
-/// Whether the field is the word or a nonempty prefix of it, in any ASCII case.
-pub(crate) fn begins_word(word: &[u8], field: &[u8]) -> bool
-    ensures { result ≡ begins_word word.now field.now }
+/// Whether a text in lower case begins with this front, which may have any ASCII case.
+fn begins(text: &[u8], front: &[u8]) -> bool
+    ensures { result ≡ starts_with nat_eq text.now (str_to_ascii_lowercase front.now) }
 {
-    if field.is_empty() || word.len() < field.len() {
+    if text.len() < front.len() {
         return false;
     }
-    word[..field.len()].eq_ignore_ascii_case(field)
+    for (index, byte) in front.iter().enumerate() {
+        if byte.to_ascii_lowercase() != text[index] {
+            return false;
+        }
+    }
+    true
 }
 
-/// The place of the only word that begins with the field, in any ASCII case.
-pub(crate) fn only_word(words: &[&[u8]], field: &[u8]) -> Option<usize>
-    ensures place { result ≡ only_word (map (λ word. word.now) words.now) field.now }
-    ensures within { IfSome result (λ place. place < length words.now) }
+/// Whether the field is a word in lower case or a nonempty prefix of it, in any ASCII case.
+pub(crate) fn begins_word(word: &[u8], field: &[u8]) -> bool
+    ensures { result ≡ (nat_lt 0 (length field.now) && starts_with nat_eq word.now (str_to_ascii_lowercase field.now)) }
+{
+    !field.is_empty() && begins(word, field)
+}
+
+/// The place that stands beside the only text, of some in lower case, that begins with this front in any ASCII case.
+pub(crate) fn only_place(texts: &[(u8, &[u8])], front: &[u8]) -> Option<u8>
+    ensures { result ≡ only_place (map (λ text. (text.0, text.1.now)) texts.now) front.now }
 {
     let mut found = None;
-    for (place, word) in words.iter().enumerate() {
-        if begins_word(word, field) {
+    for (place, text) in texts {
+        if begins(text, front) {
             if found.is_some() {
                 return None;
             }
-            found = Some(place);
+            found = Some(*place);
         }
     }
     found
