@@ -10,4 +10,4 @@ pub use Rattle.zic_rules.specs.Zone
 pub use Rattle.zic_rules.specs.Tail
 pub use Rattle.zic_rules.specs.Fault
 pub use Rattle.zic_source.specs.Source
-pub use Rattle.zic_source.specs.Stop
+pub use Rattle.zic_lines.specs.Stop

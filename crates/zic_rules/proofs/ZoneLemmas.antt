@@ -2,8 +2,8 @@
 use Rattle.std.proofs.Common.{◌≡◌, ℕ, ℤ, pos, ◌<◌, ◌≤◌, true, false, [], length, Option, Some, None, inl, inr, sym, ap, subst, ◌∙◌, arith}
 use Rattle.std.specs.Prelude.{IfSome, IsSomeAnd, slice_get, unsigned_abs}
 use Rattle.std.proofs.lemmas.Option.{slice_get_cases}
-use Rattle.zic_source.specs.declared.zone_line.ZoneLine.{ZoneLine}
-use Rattle.zic_source.specs.declared.fault.Kind.TheVariants.{OffsetRange, BadAbbreviation}
+use Rattle.zic_lines.specs.declared.zone_line.ZoneLine.{ZoneLine}
+use Rattle.zic_lines.specs.declared.fault.Kind.TheVariants.{OffsetRange, BadAbbreviation}
 use Rattle.zic_source.specs.Source.{SourceLines, ZoneLines, zone_at, lines_of_zone}
 use Rattle.zic_rules.specs.State.{Shown}
 use Rattle.zic_rules.specs.Change.{AreChanges}

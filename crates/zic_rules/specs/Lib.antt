@@ -4,4 +4,4 @@ pub mod State
 pub mod Tail
 pub mod Zone
 pub use Rattle.zic_source.specs.Source
-pub use Rattle.zic_source.specs.Stop
+pub use Rattle.zic_lines.specs.Stop

@@ -1,11 +1,12 @@
 -- What a zone's lines say of an instant: zic(8), FILES.
 use Rattle.std.specs.Prelude.{◌≡◌, ◌≢◌, ℕ, ℤ, pos, ◌-ℤ◌, ◌<ℤ◌, ◌≤ℤ◌, Bool, true, false, not, ◌&&◌, List, [], Option, IsSomeAnd}
-use Rattle.zic_source.specs.declared.format.Format.{Format}
-use Rattle.zic_source.specs.declared.format.Format.TheVariants.{Plain, Letter, Offset, Pair}
-use Rattle.zic_source.specs.declared.rules.Rules.{Rules}
-use Rattle.zic_source.specs.declared.rules.Rules.TheVariants.{Standard, Amount, Set}
-use Rattle.zic_source.specs.declared.zone_line.ZoneLine.{ZoneLine}
-use Rattle.zic_source.specs.Source.{SourceLines, ZoneLines, zone_at, has_until}
+use Rattle.zic_lines.specs.declared.format.Format.{Format}
+use Rattle.zic_lines.specs.declared.format.Format.TheVariants.{Plain, Letter, Offset, Pair}
+use Rattle.zic_lines.specs.declared.rules.Rules.{Rules}
+use Rattle.zic_lines.specs.declared.rules.Rules.TheVariants.{Standard, Amount, Set}
+use Rattle.zic_lines.specs.declared.zone_line.ZoneLine.{ZoneLine}
+use Rattle.zic_source.specs.Source.{SourceLines, ZoneLines, zone_at}
+use Rattle.zic_lines.specs.Entry.{has_until}
 use Rattle.zic_rules.specs.State.{Shown}
 
 -- a zone of a source, by its number from 0

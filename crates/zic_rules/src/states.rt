@@ -6,7 +6,7 @@ ghost use Rattle.zic_rules.specs.Fault.{IsLimited};
 ghost use Rattle.zic_rules.specs.State.{shown};
 ghost use Rattle.zic_rules.specs.Tail.{IsTail, HasLimits};
 ghost use Rattle.std.specs.Prelude.{not};
-ghost use Rattle.zic_source.specs.Source.{has_until};
+ghost use Rattle.zic_lines.specs.Entry.{has_until};
 ghost use Rattle.zic_rules.specs.Zone.{Shows, IsFirstState, end_of, line_state, abbreviation_of, is_plain, is_standard, is_one_abbreviation};
 
 use crate::state::State;

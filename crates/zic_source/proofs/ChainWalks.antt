@@ -5,7 +5,7 @@ use Rattle.std.proofs.lemmas.Bool.{cases_eq}
 use Rattle.std.proofs.lemmas.List.{length-set, get_or-set_same, take_more}
 use Rattle.std.proofs.lemmas.List.Elements.{Contains-push_cases, Contains-append_left, Contains-push}
 use Rattle.std.proofs.lemmas.Option.{slice_get-get_or}
-use Rattle.zic_source.specs.declared.link.Link.{Link}
+use Rattle.zic_lines.specs.declared.link.Link.{Link}
 use Rattle.zic_source.specs.declared.chains.End.{End}
 use Rattle.zic_source.specs.declared.chains.End.TheVariants as ends
 use Rattle.zic_source.specs.declared.names.Named.TheVariants as named

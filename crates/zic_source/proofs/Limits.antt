@@ -9,9 +9,9 @@ use Rattle.std.proofs.lemmas.List.Quantifiers.{all_pairs_push}
 use Rattle.std.proofs.lemmas.List.Sums.{sum_by_push, sum_by-append}
 use Rattle.std.proofs.Math.ListN.{get_or-append}
 use Rattle.std.proofs.Math.Seq.{get_or-append_seam}
-use Rattle.zic_source.specs.declared.rule.Rule.{Rule}
+use Rattle.zic_lines.specs.declared.rule.Rule.{Rule}
 use Rattle.zic_source.specs.Source.{set_size}
-use Rattle.zic_source.specs.Entry.{LineEntry, rules_in, zone_entries_in, names_in}
+use Rattle.zic_lines.specs.Entry.{LineEntry, rules_in, zone_entries_in, names_in}
 use Rattle.zic_source.proofs.SameBytes.{bytes_eq_means, bytes_eq_itself}
 
 -- ---- names

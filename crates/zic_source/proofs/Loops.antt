@@ -3,13 +3,13 @@ use Rattle.std.proofs.Common.{◌≡◌, ℕ, ◌+◌, ◌<◌, ◌≤◌, List,
 use Rattle.std.specs.Global.{Vec}
 use Rattle.std.specs.List.{enumerate_from}
 use Rattle.std.proofs.lemmas.List.{drop_more, drop_all, get_or-map}
-use Rattle.zic_source.specs.declared.fault.Fault.{Fault}
-use Rattle.zic_source.specs.declared.fault.Stop.{Stop}
+use Rattle.zic_lines.specs.declared.fault.Fault.{Fault}
+use Rattle.zic_lines.specs.declared.fault.Stop.{Stop}
 use Rattle.zic_source.specs.Source.{SourceLines, no_lines}
-use Rattle.zic_source.specs.Stop.{Stops}
-use Rattle.zic_source.specs.Line.{PlacedLine, lines_of, text_lines, lines_of_texts}
+use Rattle.zic_lines.specs.Stop.{Stops}
+use Rattle.zic_lines.specs.Line.{PlacedLine, lines_of, text_lines, lines_of_texts}
 use Rattle.zic_source.specs.Reading.{line_read, lines_read, text_read, texts_read, reading, texts_of}
-use Rattle.zic_source.proofs.Binds.{bind_ok, bind_stops, stops_at}
+use Rattle.zic_lines.proofs.Binds.{bind_ok, bind_stops, stops_at}
 
 -- the lines of a text from the one of this number on
 abbrev pub numbered : ℕ → ℕ → List (List ℕ) → List PlacedLine

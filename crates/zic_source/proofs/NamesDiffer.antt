@@ -1,7 +1,7 @@
 -- Where no name is given twice, one path of links leads on from a name.
 use Rattle.std.proofs.Common.{◌≡◌, ℕ, true, false, List, [], ◌∷◌, refl, sym, ap, subst, ◌∙◌}
 use Rattle.std.specs.Prelude.{Contains}
-use Rattle.zic_source.specs.declared.link.Link.{Link}
+use Rattle.zic_lines.specs.declared.link.Link.{Link}
 use Rattle.zic_source.specs.Source.{SourceLines, ZoneLines}
 use Rattle.zic_source.specs.Links.{is_link_name, is_zone_name, IsPath}
 use Rattle.zic_source.proofs.Elements.{get_contained}

@@ -4,9 +4,9 @@ use Rattle.std.specs.Prelude.{is_some, slice_get, IsSomeAnd, bytes_eq}
 use Rattle.std.specs.Option.{option_map}
 use Rattle.std.specs.List.{list_any}
 use Rattle.std.proofs.lemmas.Bool.{or_cases, or_left, or_right}
-use Rattle.zic_source.specs.declared.link.Link.{Link}
-use Rattle.zic_source.specs.declared.rule.Rule.{Rule}
-use Rattle.zic_source.specs.declared.zone_line.ZoneLine.{ZoneLine}
+use Rattle.zic_lines.specs.declared.link.Link.{Link}
+use Rattle.zic_lines.specs.declared.rule.Rule.{Rule}
+use Rattle.zic_lines.specs.declared.zone_line.ZoneLine.{ZoneLine}
 use Rattle.zic_source.specs.declared.names.Named.{Named}
 use Rattle.zic_source.specs.declared.names.Named.TheVariants as named
 use Rattle.zic_source.specs.declared.names.Names.{Names}

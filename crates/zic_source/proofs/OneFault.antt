@@ -2,17 +2,17 @@
 use Rattle.std.proofs.Common.{◌≡◌, ℕ, ◌<◌, true, false, ◌⊎◌, inl, inr, List, refl, sym, ap, subst, ◌∙◌}
 use Rattle.std.specs.Prelude.{Contains}
 use Rattle.std.proofs.lemmas.Bool.{not-true, or_parts, cases_order}
-use Rattle.zic_source.specs.declared.place.Place.{Place}
-use Rattle.zic_source.specs.declared.fault.Fault.{Fault}
-use Rattle.zic_source.specs.declared.fault.Kind.{Kind}
-use Rattle.zic_source.specs.declared.fault.Kind.TheVariants.{UnknownRules, UnknownTarget, LinkCycle}
-use Rattle.zic_source.specs.declared.link.Link.{Link}
-use Rattle.zic_source.specs.declared.zone_line.ZoneLine.{ZoneLine}
+use Rattle.zic_lines.specs.declared.place.Place.{Place}
+use Rattle.zic_lines.specs.declared.fault.Fault.{Fault}
+use Rattle.zic_lines.specs.declared.fault.Kind.{Kind}
+use Rattle.zic_lines.specs.declared.fault.Kind.TheVariants.{UnknownRules, UnknownTarget, LinkCycle}
+use Rattle.zic_lines.specs.declared.link.Link.{Link}
+use Rattle.zic_lines.specs.declared.zone_line.ZoneLine.{ZoneLine}
 use Rattle.zic_source.specs.Source.{SourceLines, zone_lines_of}
 use Rattle.zic_source.specs.Links.{is_zone_name, is_link_name, is_named, EndsNowhere, HasNoEnd}
 use Rattle.zic_source.specs.Whole.{HasAt, IsBefore, HasFirst}
 use Rattle.zic_source.specs.FirstFault.{IsFirstFault}
-use Rattle.zic_source.proofs.Steps.{same_ok}
+use Rattle.zic_lines.proofs.Steps.{same_ok}
 use Rattle.zic_source.proofs.OwnPlaces.{PlacesDiffer, places_read}
 
 -- ---- one kind at a place

@@ -3,14 +3,16 @@ use Rattle.std.proofs.Common.{◌≡◌, ℕ, ◌+◌, inl, inr, ⊎_elim, List,
 use Rattle.std.specs.Prelude.{Contains, flat_map}
 use Rattle.std.specs.List.{AllZip, enumerate_from}
 use Rattle.std.proofs.lemmas.List.Elements.{Contains-append_right}
-use Rattle.zic_source.specs.declared.place.Place.{Place}
-use Rattle.zic_source.specs.declared.link.Link.{Link}
-use Rattle.zic_source.specs.declared.zone_line.ZoneLine.{ZoneLine}
+use Rattle.zic_lines.specs.declared.place.Place.{Place}
+use Rattle.zic_lines.specs.declared.link.Link.{Link}
+use Rattle.zic_lines.specs.declared.zone_line.ZoneLine.{ZoneLine}
 use Rattle.zic_source.specs.Source.{ZoneLines, SourceLines, lines_of_zone, zone_lines_of}
-use Rattle.zic_source.specs.Entry.{LineEntry, RuleEntry, ZoneEntry, ContinuationEntry, LinkEntry, links_in, entries_of_zone}
-use Rattle.zic_source.specs.Line.{PlacedLine, lines_of, text_lines, lines_of_texts}
+use Rattle.zic_lines.specs.Entry.{LineEntry, RuleEntry, ZoneEntry, ContinuationEntry, LinkEntry, links_in}
+use Rattle.zic_source.specs.Source.{entries_of_zone}
+use Rattle.zic_lines.specs.Line.{PlacedLine, lines_of, text_lines, lines_of_texts}
 use Rattle.zic_source.specs.Whole.{IsBefore}
-use Rattle.zic_source.specs.Grammar.{Says, said}
+use Rattle.zic_lines.specs.Grammar.{Says}
+use Rattle.zic_source.specs.Grammar.{said}
 use Rattle.zic_source.specs.Reading.{reading}
 use Rattle.zic_source.proofs.Elements.{first_contained, cons_cases, from_flat_map, into_map, Apart, one_of_related}
 use Rattle.zic_source.proofs.FirstFaults.{before_before, not_before_itself}

@@ -4,21 +4,23 @@ use Rattle.std.specs.Prelude.{flat_map, is_some, All}
 use Rattle.std.specs.List.{AllZip}
 use Rattle.std.proofs.lemmas.List.{append-nil}
 use Rattle.std.proofs.lemmas.List.Elements.{All-nil, All-cons, All-head, All-tail}
-use Rattle.zic_source.specs.declared.fault.Fault.{Fault}
-use Rattle.zic_source.specs.declared.fault.Stop.{Stop}
-use Rattle.zic_source.specs.declared.fault.Stop.TheVariants as stops
-use Rattle.zic_source.specs.declared.rule.Rule.{Rule}
-use Rattle.zic_source.specs.declared.link.Link.{Link}
-use Rattle.zic_source.specs.declared.zone_line.ZoneLine.{ZoneLine}
+use Rattle.zic_lines.specs.declared.fault.Fault.{Fault}
+use Rattle.zic_lines.specs.declared.fault.Stop.{Stop}
+use Rattle.zic_lines.specs.declared.fault.Stop.TheVariants as stops
+use Rattle.zic_lines.specs.declared.rule.Rule.{Rule}
+use Rattle.zic_lines.specs.declared.link.Link.{Link}
+use Rattle.zic_lines.specs.declared.zone_line.ZoneLine.{ZoneLine}
 use Rattle.zic_source.specs.Source.{ZoneLines, SourceLines, no_lines, set_size, zone_lines_of}
-use Rattle.zic_source.specs.Entry.{LineEntry, is_continuation, goes_on, rules_in, links_in, zone_entries_in}
-use Rattle.zic_source.specs.Line.{PlacedLine, lines_of_texts}
-use Rattle.zic_source.specs.Grammar.{Says, said, IsContinued, IsSource}
-use Rattle.zic_source.specs.Stop.{Stops}
+use Rattle.zic_lines.specs.Entry.{LineEntry, is_continuation, goes_on, rules_in, links_in, zone_entries_in}
+use Rattle.zic_lines.specs.Line.{PlacedLine, lines_of_texts}
+use Rattle.zic_lines.specs.Grammar.{Says}
+use Rattle.zic_source.specs.Grammar.{said, IsContinued, IsSource}
+use Rattle.zic_lines.specs.Stop.{Stops}
 use Rattle.zic_source.specs.Whole.{IsWhole, StopsWhole}
 use Rattle.zic_source.specs.FirstFault.{IsFirstFault}
-use Rattle.zic_source.specs.Reading.{◌>>=◌, open_line, lines_read, text_ended, text_read, texts_read, reading}
-use Rattle.zic_source.proofs.Steps.{bound, same_ok}
+use Rattle.zic_lines.specs.Reading.{◌>>=◌}
+use Rattle.zic_source.specs.Reading.{open_line, lines_read, text_ended, text_read, texts_read, reading}
+use Rattle.zic_lines.proofs.Steps.{bound, same_ok}
 use Rattle.zic_source.proofs.ZoneLists.{same_zones}
 use Rattle.zic_source.proofs.Limits.{IsWithin, within_front}
 use Rattle.zic_source.proofs.Said.{IsOf, nothing_said, lines_counted}

@@ -2,9 +2,10 @@
 use Rattle.std.proofs.Common.{◌≡◌, ℕ, suc, ⊎_elim, List, [], ◌∷◌, ◌++◌, map, refl, sym, ap, subst, arith}
 use Rattle.std.specs.Prelude.{Contains, flat_map}
 use Rattle.std.proofs.lemmas.Bool.{false_from_ne_true}
-use Rattle.zic_source.specs.declared.link.Link.{Link}
+use Rattle.zic_lines.specs.declared.link.Link.{Link}
 use Rattle.zic_source.specs.Source.{ZoneLines, SourceLines}
-use Rattle.zic_source.specs.Entry.{LineEntry, RuleEntry, ZoneEntry, ContinuationEntry, LinkEntry, links_in, zone_entries_in, names_in, entries_of_zone}
+use Rattle.zic_lines.specs.Entry.{LineEntry, RuleEntry, ZoneEntry, ContinuationEntry, LinkEntry, links_in, zone_entries_in, names_in}
+use Rattle.zic_source.specs.Source.{entries_of_zone}
 use Rattle.zic_source.proofs.SameBytes.{bytes_eq_means}
 use Rattle.zic_source.proofs.Elements.{contains_got, first_contained, cons_cases, from_flat_map, into_flat_map, Apart, one_of_related}
 use Rattle.zic_source.proofs.NamesLemmas.{any_found}

@@ -1,17 +1,18 @@
 -- Texts that are no source have a first fault.
 use Rattle.std.proofs.Common.{◌≡◌, ℕ, Bool, true, false, ◌⊎◌, inl, inr, ⊎_elim, List, [], ◌∷◌, Option, Some, None, Result, Ok, Err, refl, sym, ap, subst}
 use Rattle.std.proofs.lemmas.List.Elements.{Contains-append_right}
-use Rattle.zic_source.specs.declared.place.Place.{Place}
-use Rattle.zic_source.specs.declared.fault.Fault.{Fault}
-use Rattle.zic_source.specs.declared.fault.Kind.TheVariants.{UnknownRules, UnknownTarget, LinkCycle}
-use Rattle.zic_source.specs.declared.rule.Rule.{Rule}
-use Rattle.zic_source.specs.declared.zone_line.ZoneLine.{ZoneLine}
-use Rattle.zic_source.specs.declared.link.Link.{Link}
+use Rattle.zic_lines.specs.declared.place.Place.{Place}
+use Rattle.zic_lines.specs.declared.fault.Fault.{Fault}
+use Rattle.zic_lines.specs.declared.fault.Kind.TheVariants.{UnknownRules, UnknownTarget, LinkCycle}
+use Rattle.zic_lines.specs.declared.rule.Rule.{Rule}
+use Rattle.zic_lines.specs.declared.zone_line.ZoneLine.{ZoneLine}
+use Rattle.zic_lines.specs.declared.link.Link.{Link}
 use Rattle.zic_source.specs.Source.{SourceLines, ZoneLines, lines_of_zone}
 use Rattle.zic_source.specs.Links.{EndsAtZone, EndsNowhere, HasNoEnd}
 use Rattle.zic_source.specs.Whole.{is_unknown, IsBefore, IsWhole, HasFirst}
 use Rattle.zic_source.specs.Grammar.{IsSource}
-use Rattle.zic_source.specs.Reading.{fault_at, reading}
+use Rattle.zic_lines.specs.Reading.{fault_at}
+use Rattle.zic_source.specs.Reading.{reading}
 use Rattle.zic_source.specs.FirstFault.{IsFirstFault}
 use Rattle.zic_source.specs.Faults.{earlier, IsFirst, IsFirstOf, LineIsRight, LineHas, ZoneIsRight, ZoneHas, LinkHas, IsFirstOfZones, IsFirstOfLinks}
 use Rattle.zic_source.proofs.Elements.{first_contained, cons_cases}

@@ -7,9 +7,11 @@ use Rattle.std.proofs.lemmas.List.{append-nil, map-append}
 use Rattle.std.proofs.lemmas.Option.{slice_get-get_or, slice_get_within}
 use Rattle.zic_source.specs.declared.source.Zone.{Zone}
 use Rattle.zic_source.specs.Zone.{zone_lines}
-use Rattle.zic_source.specs.declared.zone_line.ZoneLine.{ZoneLine}
-use Rattle.zic_source.specs.Source.{ZoneLines, SourceLines, lines_of_zone, has_until}
-use Rattle.zic_source.specs.Entry.{LineEntry, RuleEntry, ZoneEntry, ContinuationEntry, LinkEntry, entries_of_zone}
+use Rattle.zic_lines.specs.declared.zone_line.ZoneLine.{ZoneLine}
+use Rattle.zic_source.specs.Source.{ZoneLines, SourceLines, lines_of_zone}
+use Rattle.zic_lines.specs.Entry.{has_until}
+use Rattle.zic_lines.specs.Entry.{LineEntry, RuleEntry, ZoneEntry, ContinuationEntry, LinkEntry}
+use Rattle.zic_source.specs.Source.{entries_of_zone}
 use Rattle.zic_source.specs.Reading.{continued, last_until, open_line}
 
 last_until-append : (lines : List ZoneLine) (line : ZoneLine) (more : List ZoneLine) → last_until (lines ++ line ∷ more) ≡ last_until (line ∷ more)

@@ -1,6 +1,6 @@
 -- How the code finds where the chains of links end; no public contract cites it.
 use Rattle.std.specs.Prelude.{◌≡◌, ℕ, List, Option, Some, Contains, ◌⊎◌, slice_get}
-use Rattle.zic_source.specs.declared.link.Link.{Link}
+use Rattle.zic_lines.specs.declared.link.Link.{Link}
 use Rattle.zic_source.specs.declared.chains.End.{End}
 use Rattle.zic_source.specs.declared.chains.End.TheVariants as ends
 use Rattle.zic_source.specs.Source.{SourceLines}

@@ -1,33 +1,12 @@
 -- The grammar: which texts are a source, and which source: zic(8), FILES, with own limits.
-use Rattle.std.specs.Prelude.{◌≡◌, ◌≢◌, ◌≤◌, ℕ, false, List, [], ◌∷◌, ◌++◌, length, map, flat_map, filter_map, All, AllPairs, Option, Some, None, IsTrue}
+use Rattle.std.specs.Prelude.{◌≡◌, ◌≢◌, ◌≤◌, ℕ, false, List, [], ◌∷◌, ◌++◌, length, map, flat_map, filter_map, All, AllPairs, Option}
 use Rattle.std.specs.List.{AllZip}
-use Rattle.zic_source.specs.declared.place.Place.{Place}
 use Rattle.zic_source.specs.Source.{SourceLines, set_size, zone_lines_of}
-use Rattle.zic_source.specs.Line.{PlacedLine, lines_of_texts}
-use Rattle.zic_source.specs.Field.{is_ascii_code, is_closed, fields}
-use Rattle.zic_source.specs.Entry.{LineEntry, RuleEntry, ZoneEntry, ContinuationEntry, LinkEntry, is_continuation, goes_on, rules_in, zone_entries_in, links_in, names_in, entries_of_zone}
-use Rattle.zic_source.specs.RuleLine.{IsRuleLine}
-use Rattle.zic_source.specs.ZoneLine.{IsZoneLine, IsContinuationLine}
-use Rattle.zic_source.specs.LinkLine.{IsLinkLine}
+use Rattle.zic_lines.specs.Line.{lines_of_texts}
+use Rattle.zic_lines.specs.Entry.{LineEntry, is_continuation, goes_on, rules_in, zone_entries_in, links_in, names_in}
+use Rattle.zic_source.specs.Source.{entries_of_zone}
 use Rattle.zic_source.specs.Whole.{IsWhole}
-
--- a line that can be cut into fields; 2,048 bytes without the newline is an own choice
-pub record IsLine (bytes : List ℕ) : Type 0 where
-  pub short : length bytes ≤ 2048
-  pub ascii : IsTrue (is_ascii_code bytes)
-  pub closed : IsTrue (is_closed bytes)
-
--- The fields at this place say this. A line without fields says nothing.
-abbrev pub FieldsSay : Place → List (List ℕ) → Option LineEntry → Type 0
-FieldsSay place fields None = fields ≡ []
-FieldsSay place fields (Some (RuleEntry rule)) = IsRuleLine place fields rule
-FieldsSay place fields (Some (ZoneEntry name line)) = IsZoneLine place fields name line
-FieldsSay place fields (Some (ContinuationEntry line)) = IsContinuationLine place fields line
-FieldsSay place fields (Some (LinkEntry link)) = IsLinkLine place fields link
-
--- what a line says
-abbrev pub Says : PlacedLine → Option LineEntry → Type 0
-Says line entry = IsLine line.bytes × FieldsSay line.place (fields line.bytes) entry
+use Rattle.zic_lines.specs.Grammar.{Says}
 
 -- what the lines of a text say that aren't blank
 abbrev pub said : List (Option LineEntry) → List LineEntry

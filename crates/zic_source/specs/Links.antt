@@ -2,7 +2,7 @@
 -- Where names differ, a link's chain ends in just one of three ways: at a zone, at a name that isn't there, or never.
 use Rattle.std.specs.Prelude.{◌≡◌, ℕ, Bool, not, ◌||◌, List, [], ◌∷◌, Contains, IsTrue, bytes_eq}
 use Rattle.std.specs.List.{list_any}
-use Rattle.zic_source.specs.declared.link.Link.{Link}
+use Rattle.zic_lines.specs.declared.link.Link.{Link}
 use Rattle.zic_source.specs.Source.{SourceLines, ZoneLines}
 
 -- a link has this name

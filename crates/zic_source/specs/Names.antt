@@ -1,7 +1,7 @@
 -- How the code finds who has a name; no public contract cites it.
 use Rattle.std.specs.Prelude.{◌≡◌, ℕ, List, Option, Some, slice_get, IsSomeAnd, bytes_eq}
 use Rattle.std.specs.HashMap.{get}
-use Rattle.zic_source.specs.declared.link.Link.{Link}
+use Rattle.zic_lines.specs.declared.link.Link.{Link}
 use Rattle.zic_source.specs.declared.names.Named.{Named}
 use Rattle.zic_source.specs.declared.names.Named.TheVariants as named
 use Rattle.zic_source.specs.declared.names.Names.{Names}

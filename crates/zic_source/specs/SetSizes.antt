@@ -1,7 +1,7 @@
 -- How the code counts the rules of each set; no public contract cites it.
 use Rattle.std.specs.Prelude.{◌≡◌, ℕ, List, unwrap_or, bytes_eq}
 use Rattle.std.specs.HashMap.{get}
-use Rattle.zic_source.specs.declared.rule.Rule.{Rule}
+use Rattle.zic_lines.specs.declared.rule.Rule.{Rule}
 use Rattle.zic_source.specs.declared.set_sizes.SetSizes.{SetSizes}
 use Rattle.zic_source.specs.Source.{set_size}
 

@@ -1,8 +1,9 @@
 -- What a source says, as its lines stand: zic(8), FILES.
-use Rattle.std.specs.Prelude.{ℕ, Bool, List, [], ◌∷◌, Option, is_some, slice_get, count_by, flat_map, bytes_eq}
-use Rattle.zic_source.specs.declared.rule.Rule.{Rule}
-use Rattle.zic_source.specs.declared.zone_line.ZoneLine.{ZoneLine}
-use Rattle.zic_source.specs.declared.link.Link.{Link}
+use Rattle.std.specs.Prelude.{map, ℕ, List, [], ◌∷◌, Option, slice_get, count_by, flat_map, bytes_eq}
+use Rattle.zic_lines.specs.declared.rule.Rule.{Rule}
+use Rattle.zic_lines.specs.declared.zone_line.ZoneLine.{ZoneLine}
+use Rattle.zic_lines.specs.declared.link.Link.{Link}
+use Rattle.zic_lines.specs.Entry.{LineEntry, ZoneEntry, ContinuationEntry}
 
 -- a zone: its name, what its Zone line says, and what each continuation line says
 pub record ZoneLines : Type 0 where
@@ -36,6 +37,6 @@ zone_lines_of source = flat_map lines_of_zone source.zones
 abbrev pub zone_at : SourceLines → ℕ → Option ZoneLines
 zone_at source number = slice_get source.zones number
 
--- the line has an UNTIL
-abbrev pub has_until : ZoneLine → Bool
-has_until line = is_some line.until
+-- what the lines of a zone say: its Zone line, and each continuation line
+abbrev pub entries_of_zone : ZoneLines → List LineEntry
+entries_of_zone zone = ZoneEntry zone.name zone.first ∷ map ContinuationEntry zone.continuations

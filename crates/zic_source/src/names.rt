@@ -4,9 +4,9 @@ ghost use Rattle.std.specs.Prelude.{◌≡◌, ℕ, List, Some, IfOk, OnOk, if�
 ghost use Rattle.zic_source.specs.Source.{no_lines};
 ghost use Rattle.zic_source.specs.Names.{who, Indexes};
 
-use crate::name::Name;
 use std::alloc::{AllocError, Global};
 use std::collections::HashMap;
+use zic_words::Name;
 
 /// The zone or link of this number, from 0.
 #[derive(Clone, Copy, Debug, PartialEq, Eq)]

@@ -2,28 +2,22 @@
 
 ghost use Rattle.std.specs.Prelude.{◌≡◌, ◌∷◌, ◌<◌, Ok, IfOk, IfErr, Some, OnOk, length};
 ghost use Rattle.zic_source.specs.Source.{SourceLines, no_lines};
-ghost use Rattle.zic_source.specs.Zone.{line_entry};
-ghost use Rattle.zic_source.specs.Stop.{Gives};
-ghost use Rattle.zic_source.specs.Line.{lines_of, text_lines};
+ghost use Rattle.zic_lines.specs.Seen.{line_entry};
+ghost use Rattle.zic_lines.specs.Stop.{Gives};
+ghost use Rattle.zic_lines.specs.Line.{lines_of, text_lines};
 ghost use Rattle.zic_source.specs.Reading.{reading, texts_of, with_rule, with_zone, with_continuation, with_link, with_entry, is_full_of_names, line_read, lines_read, text_read};
 ghost use Rattle.zic_source.specs.Reader.{Tracks};
 ghost use Rattle.zic_source.specs.Grammar.{IsSource};
 ghost use Rattle.zic_source.specs.FirstFault.{StopsReading};
 
-use crate::entry::{Entry, line_entry};
-use crate::fault::{Kind, Stop};
-use crate::field::Fields;
-use crate::link::Link;
-use crate::name::Name;
 use crate::names::{Named, Names};
-use crate::place::Place;
-use crate::rule::Rule;
 use crate::set_sizes::SetSizes;
 use crate::source::{Source, Zone};
 use crate::whole::check_whole;
-use crate::zone_line::ZoneLine;
 use memchr::memchr;
 use std::alloc::Global;
+use zic_lines::{Entry, Fields, Kind, Link, Place, Rule, Stop, ZoneLine, line_entry};
+use zic_words::Name;
 
 /// How many Rule lines there may be.
 const MOST_RULES: usize = 10_000;

@@ -1,18 +1,17 @@
 //! How many rules each set has.
 
 ghost use Rattle.std.specs.Prelude.{◌≡◌, ◌+◌, ℕ, List, Ok, Err, OnOk, if◌then◌else◌, nat_le, bytes_eq};
-ghost use Rattle.zic_source.specs.declared.fault.Kind.TheVariants.{TooMany};
-ghost use Rattle.zic_source.specs.declared.rule.Rule.{Rule};
-ghost use Rattle.zic_source.specs.Stop.{Gives};
-ghost use Rattle.zic_source.specs.Reading.{fault_at};
+ghost use Rattle.zic_lines.specs.declared.fault.Kind.TheVariants.{TooMany};
+ghost use Rattle.zic_lines.specs.declared.rule.Rule.{Rule};
+ghost use Rattle.zic_lines.specs.Stop.{Gives};
+ghost use Rattle.zic_lines.specs.Reading.{fault_at};
 ghost use Rattle.zic_source.specs.SetSizes.{counted, Counts};
 ghost use Rattle.zic_source.specs.Whole.{is_set};
 
-use crate::fault::{Kind, Stop};
-use crate::place::Place;
-use crate::set_name::SetName;
 use std::alloc::Global;
 use std::collections::HashMap;
+use zic_lines::{Kind, Place, Stop};
+use zic_words::SetName;
 
 /// How many Rule lines a set may have.
 const MOST_RULES_OF_SET: usize = 1000;

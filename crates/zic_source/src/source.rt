@@ -5,13 +5,10 @@ ghost use Rattle.std.specs.Option.{ForSome};
 ghost use Rattle.zic_source.specs.Zone.{zone_lines};
 ghost use Rattle.zic_source.specs.Source.{zone_at, lines_of_zone};
 
-use crate::link::Link;
-use crate::name::Name;
-use crate::place::Place;
-use crate::rule::Rule;
-use crate::zone_line::ZoneLine;
 use std::alloc::{AllocError, Global};
 use std::marker::Model;
+use zic_lines::{Link, Place, Rule, ZoneLine};
+use zic_words::Name;
 
 /// A zone's name, its Zone line and its continuation lines.
 #[derive(Debug, Drop)]

@@ -1,7 +1,7 @@
 //! What can be wrong with a source only as a whole.
 
 ghost use Rattle.std.specs.Prelude.{◌≡◌, ◌<◌, List, Some, length, IfOk, IfErr, IfSome};
-ghost use Rattle.zic_source.specs.declared.rule.Rule.{Rule};
+ghost use Rattle.zic_lines.specs.declared.rule.Rule.{Rule};
 ghost use Rattle.zic_source.specs.Source.{SourceLines, zone_at};
 ghost use Rattle.zic_source.specs.SetSizes.{Counts};
 ghost use Rattle.zic_source.specs.Names.{Indexes};
@@ -12,15 +12,11 @@ ghost use Rattle.zic_source.specs.Faults.{is_before, earlier, IsFirst, LineIsRig
 ghost use Rattle.zic_source.specs.Whole.{IsWhole, StopsWhole};
 
 use crate::chains::{End, chain_ends};
-use crate::fault::{Fault, Kind, Stop};
-use crate::link::Link;
 use crate::names::Names;
-use crate::place::Place;
-use crate::rules::Rules;
 use crate::set_sizes::SetSizes;
 use crate::source::Source;
-use crate::zone_line::ZoneLine;
 use std::alloc::{AllocError, Global};
+use zic_lines::{Fault, Kind, Link, Place, Rules, Stop, ZoneLine};
 
 /// Whether one place stands before the other.
 fn is_before(place: Place, other: Place) -> bool

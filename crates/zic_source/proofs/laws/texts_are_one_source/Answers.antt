@@ -1,6 +1,6 @@
 use Rattle.std.proofs.Common.{sym, ◌∙◌}
 use Rattle.zic_source.proofs.ReadSources.{source_is_read}
-use Rattle.zic_source.proofs.Steps.{same_ok}
+use Rattle.zic_lines.proofs.Steps.{same_ok}
 use Rattle.zic_source.proofs.laws.texts_are_one_source.Goals as goal
 
 pub returns : goal.returns

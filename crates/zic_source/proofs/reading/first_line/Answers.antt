@@ -1,6 +1,6 @@
 use Rattle.std.proofs.Common.{◌∷◌, ◌+◌, List, ℕ, take, ap, sym, ◌∙◌}
 use Rattle.std.proofs.lemmas.List.{take_rest}
-use Rattle.zic_source.specs.Line.{lines_of}
+use Rattle.zic_lines.specs.Line.{lines_of}
 use Rattle.zic_source.proofs.FirstLines.{found, not_found}
 use Rattle.zic_source.proofs.reading.first_line.Goals as goal
 

@@ -1,7 +1,7 @@
 use Rattle.std.proofs.Common.{Ok, sym, ◌∙◌}
 use Rattle.std.proofs.lemmas.Result.{err_from_is_err_and}
 use Rattle.zic_source.specs.Reading.{texts_of}
-use Rattle.zic_source.proofs.Binds.{stops_at}
+use Rattle.zic_lines.proofs.Binds.{stops_at}
 use Rattle.zic_source.proofs.ReadSources.{read_is_source, source_is_read, never_stops}
 use Rattle.zic_source.proofs.reading.read_source.Goals as goal
 

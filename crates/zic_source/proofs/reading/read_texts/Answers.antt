@@ -2,7 +2,7 @@ use Rattle.std.proofs.Common.{◌≤◌, ◌<◌, ◌∙◌, sym, length, arith}
 use Rattle.std.proofs.lemmas.List.{length-map}
 use Rattle.std.proofs.lemmas.Result.{err_from_is_err_and}
 use Rattle.zic_source.specs.Reading.{texts_of}
-use Rattle.zic_source.proofs.Binds.{stops_at}
+use Rattle.zic_lines.proofs.Binds.{stops_at}
 use Rattle.zic_source.proofs.Loops.{texts_go_on, texts_stop, texts_ended, text_at, reading_is}
 use Rattle.zic_source.proofs.reading.read_texts.Goals as goal
 

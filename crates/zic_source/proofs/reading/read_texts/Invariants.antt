@@ -1,6 +1,6 @@
 use Rattle.std.proofs.Common.{◌≡◌, ◌+◌, drop}
 use Rattle.zic_source.specs.Source.{no_lines}
-use Rattle.zic_source.specs.Line.{lines_of_texts}
+use Rattle.zic_lines.specs.Line.{lines_of_texts}
 use Rattle.zic_source.specs.Reading.{texts_read, texts_of}
 use Rattle.zic_source.specs.Reader.{Tracks}
 use Rattle.zic_source.proofs.Loops.{lines_from}

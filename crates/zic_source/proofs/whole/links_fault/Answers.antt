@@ -1,7 +1,7 @@
 use Rattle.std.proofs.Common.{◌<◌, List, length, Some, subst, ◌∙◌, arith}
 use Rattle.std.proofs.lemmas.List.{take_all}
 use Rattle.std.proofs.lemmas.Option.{get_or_from_slice_get}
-use Rattle.zic_source.specs.declared.link.Link.{Link}
+use Rattle.zic_lines.specs.declared.link.Link.{Link}
 use Rattle.zic_source.specs.Links.{EndsAtZone}
 use Rattle.zic_source.specs.Faults.{LinkHas, IsFirst, IsFirstOf}
 use Rattle.zic_source.proofs.FirstFaults.{first_of_more}

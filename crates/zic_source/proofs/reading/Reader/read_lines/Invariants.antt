@@ -1,5 +1,5 @@
 use Rattle.std.proofs.Common.{◌≡◌, ◌+◌, ◌≤◌, length}
-use Rattle.zic_source.specs.Line.{lines_of, text_lines}
+use Rattle.zic_lines.specs.Line.{lines_of, text_lines}
 use Rattle.zic_source.specs.Reading.{lines_read}
 use Rattle.zic_source.specs.Reader.{Tracks}
 use Rattle.zic_source.proofs.Loops.{numbered}

@@ -3,7 +3,7 @@ use Rattle.std.specs.Prelude.{◌||◌, bytes_eq, unwrap_or}
 use Rattle.std.specs.Cmp.Lexicographic.{nat_list_eq_equiv}
 use Rattle.std.proofs.lemmas.Bool.{lt-ltb}
 use Rattle.std.proofs.lemmas.List.Sums.{sum_by-cons}
-use Rattle.zic_source.specs.declared.rule.Rule.{Rule}
+use Rattle.zic_lines.specs.declared.rule.Rule.{Rule}
 use Rattle.zic_source.specs.Source.{set_size}
 use Rattle.zic_source.specs.Whole.{is_set}
 use Rattle.zic_source.proofs.set_sizes.SetSizes.has.Goals as goal

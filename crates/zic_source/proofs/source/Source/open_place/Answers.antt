@@ -1,7 +1,7 @@
 use Rattle.std.proofs.Common.{◌-◌, Bool, cond, List, Some, None, length, refl, sym, ap, ◌∙◌}
 use Rattle.std.specs.Option.{option_map}
 use Rattle.std.specs.Prelude.{slice_get}
-use Rattle.zic_source.specs.declared.zone_line.ZoneLine.{ZoneLine}
+use Rattle.zic_lines.specs.declared.zone_line.ZoneLine.{ZoneLine}
 use Rattle.zic_source.specs.declared.source.Zone.{Zone}
 use Rattle.zic_source.specs.Source.{SourceLines}
 use Rattle.zic_source.proofs.ZoneLists.{open_found}

@@ -1,0 +1,27 @@
+-- The grammar of a line: zic(8), FILES, with own limits.
+use Rattle.std.specs.Prelude.{◌≡◌, ◌≤◌, ℕ, List, [], length, Option, Some, None, IsTrue}
+use Rattle.zic_lines.specs.declared.place.Place.{Place}
+use Rattle.zic_lines.specs.Line.{PlacedLine}
+use Rattle.zic_lines.specs.Field.{is_ascii_code, is_closed, fields}
+use Rattle.zic_lines.specs.Entry.{LineEntry, RuleEntry, ZoneEntry, ContinuationEntry, LinkEntry}
+use Rattle.zic_lines.specs.RuleLine.{IsRuleLine}
+use Rattle.zic_lines.specs.ZoneLine.{IsZoneLine, IsContinuationLine}
+use Rattle.zic_lines.specs.LinkLine.{IsLinkLine}
+
+-- a line that can be cut into fields; 2,048 bytes without the newline is an own choice
+pub record IsLine (bytes : List ℕ) : Type 0 where
+  pub short : length bytes ≤ 2048
+  pub ascii : IsTrue (is_ascii_code bytes)
+  pub closed : IsTrue (is_closed bytes)
+
+-- The fields at this place say this. A line without fields says nothing.
+abbrev pub FieldsSay : Place → List (List ℕ) → Option LineEntry → Type 0
+FieldsSay place fields None = fields ≡ []
+FieldsSay place fields (Some (RuleEntry rule)) = IsRuleLine place fields rule
+FieldsSay place fields (Some (ZoneEntry name line)) = IsZoneLine place fields name line
+FieldsSay place fields (Some (ContinuationEntry line)) = IsContinuationLine place fields line
+FieldsSay place fields (Some (LinkEntry link)) = IsLinkLine place fields link
+
+-- what a line says
+abbrev pub Says : PlacedLine → Option LineEntry → Type 0
+Says line entry = IsLine line.bytes × FieldsSay line.place (fields line.bytes) entry

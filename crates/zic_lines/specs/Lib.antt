@@ -1,0 +1,14 @@
+pub mod Entry
+pub mod Stop
+pub mod Line
+pub mod Field
+pub mod Taken
+pub mod RulesField
+pub mod Format
+pub mod Until
+pub mod ZoneLine
+pub mod RuleLine
+pub mod LinkLine
+pub mod Seen
+pub mod Grammar
+pub mod Reading

@@ -1,0 +1,125 @@
+//! What is wrong with a source, and where.
+
+ghost use Rattle.std.specs.Prelude.{◌≡◌};
+
+use crate::place::Place;
+use std::alloc::{AllocError, AllocFailed};
+
+/// What is wrong with a line of source text, a zone or its file. The number of each kind is fixed; 31 is not used.
+#[derive(Clone, Copy, Debug, PartialEq, Eq)]
+pub enum Kind {
+    /// A byte outside a comment is neither white space nor from 0x21 to 0x7E.
+    NotAscii = 1,
+    /// A quoted part isn't closed in its line.
+    Quote = 2,
+    /// A line has more than 2,048 bytes without its newline.
+    LineTooLong = 3,
+    /// The first field is no keyword.
+    Keyword = 4,
+    /// A line has too few or too many fields.
+    FieldCount = 5,
+    /// A Zone or Link name, a link's target or the name of a rule set isn't allowed.
+    Name = 6,
+    /// FROM is no year from 1 to 9000, or TO is neither that nor `only` nor `maximum`.
+    Year = 7,
+    /// TO is below FROM.
+    YearOrder = 8,
+    /// The fifth field of a Rule line isn't `-`.
+    Reserved = 9,
+    /// IN is no month.
+    Month = 10,
+    /// ON is no day.
+    Day = 11,
+    /// AT is no time within 300:00:00 either way.
+    Time = 12,
+    /// SAVE, or an amount in RULES, is no time within 24:00:00 either way.
+    Save = 13,
+    /// LETTER isn't `-` or at most 16 ASCII letters, digits, `+` and `-`.
+    Letter = 14,
+    /// STDOFF is no time within 24:00:00 either way.
+    Offset = 15,
+    /// FORMAT has a `%` or `/` that may not stand there.
+    Format = 16,
+    /// A field of an UNTIL is wrong.
+    Until = 17,
+    /// A text ends after a line with an UNTIL; the place is that line's.
+    NoContinuation = 18,
+    /// A Zone or Link name was there before.
+    DuplicateName = 19,
+    /// A line passes a limit: 1,000 Rule lines of a set or 10,000 in all, 10,000 Zone and continuation lines, or 10,000
+    /// Zone and Link names.
+    TooMany = 20,
+    /// No Rule line has the set's name.
+    UnknownRules = 21,
+    /// A link's chain ends at a name that isn't there.
+    UnknownTarget = 22,
+    /// A link's chain has no end.
+    LinkCycle = 23,
+    /// A total UT offset passes 24:00:00 either way.
+    OffsetRange = 24,
+    /// Two occurrences of a rule set come at one time or in the wrong order.
+    RulesOutOfOrder = 25,
+    /// An UNTIL isn't after the one before it.
+    UntilNotRising = 26,
+    /// FORMAT wants a letter where there is none.
+    NoLetter = 27,
+    /// An abbreviation isn't 3 to 16 ASCII letters, digits, `+` and `-`.
+    BadAbbreviation = 28,
+    /// No POSIX TZ string goes on as the rules do.
+    NoFooter = 29,
+    /// The zone stays on daylight saving time for ever.
+    PermanentDaylight = 30,
+    /// A zone has more than 100,000 transitions.
+    TooManyChanges = 32,
+    /// A zone has more than 256 local time types.
+    TooManyTypes = 33,
+    /// A zone has more than 256 octets of designations.
+    TooManyChars = 34,
+}
+
+/// A fault and the line where it stands.
+#[derive(Clone, Copy, Debug, PartialEq, Eq)]
+pub struct Fault {
+    pub place: Place,
+    pub kind: Kind,
+}
+
+/// Why a source isn't read, or a zone isn't compiled.
+#[derive(Clone, Copy, Debug, PartialEq, Eq)]
+pub enum Stop {
+    /// The first fault.
+    Fault(Fault),
+    /// A growth of memory was refused.
+    Memory,
+}
+
+impl Stop {
+    ghost use Rattle.zic_lines.specs.Reading.{fault_at};
+
+    /// A fault of this kind at this place.
+    pub fn at(place: Place, kind: Kind) -> Stop
+        ensures { result ≡ Stop.Fault (fault_at place kind) }
+    {
+        Stop::Fault(Fault { place, kind })
+    }
+}
+
+impl From<AllocError> for Stop {
+    ghost use Rattle.zic_lines.specs.declared.fault.Stop.TheVariants.{Memory};
+
+    ghost from_gives = { λ _ e. e ≡ Memory };
+
+    fn from(_e: AllocError) -> Stop {
+        Stop::Memory
+    }
+}
+
+impl<T: Drop> From<AllocFailed<T>> for Stop {
+    ghost use Rattle.zic_lines.specs.declared.fault.Stop.TheVariants.{Memory};
+
+    ghost from_gives = { λ _ e. e ≡ Memory };
+
+    fn from(_e: AllocFailed<T>) -> Stop {
+        Stop::Memory
+    }
+}

@@ -1,0 +1,208 @@
+//! The fields of a line.
+
+ghost use Rattle.std.specs.Prelude.{◌≡◌, ◌<◌, ◌≤◌, false, [], length, slice_index_or, slice_range, IfOk, OnOk};
+ghost use Rattle.std.specs.Cow.{cow_slice_items};
+ghost use Rattle.zic_lines.specs.Field.{is_space, is_allowed, dash_if_empty};
+ghost use Rattle.zic_lines.specs.Stop.{Gives};
+ghost use Rattle.zic_lines.specs.Reading.{line_fields, code_fields};
+ghost use Rattle.zic_lines.specs.Taken.{role_of, is_plain, ArePlain, without_quotes, begun_text, ended_fields};
+
+use crate::fault::{Kind, Stop};
+use crate::place::Place;
+use std::alloc::{AllocError, Global};
+use std::borrow::CowSlice;
+use std::marker::Model;
+
+/// How many bytes a line may have without its newline.
+const LONGEST_LINE: usize = 2048;
+
+/// White space in a line.
+fn is_space(byte: u8) -> bool
+    ensures { result ≡ is_space byte }
+{
+    matches!(byte, b' ' | b'\t' | 0x0b..=0x0d)
+}
+
+/// White space or a printable ASCII character.
+fn is_allowed(byte: u8) -> bool
+    ensures { result ≡ is_allowed byte }
+{
+    is_space(byte) || matches!(byte, 0x21..=0x7e)
+}
+
+/// A byte that is text wherever it stands, as most are.
+fn is_plain(byte: u8) -> bool
+    ensures { result ≡ is_plain byte }
+{
+    matches!(byte, b'$'..=b'~')
+}
+
+/// What a byte is for its line.
+#[derive(Clone, Copy, Debug)]
+enum Role {
+    /// It begins the comment.
+    Comment,
+    /// It opens or closes a quoted part.
+    DoubleQuote,
+    /// It may not stand outside a comment.
+    Refused,
+    /// It stands between fields.
+    Gap,
+    /// It stands in a field.
+    Text,
+}
+
+/// What a byte is, where it is quoted or not.
+#[tactic(auto, unfolding(crate::specs::Taken::role_of))]
+fn role_of(byte: u8, quoted: bool) -> Role
+    ensures { result ≡ role_of byte quoted }
+{
+    match byte {
+        _ if is_plain(byte) => Role::Text,
+        _ if is_space(byte) && !quoted => Role::Gap,
+        b'#' if !quoted => Role::Comment,
+        b'"' => Role::DoubleQuote,
+        _ if is_allowed(byte) => Role::Text,
+        _ => Role::Refused,
+    }
+}
+
+/// Where the plain bytes end that stand from here on.
+fn plain_end(line: &[u8], start: usize) -> usize
+    requires { start ≤ length line.now }
+    ensures rises { start ≤ result }
+    ensures inside { result ≤ length line.now }
+    ensures plain { ArePlain (slice_range line.now start result) }
+{
+    let mut end = start;
+    while end < line.len() && is_plain(line[end]) {
+        end += 1;
+    }
+    end
+}
+
+/// The text of a field that has double quotes: what is left without them, or `-`.
+#[cold]
+fn text_without_quotes<'a>(alloc: Global, field: &[u8]) -> Result<CowSlice<'a, u8>, AllocError>
+    ensures { IfOk result (λ text. cow_slice_items text ≡ dash_if_empty (without_quotes field.now)) }
+{
+    let mut text = Vec::new(alloc);
+    for byte in field {
+        if *byte != b'"' {
+            text.push(*byte)?;
+        }
+    }
+    if text.is_empty() {
+        return Ok(CowSlice::Borrowed(b"-"));
+    }
+    Ok(CowSlice::Owned(text))
+}
+
+/// The fields of one line, without their double quotes, in a list that serves line after line.
+#[derive(Debug, Drop)]
+pub struct Fields<'a> {
+    /// Parts of the line; only what has double quotes is copied.
+    texts: Vec<CowSlice<'a, u8>>,
+}
+
+impl<'a> Model for Fields<'a> {
+    ghost use Rattle.std.specs.Prelude.{ℕ, List, map};
+    ghost use Rattle.std.specs.Cow.{cow_slice_items};
+
+    ghost Value = { List (List ℕ) };
+
+    ghost view = { λ f. map cow_slice_items f.texts.items };
+}
+
+impl<'a> Fields<'a> {
+    /// No fields; takes no memory yet.
+    pub fn new(alloc: Global) -> Self
+        ensures { result ≡ [] }
+    {
+        Fields {
+            texts: Vec::new(alloc),
+        }
+    }
+
+    /// How many fields there are.
+    pub fn len(&self) -> usize
+        ensures { result ≡ length self.now }
+    {
+        self.texts.len()
+    }
+
+    /// A field, counted from 0.
+    pub(crate) fn get(&self, index: usize) -> &[u8]
+        requires { index < length self.now }
+        ensures { result.now ≡ slice_index_or self.now index [] }
+    {
+        self.texts[index].as_slice()
+    }
+
+    /// Takes a line apart: the fields up to its comment.
+    #[tactic(auto, unfolding(crate::specs::Reading::line_fields))]
+    pub fn take_line(&mut self, alloc: Global, place: Place, line: &'a [u8]) -> Result<(), Stop>
+        ensures { Gives (λ _. self.new) result (line_fields (record { place = place; bytes = line.now })) }
+    {
+        if line.len() > LONGEST_LINE {
+            return Err(Stop::at(place, Kind::LineTooLong));
+        }
+        self.take_code(alloc, place, line)
+    }
+
+    /// Takes the bytes of a line up to its comment.
+    fn take_code(&mut self, alloc: Global, place: Place, line: &'a [u8]) -> Result<(), Stop>
+        ensures { Gives (λ _. self.new) result (code_fields place line.now) }
+    {
+        self.texts.clear();
+        let mut quoted = false;
+        let mut start = 0;
+        let mut has_quotes = false;
+        let mut end = plain_end(line, 0);
+        while end < line.len() {
+            match role_of(line[end], quoted) {
+                Role::Comment => break,
+                Role::DoubleQuote => {
+                    quoted = !quoted;
+                    has_quotes = true;
+                }
+                Role::Refused => return Err(Stop::at(place, Kind::NotAscii)),
+                Role::Gap => {
+                    self.push_field(alloc, &line[start..end], has_quotes)?;
+                    start = end + 1;
+                    has_quotes = false;
+                }
+                Role::Text => {}
+            }
+            end = plain_end(line, end + 1);
+        }
+        if quoted {
+            return Err(Stop::at(place, Kind::Quote));
+        }
+        self.push_field(alloc, &line[start..end], has_quotes)?;
+        Ok(())
+    }
+
+    /// Adds a field, if there is one: between two gaps there is none.
+    #[inline]
+    fn push_field(
+        &mut self,
+        alloc: Global,
+        field: &'a [u8],
+        has_quotes: bool,
+    ) -> Result<(), AllocError>
+        requires { has_quotes ≡ false → without_quotes field.now ≡ field.now }
+        ensures { OnOk result (self.new ≡ ended_fields self.old (begun_text field.now)) }
+    {
+        if field.is_empty() {
+            return Ok(());
+        }
+        let text = if has_quotes {
+            text_without_quotes(alloc, field)?
+        } else {
+            CowSlice::Borrowed(field)
+        };
+        self.texts.push(text)?;
+        Ok(())
+    }
+}

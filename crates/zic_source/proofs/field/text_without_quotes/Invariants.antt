@@ -1,6 +1,0 @@
-use Rattle.std.proofs.Common.{◌≡◌, take}
-use Rattle.zic_source.specs.Taken.{without_quotes}
-use Rattle.zic_source.proofs.field.text_without_quotes.Given as goal
-
-abbrev pub invariant-loop-byte : goal.invariant-loop-byte
-invariant-loop-byte l = l.text.items ≡ without_quotes (take l.byte-index l.field)

@@ -1,6 +1,0 @@
-use Rattle.std.proofs.Common.{arith}
-use Rattle.zic_source.proofs.ClockTimes.{no_saving}
-use Rattle.zic_source.proofs.saving.save.Goals as goal
-
-pub returns-in-empty : goal.returns-in-empty
-returns-in-empty c = no_saving c.args.field.now (omega arith)

@@ -1,0 +1,61 @@
+-- Which day of the month ON of a Rule line or the DAY of an UNTIL names: zic(8), FILES; which numbers may stand there is own choice.
+use Rattle.std.specs.Prelude.{ℕ, Bool, true, false, ◌&&◌, List, [], ◌∷◌, drop, Option, Some, None, option_map, if◌then◌else◌, nat_le, ◌==◌, codes}
+use Rattle.std.specs.List.{slice_split}
+use Rattle.zic_calendar.specs.Calendar.{month_length}
+use Rattle.zic_calendar.specs.declared.day_form.On.{On}
+use Rattle.zic_calendar.specs.declared.day_form.On.TheVariants.{Day, Last, After, Before}
+use Rattle.zic_words.specs.Word.{begins_word, only_word}
+use Rattle.zic_words.specs.Time.{number, ◌>>=◌}
+
+-- the weekdays in order
+abbrev pub weekday_words : List (List ℕ)
+weekday_words = codes "Sunday" ∷ codes "Monday" ∷ codes "Tuesday" ∷ codes "Wednesday" ∷ codes "Thursday" ∷ codes "Friday" ∷ codes "Saturday" ∷ []
+
+-- a weekday, 0 (Sunday) to 6, from its name or a prefix of it that no other weekday has
+unfoldable pub weekday_of : List ℕ → Option ℕ
+weekday_of field = only_word weekday_words field
+
+-- a day of the month: one or two digits, from 1 to this number
+unfoldable pub day_within : ℕ → List ℕ → Option ℕ
+day_within longest field = do
+  n ← number 2 field
+  if nat_le 1 n && nat_le n longest then Some n else None
+
+-- the weekday behind `last`, which is in any ASCII case and never cut
+unfoldable pub last_weekday : List ℕ → Option ℕ
+last_weekday field = if begins_word field (codes "last") then weekday_of (drop 4 field) else None
+
+-- two parts, where there are two
+abbrev pub both_parts : List (List ℕ) → Option (List ℕ × List ℕ)
+both_parts [] = None
+both_parts (part ∷ []) = None
+both_parts (part ∷ other ∷ []) = Some (part, other)
+both_parts (part ∷ other ∷ more ∷ parts) = None
+
+-- what stands behind this byte, where the text begins with it
+abbrev pub behind : ℕ → List ℕ → Option (List ℕ)
+behind first [] = None
+behind first (byte ∷ bytes) = if byte == first then Some bytes else None
+
+-- a weekday, this sign and `=`, and a day of the month up to this number
+unfoldable pub weekday_and_day : ℕ → ℕ → List ℕ → Option (ℕ × ℕ)
+weekday_and_day sign longest field = do
+  parts ← both_parts (slice_split (λ byte. byte == sign) field)
+  text ← behind 61 parts.1
+  weekday ← weekday_of parts.0
+  day ← day_within longest text
+  Some (weekday, day)
+
+-- the first of two that is there
+abbrev pub or_else : {X : Type 0} → Option X → Option X → Option X
+or_else None other = other
+or_else (Some x) other = Some x
+
+-- `lastX`, `X>=D`, `X<=D` or a day. 29 February is a day where only one year is meant, a leap year; it may not stand behind
+-- `>=`, and behind `<=` means the last of the month.
+unfoldable pub day_form_of : Bool → ℕ → List ℕ → Option On
+day_form_of one_leap_year month field =
+    or_else (option_map Last (last_weekday field))
+    (or_else (option_map (λ both. After both.0 both.1) (weekday_and_day 62 (month_length false month) field))
+    (or_else (option_map (λ both. Before both.0 both.1) (weekday_and_day 60 (month_length true month) field))
+    (option_map Day (day_within (month_length one_leap_year month) field))))

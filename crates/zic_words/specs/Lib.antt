@@ -1,0 +1,14 @@
+pub mod Dash
+pub mod Parts
+pub mod Word
+pub mod FirstLetter
+pub mod Keyword
+pub mod Name
+pub mod Time
+pub mod Year
+pub mod Month
+pub mod DayForm
+pub mod Clock
+pub mod Saving
+pub mod Letter
+pub mod SetName

@@ -1,0 +1,86 @@
+-- Times and offsets: zic(8), FILES; digits and limits are own choice.
+use Rattle.std.specs.Prelude.{◌≡◌, ℕ, ◌+◌, ◌-◌, ◌*◌, ◌/◌, ◌%◌, ◌^◌, ◌≤◌, ◌⊎◌, Bool, false, ◌&&◌, List, [], ◌∷◌, length, drop, fold, ℤ, pos, neg_ℤ, Option, Some, None, option_map, option_and_then, if◌then◌else◌, nat_lt, nat_le, ◌==◌}
+use Rattle.std.specs.List.{slice_split, list_all}
+use Rattle.std.specs.Char.{is_ascii_digit}
+use Rattle.zic_words.specs.Dash.{is_dash}
+
+-- `x ← o` goes on with what o has, and stops where it has nothing
+infixl 10 ◌>>=◌
+abbrev pub ◌>>=◌ : {A B : Type 0} → Option A → (A → Option B) → Option B
+o >>= f = option_and_then f o
+
+-- the number that decimal digits spell
+abbrev pub decimal_value : List ℕ → ℕ
+decimal_value digits = fold (λ n digit. 10 * n + (digit - 48)) 0 digits
+
+-- a number of at least one and at most so many decimal digits
+unfoldable pub number : ℕ → List ℕ → Option ℕ
+number most text = if nat_le 1 (length text) && nat_le (length text) most && list_all is_ascii_digit text then Some (decimal_value text) else None
+
+-- minutes or seconds: one or two digits, 0 to 59
+unfoldable pub sixtieths : List ℕ → Option ℕ
+sixtieths text = do
+  n ← number 2 text
+  if nat_lt n 60 then Some n else None
+
+-- one to nine decimals of a second, in billionths
+unfoldable pub decimals : List ℕ → Option ℕ
+decimals text = option_map (λ n. n * 10 ^ (9 - length text)) (number 9 text)
+
+-- seconds, with decimals where there is a point, in billionths
+unfoldable pub seconds_from : List (List ℕ) → Option ℕ
+seconds_from [] = None
+seconds_from (whole ∷ []) = option_map (λ s. 10 ^ 9 * s) (sixtieths whole)
+seconds_from (whole ∷ fraction ∷ []) = do
+  s ← sixtieths whole
+  f ← decimals fraction
+  Some (10 ^ 9 * s + f)
+seconds_from (whole ∷ fraction ∷ more ∷ parts) = None
+
+-- hours, or hours and minutes, or hours, minutes and seconds, in billionths of a second
+unfoldable pub magnitude_from : List (List ℕ) → Option ℕ
+magnitude_from [] = None
+magnitude_from (hours ∷ []) = option_map (λ h. 10 ^ 9 * (3600 * h)) (number 9 hours)
+magnitude_from (hours ∷ minutes ∷ []) = do
+  h ← number 9 hours
+  m ← sixtieths minutes
+  Some (10 ^ 9 * (3600 * h + 60 * m))
+magnitude_from (hours ∷ minutes ∷ seconds ∷ []) = do
+  h ← number 9 hours
+  m ← sixtieths minutes
+  s ← seconds_from (slice_split (λ byte. byte == 46) seconds)
+  Some (10 ^ 9 * (3600 * h + 60 * m) + s)
+magnitude_from (hours ∷ minutes ∷ seconds ∷ more ∷ parts) = None
+
+-- a time without its sign, of parts between colons, in billionths of a second
+abbrev pub magnitude : List ℕ → Option ℕ
+magnitude text = magnitude_from (slice_split (λ byte. byte == 58) text)
+
+-- s is the nearest whole second to n billionths, and the even one of two that are as near
+pub record IsNearestSecond (n s : ℕ) : Type 0 where
+  pub below : 2 * n ≤ 10 ^ 9 * (2 * s + 1)
+  pub above : 10 ^ 9 * (2 * s) ≤ 2 * n + 10 ^ 9
+  pub even : (2 * n ≡ 10 ^ 9 * (2 * s + 1)) ⊎ (10 ^ 9 * (2 * s) ≡ 2 * n + 10 ^ 9) → s % 2 ≡ 0
+
+-- so many billionths rounded to the nearest second, ties to even
+abbrev pub rounded : ℕ → ℕ
+rounded n = if 2 * (n % 10 ^ 9) == 10 ^ 9 then n / 10 ^ 9 + n / 10 ^ 9 % 2 else (if nat_lt (2 * (n % 10 ^ 9)) (10 ^ 9) then n / 10 ^ 9 else n / 10 ^ 9 + 1)
+
+-- A time without its sign in whole seconds. Rounding comes first, and then the limit.
+unfoldable pub whole_seconds : ℕ → List ℕ → Option ℕ
+whole_seconds limit text = do
+  time ← magnitude text
+  if nat_le (rounded time) limit then Some (rounded time) else None
+
+-- a field that begins with `-`
+abbrev pub is_negative : List ℕ → Bool
+is_negative [] = false
+is_negative (byte ∷ bytes) = byte == 45
+
+-- a time in whole seconds, behind a `-` below 0, at most the limit either way
+unfoldable pub signed_seconds : ℕ → List ℕ → Option ℤ
+signed_seconds limit text = if is_negative text then option_map (λ s. neg_ℤ (pos s)) (whole_seconds limit (drop 1 text)) else option_map pos (whole_seconds limit text)
+
+-- STDOFF in seconds, positive east, at most 24 hours either way; `-` is 0
+unfoldable pub offset_of : List ℕ → Option ℤ
+offset_of field = if is_dash field then Some (pos 0) else signed_seconds 86400 field

@@ -1,0 +1,69 @@
+//! The time of day of AT and of an UNTIL.
+
+ghost use Rattle.std.specs.Prelude.{◌≡◌, option_map};
+ghost use Rattle.zic_words.specs.Time.{signed_seconds};
+ghost use Rattle.zic_words.specs.Clock.{clock_suffix, clock_time_of};
+
+use crate::dash::is_dash;
+use crate::time::signed_seconds;
+
+/// The greatest AT either way, in seconds: 300 hours.
+const LATEST: u32 = 1_080_000;
+
+/// The clock by which a time of day is meant.
+#[derive(Clone, Copy, Debug, PartialEq, Eq)]
+pub enum ClockForm {
+    /// Local time with its saving.
+    Wall,
+    /// Local time without saving.
+    Standard,
+    /// Universal time.
+    Universal,
+}
+
+/// A time of day in seconds, and the clock by which it is meant.
+#[derive(Clone, Copy, Debug)]
+pub struct ClockTime {
+    pub seconds: i32,
+    pub form: ClockForm,
+}
+
+/// The clock that a suffix names.
+fn clock_suffix(byte: u8) -> Option<ClockForm>
+    ensures { result ≡ clock_suffix byte }
+{
+    match byte {
+        b'w' | b'W' => Some(ClockForm::Wall),
+        b's' | b'S' => Some(ClockForm::Standard),
+        b'u' | b'U' | b'g' | b'G' | b'z' | b'Z' => Some(ClockForm::Universal),
+        _ => None,
+    }
+}
+
+/// AT in seconds, within 300 hours either way, and its clock.
+#[tactic(auto, unfolding(crate::specs::Clock::clock_time_of))]
+pub fn clock_time(field: &[u8]) -> Option<ClockTime>
+    ensures { result ≡ clock_time_of field.now }
+{
+    if is_dash(field) {
+        return Some(ClockTime {
+            seconds: 0,
+            form: ClockForm::Wall,
+        });
+    }
+    match field {
+        [text @ .., last] => match clock_suffix(*last) {
+            Some(form) => time_by(form, text),
+            None => time_by(ClockForm::Wall, field),
+        },
+        [] => None,
+    }
+}
+
+/// A time without a suffix, by this clock.
+fn time_by(form: ClockForm, text: &[u8]) -> Option<ClockTime>
+    ensures { result ≡ option_map (λ s. record { seconds = s; form = form }) (signed_seconds 1_080_000 text.now) }
+{
+    let seconds = signed_seconds(text, LATEST)?;
+    Some(ClockTime { seconds, form })
+}

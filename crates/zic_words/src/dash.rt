@@ -1,0 +1,14 @@
+//! The field `-`.
+
+ghost use Rattle.std.specs.Prelude.{◌≡◌};
+ghost use Rattle.zic_words.specs.Dash.{is_dash};
+
+/// Whether the field is `-`, also written `""`.
+pub fn is_dash(field: &[u8]) -> bool
+    ensures { result ≡ is_dash field.now }
+{
+    match field {
+        [byte] => *byte == b'-',
+        _ => false,
+    }
+}

@@ -1,0 +1,119 @@
+//! Which day of the month a rule names.
+
+ghost use Rattle.std.specs.Prelude.{◌≡◌, ◌≤◌, ◌<◌, ◌==◌, IfSome, map, option_map};
+ghost use Rattle.std.specs.List.{slice_split};
+ghost use Rattle.std.specs.Int.{IsInRange};
+ghost use Rattle.zic_calendar.specs.Calendar.{month_length};
+ghost use Rattle.zic_words.specs.FirstLetter.{endings};
+ghost use Rattle.zic_words.specs.DayForm.{weekday_words, weekday_of, day_within, last_weekday, both_parts, weekday_and_day, day_form_of};
+
+use crate::split::split_once;
+use crate::time::number;
+use crate::word::only_place;
+use zic_calendar::{On, days_in_month};
+
+/// How the weekdays that begin with this letter go on, and the place of each in the week.
+fn endings(letter: u8) -> &'static [(u8, &'static [u8])]
+    ensures { map (λ weekday. (weekday.0, weekday.1.now)) result.now ≡ endings letter weekday_words }
+{
+    match letter {
+        b's' => &[(0, b"unday"), (6, b"aturday")],
+        b'm' => &[(1, b"onday")],
+        b't' => &[(2, b"uesday"), (4, b"hursday")],
+        b'w' => &[(3, b"ednesday")],
+        b'f' => &[(5, b"riday")],
+        _ => &[],
+    }
+}
+
+/// A weekday, 0 (Sunday) to 6, from its name in English or a prefix of it that no other weekday has.
+#[tactic(auto, unfolding(crate::specs::DayForm::weekday_of))]
+fn weekday(field: &[u8]) -> Option<u8>
+    ensures { result ≡ weekday_of field.now }
+{
+    match field {
+        [first, rest @ ..] => only_place(endings(first.to_ascii_lowercase()), rest),
+        [] => None,
+    }
+}
+
+/// A day of the month: one or two digits, from 1 to the longest.
+#[tactic(auto, unfolding(crate::specs::DayForm::day_within))]
+fn day_within(longest: u8, field: &[u8]) -> Option<u8>
+    ensures { result ≡ day_within longest field.now }
+{
+    let n = number(field, 2)?;
+    if 1 <= n && n <= u32::from(longest) {
+        Some(n as u8)
+    } else {
+        None
+    }
+}
+
+/// The weekday behind `last`.
+#[tactic(auto, unfolding(crate::specs::DayForm::last_weekday))]
+fn last_weekday(field: &[u8]) -> Option<u8>
+    ensures { result ≡ last_weekday field.now }
+{
+    if field.len() < 4 || !field[..4].eq_ignore_ascii_case(b"last") {
+        return None;
+    }
+    weekday(&field[4..])
+}
+
+/// The parts before and behind the separator, where it stands in the bytes once.
+fn both_parts(bytes: &[u8], separator: u8) -> Option<(&[u8], &[u8])>
+    ensures { option_map (λ both. (both.0.now, both.1.now)) result ≡ both_parts (slice_split (λ byte. byte == separator) bytes.now) }
+{
+    let (part, rest) = split_once(bytes, separator);
+    let Some(rest) = rest else {
+        return None;
+    };
+    let (other, more) = split_once(rest, separator);
+    match more {
+        None => Some((part, other)),
+        Some(_) => None,
+    }
+}
+
+/// A weekday, this sign and `=`, and a day of the month up to the longest.
+#[tactic(auto, unfolding(crate::specs::DayForm::weekday_and_day))]
+fn weekday_and_day(sign: u8, longest: u8, field: &[u8]) -> Option<(u8, u8)>
+    ensures { result ≡ weekday_and_day sign longest field.now }
+{
+    let (name, bound) = both_parts(field, sign)?;
+    match bound {
+        [b'=', text @ ..] => {
+            let weekday = weekday(name)?;
+            let day = day_within(longest, text)?;
+            Some((weekday, day))
+        }
+        _ => None,
+    }
+}
+
+/// How many days the month, 1 to 12, has in a leap year or in a common year.
+fn month_length(is_leap: bool, month: u8) -> u8
+    ensures { result ≡ month_length is_leap month }
+{
+    days_in_month(if is_leap { 2000 } else { 2001 }, month)
+}
+
+/// `lastX`, `X>=D`, `X<=D` or a day, in a month from 1 to 12. 29 February is a day only where one year is meant, a leap
+/// year; it may not stand behind `>=`, and behind `<=` it means the last of the month.
+#[tactic(auto, unfolding(crate::specs::DayForm::day_form_of))]
+pub fn parse_day_form(one_leap_year: bool, month: u8, field: &[u8]) -> Option<On>
+    ensures { result ≡ day_form_of one_leap_year month field.now }
+{
+    if let Some(weekday) = last_weekday(field) {
+        return Some(On::Last(weekday));
+    }
+    if let Some((weekday, day)) = weekday_and_day(b'>', month_length(false, month), field) {
+        return Some(On::After { weekday, day });
+    }
+    if let Some((weekday, day)) = weekday_and_day(b'<', month_length(true, month), field) {
+        return Some(On::Before { weekday, day });
+    }
+    let day = day_within(month_length(one_leap_year, month), field)?;
+    Some(On::Day(day))
+}

@@ -1,0 +1,34 @@
+//! Words of time zone source text: what single fields say. Times, years, months, days, names and letters.
+//!
+//! The input format is that of zic(8); `docs/DEFINITIONS.md` lists where each rule is stated.
+#![tactic(auto)]
+
+mod clock;
+mod dash;
+mod day_form;
+mod keyword;
+mod letter;
+mod month;
+mod name;
+mod saving;
+mod set_name;
+mod split;
+mod time;
+mod word;
+mod year;
+
+pub use clock::{ClockForm, ClockTime, clock_time};
+pub use dash::is_dash;
+pub use day_form::parse_day_form;
+pub use keyword::{Keyword, parse_keyword};
+pub use letter::{Letter, parse_letter};
+pub use month::parse_month;
+pub use name::{Name, is_name};
+pub use saving::{Saving, save};
+pub use set_name::{SetName, is_set_name};
+pub use split::split_once;
+pub use time::offset;
+pub use year::{ends_before, is_one_leap_year, last_year, parse_year};
+
+#[cfg(test)]
+mod tests;

@@ -1,0 +1,54 @@
+//! SAVE of a Rule line, and amounts in RULES.
+
+ghost use Rattle.std.specs.Prelude.{◌≡◌};
+ghost use Rattle.zic_words.specs.Saving.{daylight_suffix, saving_of};
+
+use crate::dash::is_dash;
+use crate::time::{DAY, signed_seconds};
+
+/// What is added to standard time.
+#[derive(Clone, Copy, Debug, PartialEq, Eq)]
+pub struct Saving {
+    /// Within 24:00:00 either way.
+    pub seconds: i32,
+    /// Whether this is daylight saving time.
+    pub daylight: bool,
+}
+
+/// Whether a suffix names daylight saving time.
+fn daylight_suffix(byte: u8) -> Option<bool>
+    ensures { result ≡ daylight_suffix byte }
+{
+    match byte {
+        b's' | b'S' => Some(false),
+        b'd' | b'D' => Some(true),
+        _ => None,
+    }
+}
+
+/// SAVE in seconds, within 24 hours either way, and its flag.
+#[tactic(auto, unfolding(crate::specs::Saving::saving_of))]
+pub fn save(field: &[u8]) -> Option<Saving>
+    ensures { result ≡ saving_of field.now }
+{
+    if is_dash(field) {
+        return Some(Saving {
+            seconds: 0,
+            daylight: false,
+        });
+    }
+    match field {
+        [text @ .., last] => match daylight_suffix(*last) {
+            Some(daylight) => {
+                let seconds = signed_seconds(text, DAY)?;
+                Some(Saving { seconds, daylight })
+            }
+            None => {
+                let seconds = signed_seconds(field, DAY)?;
+                let daylight = seconds != 0;
+                Some(Saving { seconds, daylight })
+            }
+        },
+        [] => None,
+    }
+}

@@ -1,0 +1,193 @@
+//! Times and offsets.
+
+ghost use Rattle.std.specs.Prelude.{◌≡◌, ◌+◌, ◌*◌, ◌^◌, ◌<◌, ◌≤◌, List, IfSome, length, option_map, pos, ◌==◌};
+ghost use Rattle.std.specs.List.{slice_split};
+ghost use Rattle.zic_words.specs.Time.{number, sixtieths, decimals, seconds_from, magnitude, whole_seconds, signed_seconds, offset_of, rounded, IsNearestSecond};
+
+use crate::dash::is_dash;
+use crate::split::split_once;
+use std::cmp::Ordering;
+
+/// How many digits years, hours and decimals of a second may have.
+pub(crate) const MOST_DIGITS: usize = 9;
+
+/// The greatest STDOFF and SAVE either way, in seconds.
+pub(crate) const DAY: u32 = 86400;
+
+/// Billionths in a second.
+const BILLION: u32 = 1_000_000_000;
+
+/// A time without its sign.
+#[derive(Clone, Copy, Debug)]
+struct Time {
+    seconds: u64,
+    /// What it has beyond its seconds, below a billion.
+    billionths: u32,
+}
+
+/// The number that the text spells in decimal digits: at least one, and at most so many.
+#[tactic(auto, unfolding(crate::specs::Time::number))]
+pub(crate) fn number(text: &[u8], most: usize) -> Option<u32>
+    requires { most ≤ 9 }
+    ensures value { result ≡ number most text.now }
+    ensures digits { IfSome result (λ n. n < 10 ^ length text.now) }
+    ensures length { IfSome result (λ _. length text.now ≤ most) }
+{
+    if text.is_empty() || text.len() > most {
+        return None;
+    }
+    let mut n = 0;
+    for byte in text {
+        if !byte.is_ascii_digit() {
+            return None;
+        }
+        n = 10 * n + u32::from(*byte - b'0');
+    }
+    Some(n)
+}
+
+/// Minutes or seconds: 0 to 59, in one or two digits.
+#[tactic(auto, unfolding(crate::specs::Time::sixtieths))]
+fn sixtieths(text: &[u8]) -> Option<u64>
+    ensures value { result ≡ sixtieths text.now }
+    ensures fits { IfSome result (λ n. n < 60) }
+{
+    let n = number(text, 2)?;
+    if n < 60 { Some(u64::from(n)) } else { None }
+}
+
+/// One to nine decimals of a second, in billionths.
+#[tactic(auto, unfolding(crate::specs::Time::decimals))]
+fn decimals(text: &[u8]) -> Option<u32>
+    ensures value { result ≡ decimals text.now }
+    ensures fits { IfSome result (λ n. n < 10 ^ 9) }
+{
+    let n = number(text, MOST_DIGITS)?;
+    Some(n * 10u32.pow((MOST_DIGITS - text.len()) as u32))
+}
+
+/// Seconds below 60, with decimals where there is a point.
+#[tactic(auto, unfolding(crate::specs::Time::seconds_from))]
+fn seconds(text: &[u8]) -> Option<Time>
+    ensures value { option_map (λ time. 10 ^ 9 * time.seconds + time.billionths) result ≡ seconds_from (slice_split (λ byte. byte == 46) text.now) }
+    ensures seconds { IfSome result (λ time. time.seconds < 60) }
+    ensures billionths { IfSome result (λ time. time.billionths < 10 ^ 9) }
+{
+    let (whole, fraction) = split_once(text, b'.');
+    let seconds = sixtieths(whole)?;
+    let Some(fraction) = fraction else {
+        return Some(Time {
+            seconds,
+            billionths: 0,
+        });
+    };
+    let (fraction, more) = split_once(fraction, b'.');
+    match more {
+        None => {
+            let billionths = decimals(fraction)?;
+            Some(Time {
+                seconds,
+                billionths,
+            })
+        }
+        Some(_) => None,
+    }
+}
+
+/// Hours, or hours and minutes, or hours, minutes and seconds, without a sign.
+#[tactic(auto, unfolding(crate::specs::Time::magnitude_from))]
+fn magnitude(text: &[u8]) -> Option<Time>
+    ensures value { option_map (λ time. 10 ^ 9 * time.seconds + time.billionths) result ≡ magnitude text.now }
+    ensures seconds { IfSome result (λ time. time.seconds < 10 ^ 13) }
+    ensures billionths { IfSome result (λ time. time.billionths < 10 ^ 9) }
+{
+    let (hours, minutes) = split_once(text, b':');
+    let hours = 3600 * u64::from(number(hours, MOST_DIGITS)?);
+    let Some(minutes) = minutes else {
+        return Some(Time {
+            seconds: hours,
+            billionths: 0,
+        });
+    };
+    // Most times are hours and minutes.
+    if let Some(minutes) = sixtieths(minutes) {
+        return Some(Time {
+            seconds: hours + 60 * minutes,
+            billionths: 0,
+        });
+    }
+    let (minutes, rest) = split_once(minutes, b':');
+    let minutes = hours + 60 * sixtieths(minutes)?;
+    let rest = rest?;
+    let (rest, more) = split_once(rest, b':');
+    match more {
+        None => {
+            let rest = seconds(rest)?;
+            let seconds = minutes + rest.seconds;
+            Some(Time {
+                seconds,
+                billionths: rest.billionths,
+            })
+        }
+        Some(_) => None,
+    }
+}
+
+/// The whole second that is nearest to a time, and of two that are as near the even one.
+fn nearest_second(time: Time) -> u64
+    requires seconds { time.seconds < 10 ^ 13 }
+    requires billionths { time.billionths < 10 ^ 9 }
+    ensures value { result ≡ rounded (10 ^ 9 * time.seconds + time.billionths) }
+    ensures nearest { IsNearestSecond (10 ^ 9 * time.seconds + time.billionths) result }
+{
+    let whole = time.seconds;
+    match (2 * time.billionths).cmp(&BILLION) {
+        Ordering::Less => whole,
+        Ordering::Equal => whole + whole % 2,
+        Ordering::Greater => whole + 1,
+    }
+}
+
+/// A time without its sign in whole seconds, where it is within the limit.
+#[tactic(auto, unfolding(crate::specs::Time::whole_seconds))]
+fn whole_seconds(text: &[u8], limit: u32) -> Option<u32>
+    ensures value { result ≡ whole_seconds limit text.now }
+    ensures fits { IfSome result (λ s. s ≤ limit) }
+{
+    let time = magnitude(text)?;
+    let seconds = nearest_second(time);
+    if seconds <= u64::from(limit) {
+        Some(seconds as u32)
+    } else {
+        None
+    }
+}
+
+/// A time in whole seconds, below 0 behind a `-`, within the limit either way.
+#[tactic(auto, unfolding(crate::specs::Time::signed_seconds))]
+pub(crate) fn signed_seconds(text: &[u8], limit: u32) -> Option<i32>
+    requires { limit ≤ 1_080_000 }
+    ensures { result ≡ signed_seconds limit text.now }
+{
+    match text {
+        [b'-', text @ ..] => {
+            let seconds = whole_seconds(text, limit)?;
+            Some(-(seconds as i32))
+        }
+        _ => {
+            let seconds = whole_seconds(text, limit)?;
+            Some(seconds as i32)
+        }
+    }
+}
+
+/// STDOFF in seconds, positive east, at most 24 hours either way.
+#[tactic(auto, unfolding(crate::specs::Time::offset_of))]
+pub fn offset(field: &[u8]) -> Option<i32>
+    ensures { result ≡ offset_of field.now }
+{
+    if is_dash(field) {
+        return Some(0);
+    }
+    signed_seconds(field, DAY)
+}

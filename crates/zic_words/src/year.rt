@@ -1,0 +1,72 @@
+//! Years of Rule lines and of an UNTIL.
+
+ghost use Rattle.std.specs.Prelude.{◌≡◌, ◌≤◌, IfSome};
+ghost use Rattle.zic_words.specs.Year as spec;
+ghost use Rattle.zic_words.specs.Year.{year_of, last_year_of, is_only, is_maximum};
+
+use crate::time::{MOST_DIGITS, number};
+use crate::word::begins_word;
+use zic_calendar::is_leap_year;
+
+/// The greatest year.
+const LAST_YEAR: u32 = 9000;
+
+/// A year: one to nine digits, 1 to 9000.
+#[tactic(auto, unfolding(crate::specs::Year::year_of))]
+pub fn parse_year(field: &[u8]) -> Option<u16>
+    ensures value { result ≡ year_of field.now }
+    ensures high { IfSome result (λ year. year ≤ 9000) }
+{
+    let n = number(field, MOST_DIGITS)?;
+    if 1 <= n && n <= LAST_YEAR {
+        Some(n as u16)
+    } else {
+        None
+    }
+}
+
+fn is_only(field: &[u8]) -> bool
+    ensures { result ≡ is_only field.now }
+{
+    begins_word(b"only", field)
+}
+
+fn is_maximum(field: &[u8]) -> bool
+    ensures { result ≡ is_maximum field.now }
+{
+    field.len() >= 2 && begins_word(b"maximum", field)
+}
+
+/// TO: the year FROM, no last year, or a year.
+#[tactic(auto, unfolding(crate::specs::Year::last_year_of))]
+pub fn last_year(first: u16, field: &[u8]) -> Option<Option<u16>>
+    ensures { result ≡ last_year_of first field.now }
+{
+    if is_only(field) {
+        return Some(Some(first));
+    }
+    if is_maximum(field) {
+        return Some(None);
+    }
+    Some(Some(parse_year(field)?))
+}
+
+/// Whether the last year lies before the first.
+pub fn ends_before(last: Option<u16>, first: u16) -> bool
+    ensures { result ≡ spec.ends_before last first }
+{
+    match last {
+        None => false,
+        Some(last) => last < first,
+    }
+}
+
+/// Whether a rule holds in one year only, a leap year.
+pub fn is_one_leap_year(first: u16, last: Option<u16>) -> bool
+    ensures { result ≡ spec.is_one_leap_year first last }
+{
+    match last {
+        None => false,
+        Some(last) => first == last && is_leap_year(i64::from(first)),
+    }
+}
