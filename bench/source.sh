@@ -1,12 +1,14 @@
 #!/bin/sh
-# Times the reading of source text, and prints the milliseconds that one reading takes, the best of five runs of a few:
+# Times the reading of source text, and prints the milliseconds that one reading takes, the best of five runs of twenty:
 # of the system's release of the tz database, and of the largest sources of each kind beside comments of as many
-# octets. It needs `rt` on the PATH.
+# octets. Beside each stands `fields.rs` by `rustc -O`, which only takes the lines apart and counts names. It needs `rt`
+# and `rustc` on the PATH.
 set -eu
 cd "$(dirname "$0")/.."
 work=$(mktemp -d)
 trap 'rm -rf "$work"' EXIT
-program=crates/source_counts/out/source_counts
+reader=crates/source_counts/out/source_counts
+rustc -O -o "$work/fields" bench/fields.rs
 
 (cd crates/source_counts && rt run) <crates/source_counts/stdin >"$work/build.log" 2>&1 || {
     cat "$work/build.log" >&2
@@ -14,32 +16,39 @@ program=crates/source_counts/out/source_counts
 }
 
 awk 'BEGIN { for (i = 0; i < 10000; i++) printf "Rule set%d 2000 max - Mar Sun>=8 2:00 1:00 D\n", i }' >"$work/rules"
+awk 'BEGIN { for (i = 0; i < 10000; i++) printf "Rule set%d 2000 max - Mar Sun>=8 2:00 1:00 D\n", i % 10 }' >"$work/rules of ten sets"
 awk 'BEGIN { for (i = 0; i < 10000; i++) printf "Zone Area/City%d 1:00 - CET\n", i }' >"$work/zones"
 awk 'BEGIN { print "Zone A 0 - AAA 1"; for (i = 2; i < 10000; i++) print "1:00 - CET 1990 Mar Sun>=8 2:00"; print "1:00 - CET" }' >"$work/continuations"
 awk 'BEGIN { print "Zone Name/0 1:00 - CET"; for (i = 9999; i > 0; i--) printf "Link Name/%d Name/%d\n", i - 1, i }' >"$work/chain"
 
-# how long $2 readings of file $1 take, the best of five, in nanoseconds
+# how long $3 readings of file $2 by program $1 take, the best of five, in nanoseconds
 best() {
     least=
     for _ in 1 2 3 4 5; do
         start=$(date +%s%N)
-        "$program" "$2" <"$1" >/dev/null
+        "$1" "$3" <"$2" >/dev/null
         took=$(($(date +%s%N) - start))
         if [ -z "$least" ] || [ "$took" -lt "$least" ]; then least=$took; fi
     done
     echo "$least"
 }
 
-# milliseconds of one reading: the difference that twenty make
+# microseconds of one reading of file $2 by program $1: the difference that twenty make
+micros() {
+    echo $((($(best "$1" "$2" 20) - $(best "$1" "$2" 0)) / 20000))
+}
+
 show() {
-    micros=$((($(best "$2" 20) - $(best "$2" 0)) / 20000))
-    printf '%s: %d octets, %d.%03d ms\n' "$1" "$(wc -c <"$2")" $((micros / 1000)) $((micros % 1000))
+    read=$(micros "$reader" "$2")
+    apart=$(micros "$work/fields" "$2")
+    printf '%s: %d octets, read in %d.%03d ms, only taken apart in %d.%03d ms\n' "$1" "$(wc -c <"$2")" \
+        $((read / 1000)) $((read % 1000)) $((apart / 1000)) $((apart % 1000))
 }
 
 if [ -f /usr/share/zoneinfo/tzdata.zi ]; then
     show 'tzdata.zi' /usr/share/zoneinfo/tzdata.zi
 fi
-for kind in rules zones continuations chain; do
+for kind in rules 'rules of ten sets' zones continuations chain; do
     # the same octets as comments
     sed 's/^./#/' "$work/$kind" >"$work/comments"
     show "10,000 $kind" "$work/$kind"
