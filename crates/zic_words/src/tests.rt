@@ -122,7 +122,7 @@ fn names(rt: HostRuntime) -> Result<(), Fail> {
     assert!(rt; is_set_name(b"EU"));
     assert!(rt; !is_set_name(b"1EU"));
     // longer than what is kept inline
-    let long = b"America/North_Dakota/New_Salem".as_slice();
+    let long = b"Area/A-name-of-more-than-thirty-two-octets".as_slice();
     let name = Name::new(rt.alloc(), long)?;
     assert_eq!(rt; name.octets(), long);
     let copy = name.clone()?;
