@@ -1,9 +1,9 @@
 -- Which footer goes on for a zone.
 use Rattle.std.specs.Prelude.{◌≡◌, ℤ, pos, ◌-ℤ◌, true, false}
-use Rattle.zic_lines.specs.declared.place.Place.{Place}
-use Rattle.zic_lines.specs.declared.fault.Kind.TheVariants.{PermanentDaylight}
-use Rattle.zic_lines.specs.declared.fault.Stop.{Stop}
-use Rattle.zic_lines.specs.declared.fault.Stop.TheVariants as stop
+use Rattle.zic_base.specs.declared.place.Place.{Place}
+use Rattle.zic_base.specs.declared.fault.Kind.TheVariants.{PermanentDaylight}
+use Rattle.zic_base.specs.declared.fault.Stop.{Stop}
+use Rattle.zic_base.specs.declared.fault.Stop.TheVariants as stop
 use Rattle.zic_footer.specs.Footer.{TzString, constant}
 use Rattle.zic_footer.specs.Meaning.{Means}
 use Rattle.zic_rules.specs.State.{Shown}

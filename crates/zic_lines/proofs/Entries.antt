@@ -1,7 +1,7 @@
 -- What the fields of a line say is what reading gives.
 use Rattle.std.proofs.Common.{◌≡◌, ℕ, Bool, true, false, List, [], ◌∷◌, Option, Some, None, Ok, refl, sym, ap, subst, ◌∙◌}
 use Rattle.std.specs.Prelude.{IfSome}
-use Rattle.zic_lines.specs.declared.place.Place.{Place}
+use Rattle.zic_base.specs.declared.place.Place.{Place}
 use Rattle.zic_words.specs.declared.keyword.Keyword.{Keyword}
 use Rattle.zic_words.specs.declared.keyword.Keyword.TheVariants as keywords
 use Rattle.zic_lines.specs.declared.rule.Rule.{Rule}

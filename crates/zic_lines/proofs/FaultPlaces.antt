@@ -1,10 +1,10 @@
 -- The fault of a line stands at its place.
 use Rattle.std.proofs.Common.{◌≡◌, ℕ, Bool, true, false, cond, List, [], ◌∷◌, Option, Some, None, Result, Ok, Err, sym, ap}
 use Rattle.std.specs.Prelude.{ok_or}
-use Rattle.zic_lines.specs.declared.place.Place.{Place}
-use Rattle.zic_lines.specs.declared.fault.Fault.{Fault}
-use Rattle.zic_lines.specs.declared.fault.Kind.{Kind}
-use Rattle.zic_lines.specs.declared.fault.Kind.TheVariants as kinds
+use Rattle.zic_base.specs.declared.place.Place.{Place}
+use Rattle.zic_base.specs.declared.fault.Fault.{Fault}
+use Rattle.zic_base.specs.declared.fault.Kind.{Kind}
+use Rattle.zic_base.specs.declared.fault.Kind.TheVariants as kinds
 use Rattle.zic_words.specs.declared.keyword.Keyword.{Keyword}
 use Rattle.zic_lines.specs.declared.rule_line.Years.{Years}
 use Rattle.zic_words.specs.declared.keyword.Keyword.TheVariants as keywords
@@ -20,7 +20,8 @@ use Rattle.zic_words.specs.DayForm.{day_form_of}
 use Rattle.zic_words.specs.Clock.{clock_time_of}
 use Rattle.zic_words.specs.Saving.{saving_of}
 use Rattle.zic_words.specs.Letter.{letter_of}
-use Rattle.zic_lines.specs.Reading.{◌>>=◌, fault_at, code_fields, line_fields, zone_fields, continuation_line, zone_line, link_line, rule_years, rule_when, rule_of, rule_line, keyword_line, entry_of}
+use Rattle.zic_base.specs.Fault.{fault_at}
+use Rattle.zic_lines.specs.Reading.{◌>>=◌, code_fields, line_fields, zone_fields, continuation_line, zone_line, link_line, rule_years, rule_when, rule_of, rule_line, keyword_line, entry_of}
 
 -- if it is a fault, it stands at this place
 pub record StandsAt {A : Type 0} (place : Place) (r : Result A Fault) : Type 0 where

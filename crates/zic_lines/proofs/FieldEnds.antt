@@ -5,12 +5,12 @@ use Rattle.std.proofs.lemmas.Bool.{cases_Bool, ne_eqb, and_parts, leb-true, lt-l
 use Rattle.std.proofs.lemmas.List.{append-nil, append_cancel_right, drop_more, drop_all}
 use Rattle.std.proofs.lemmas.List.Elements.{filter-append, All-head, All-tail}
 use Rattle.std.proofs.lemmas.List.Folds.{drop_split}
-use Rattle.zic_lines.specs.declared.place.Place.{Place}
-use Rattle.zic_lines.specs.declared.fault.Kind.TheVariants.{Quote}
+use Rattle.zic_base.specs.declared.place.Place.{Place}
+use Rattle.zic_base.specs.declared.fault.Kind.TheVariants.{Quote}
 use Rattle.zic_lines.specs.declared.field.Role.TheVariants as role
 use Rattle.zic_lines.specs.Field.{is_quote, is_space, is_allowed, is_gap, starts_comment}
 use Rattle.zic_lines.specs.Taken.{TakenFields, role_of, is_plain, ArePlain, without_quotes, begun_text, ended_fields, scan}
-use Rattle.zic_lines.specs.Reading.{fault_at}
+use Rattle.zic_base.specs.Fault.{fault_at}
 use Rattle.zic_lines.proofs.Scan.{dispatched, role-text, role-quote, role-comment, role-refused, role-gap, mark_of}
 
 -- ---- parts of a line

@@ -1,15 +1,16 @@
 -- What three fields say of a link.
 use Rattle.std.proofs.Common.{◌≡◌, ℕ, not, cond, List, [], ◌∷◌, length, get_or, Some, Result, Ok, Err, refl, sym, ap, subst, ◌∙◌, arith}
 use Rattle.std.proofs.lemmas.Bool.{not-false}
-use Rattle.zic_lines.specs.declared.place.Place.{Place}
-use Rattle.zic_lines.specs.declared.fault.Fault.{Fault}
-use Rattle.zic_lines.specs.declared.fault.Kind.TheVariants.{Name}
+use Rattle.zic_base.specs.declared.place.Place.{Place}
+use Rattle.zic_base.specs.declared.fault.Fault.{Fault}
+use Rattle.zic_base.specs.declared.fault.Kind.TheVariants.{Name}
 use Rattle.zic_words.specs.declared.keyword.Keyword.TheVariants as keywords
 use Rattle.zic_lines.specs.declared.link.Link.{Link}
 use Rattle.zic_words.specs.Keyword.{keyword_of}
 use Rattle.zic_words.specs.Name.{is_name}
 use Rattle.zic_lines.specs.LinkLine.{IsLinkLine}
-use Rattle.zic_lines.specs.Reading.{fault_at, link_line}
+use Rattle.zic_base.specs.Fault.{fault_at}
+use Rattle.zic_lines.specs.Reading.{link_line}
 use Rattle.zic_lines.proofs.Steps.{guarded, same_ok}
 
 -- the link of this target and this name

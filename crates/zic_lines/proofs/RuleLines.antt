@@ -2,8 +2,8 @@
 use Rattle.std.proofs.Common.{◌≡◌, ℕ, Bool, true, false, not, List, [], ◌∷◌, length, get_or, Some, Ok, refl, sym, ap, subst, ◌∙◌, arith}
 use Rattle.std.specs.Prelude.{ok_or}
 use Rattle.std.proofs.lemmas.Bool.{not-false}
-use Rattle.zic_lines.specs.declared.place.Place.{Place}
-use Rattle.zic_lines.specs.declared.fault.Kind.TheVariants.{Name, Year, YearOrder, Reserved, Month, Day, Time, Save, Letter}
+use Rattle.zic_base.specs.declared.place.Place.{Place}
+use Rattle.zic_base.specs.declared.fault.Kind.TheVariants.{Name, Year, YearOrder, Reserved, Month, Day, Time, Save, Letter}
 use Rattle.zic_lines.specs.declared.rule.Rule.{Rule}
 use Rattle.zic_lines.specs.declared.rule_line.Years.{Years}
 use Rattle.zic_lines.specs.declared.rule_line.When.{When}
@@ -18,7 +18,8 @@ use Rattle.zic_words.specs.Clock.{clock_time_of}
 use Rattle.zic_words.specs.Saving.{saving_of}
 use Rattle.zic_words.specs.Letter.{letter_of}
 use Rattle.zic_lines.specs.RuleLine.{IsRuleLine}
-use Rattle.zic_lines.specs.Reading.{fault_at, rule_years, rule_when, rule_with, rule_of, rule_line}
+use Rattle.zic_base.specs.Fault.{fault_at}
+use Rattle.zic_lines.specs.Reading.{rule_years, rule_when, rule_with, rule_of, rule_line}
 use Rattle.zic_lines.proofs.Steps.{bound, guarded, present, same_ok}
 
 -- ten fields

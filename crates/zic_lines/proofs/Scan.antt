@@ -7,14 +7,15 @@ use Rattle.std.proofs.lemmas.List.{append-nil, map-append, take_at, length_push}
 use Rattle.std.proofs.lemmas.List.Elements.{filter-append}
 use Rattle.std.proofs.lemmas.List.Splits.{slice_split-cons_yes, slice_split-cons_no}
 use Rattle.std.proofs.lemmas.List.Sums.{sum_by_push, sum_by-cons, take_while-cons}
-use Rattle.zic_lines.specs.declared.place.Place.{Place}
-use Rattle.zic_lines.specs.declared.fault.Fault.{Fault}
-use Rattle.zic_lines.specs.declared.fault.Kind.TheVariants.{NotAscii, Quote}
+use Rattle.zic_base.specs.declared.place.Place.{Place}
+use Rattle.zic_base.specs.declared.fault.Fault.{Fault}
+use Rattle.zic_base.specs.declared.fault.Kind.TheVariants.{NotAscii, Quote}
 use Rattle.zic_lines.specs.declared.field.Role.{Role}
 use Rattle.zic_lines.specs.declared.field.Role.TheVariants as role
 use Rattle.zic_lines.specs.Field.{Mark, code, fields, field_text, is_quote, is_allowed, is_odd, is_gap, is_some_part, starts_comment, is_ascii_code}
 use Rattle.zic_lines.specs.Taken.{TakenFields, nothing_taken, role_of, begun, with_byte, ended, ended_fields, scan}
-use Rattle.zic_lines.specs.Reading.{fault_at, code_fields}
+use Rattle.zic_base.specs.Fault.{fault_at}
+use Rattle.zic_lines.specs.Reading.{code_fields}
 
 -- ---- marks, one after the other
 

@@ -1,7 +1,7 @@
 -- Steps that did not fail, and steps that did.
 use Rattle.std.proofs.Common.{◌≡◌, Bool, true, false, cond, ◌⊎◌, inl, inr, Option, Some, None, Result, Ok, Err, refl, ap}
 use Rattle.std.specs.Prelude.{ok_or}
-use Rattle.zic_lines.specs.declared.fault.Fault.{Fault}
+use Rattle.zic_base.specs.declared.fault.Fault.{Fault}
 use Rattle.zic_lines.specs.Reading.{◌>>=◌}
 
 -- the value of a step that did not fail

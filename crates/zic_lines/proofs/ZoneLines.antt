@@ -2,9 +2,9 @@
 use Rattle.std.proofs.Common.{◌≡◌, ℕ, ◌≤◌, false, not, cond, ltb, List, [], ◌∷◌, length, get_or, drop, Option, Some, Result, Ok, Err, refl, sym, ap, subst, ◌∙◌, arith}
 use Rattle.std.specs.Prelude.{ok_or}
 use Rattle.std.proofs.lemmas.Bool.{le-ltb, not-false}
-use Rattle.zic_lines.specs.declared.place.Place.{Place}
-use Rattle.zic_lines.specs.declared.fault.Fault.{Fault}
-use Rattle.zic_lines.specs.declared.fault.Kind.TheVariants.{FieldCount, Name, Offset, Format, Until}
+use Rattle.zic_base.specs.declared.place.Place.{Place}
+use Rattle.zic_base.specs.declared.fault.Fault.{Fault}
+use Rattle.zic_base.specs.declared.fault.Kind.TheVariants.{FieldCount, Name, Offset, Format, Until}
 use Rattle.zic_words.specs.declared.keyword.Keyword.TheVariants as keywords
 use Rattle.zic_lines.specs.declared.until as declared
 use Rattle.zic_lines.specs.declared.zone_line.ZoneLine.{ZoneLine}
@@ -15,7 +15,8 @@ use Rattle.zic_lines.specs.RulesField.{rules_of, rules_kind}
 use Rattle.zic_lines.specs.Format.{format_of}
 use Rattle.zic_lines.specs.Until.{until_of}
 use Rattle.zic_lines.specs.ZoneLine.{IsZoneLine, IsContinuationLine}
-use Rattle.zic_lines.specs.Reading.{◌>>=◌, fault_at, zone_fields, zone_line, continuation_line}
+use Rattle.zic_base.specs.Fault.{fault_at}
+use Rattle.zic_lines.specs.Reading.{◌>>=◌, zone_fields, zone_line, continuation_line}
 use Rattle.zic_lines.proofs.Steps.{bound, guarded, present, same_ok}
 
 -- the zone of this name, and its first line as the fields behind the name give it

@@ -1,6 +1,6 @@
 -- Link lines: zic(8), FILES.
 use Rattle.std.specs.Prelude.{◌≡◌, ℕ, List, [], ◌∷◌, Some, IsTrue}
-use Rattle.zic_lines.specs.declared.place.Place.{Place}
+use Rattle.zic_base.specs.declared.place.Place.{Place}
 use Rattle.zic_words.specs.declared.keyword.Keyword.TheVariants.{Link}
 use Rattle.zic_lines.specs.declared.link as declared
 use Rattle.zic_words.specs.Keyword.{keyword_of}

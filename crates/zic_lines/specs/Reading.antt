@@ -1,10 +1,10 @@
 -- What one line says, up to its first fault. The order of faults is own choice. `Grammar` says what a line may say; here
 -- stands only which fault comes first.
 use Rattle.std.specs.Prelude.{ℕ, Bool, true, false, not, List, [], ◌∷◌, length, Option, Some, None, Result, Ok, Err, ok_or, if◌then◌else◌, nat_lt}
-use Rattle.zic_lines.specs.declared.place.Place.{Place}
-use Rattle.zic_lines.specs.declared.fault.Fault.{Fault}
-use Rattle.zic_lines.specs.declared.fault.Kind.{Kind}
-use Rattle.zic_lines.specs.declared.fault.Kind.TheVariants.{LineTooLong, NotAscii, Quote, Keyword, FieldCount, Name, Year, YearOrder, Reserved, Month, Day, Time, Save, Letter, Offset, Format, Until}
+use Rattle.zic_base.specs.declared.place.Place.{Place}
+use Rattle.zic_base.specs.declared.fault.Fault.{Fault}
+use Rattle.zic_base.specs.declared.fault.Kind.{Kind}
+use Rattle.zic_base.specs.declared.fault.Kind.TheVariants.{LineTooLong, NotAscii, Quote, Keyword, FieldCount, Name, Year, YearOrder, Reserved, Month, Day, Time, Save, Letter, Offset, Format, Until}
 use Rattle.zic_words.specs.declared.keyword.Keyword as keyword
 use Rattle.zic_words.specs.declared.keyword.Keyword.TheVariants as keywords
 use Rattle.zic_lines.specs.declared.rule.Rule.{Rule}
@@ -13,6 +13,7 @@ use Rattle.zic_lines.specs.declared.rule_line.When.{When}
 use Rattle.zic_lines.specs.declared.zone_line.ZoneLine.{ZoneLine}
 use Rattle.zic_lines.specs.declared.link.Link.{Link}
 use Rattle.zic_words.specs.declared.saving.Saving.{Saving}
+use Rattle.zic_base.specs.Fault.{fault_at}
 use Rattle.zic_lines.specs.Entry.{LineEntry, RuleEntry, ZoneEntry, ContinuationEntry, LinkEntry}
 use Rattle.zic_lines.specs.Line.{PlacedLine}
 use Rattle.zic_lines.specs.Field.{is_ascii_code, is_closed, fields}
@@ -36,10 +37,6 @@ infixl 10 ◌>>=◌
 abbrev pub ◌>>=◌ : {A B : Type 0} → Result A Fault → (A → Result B Fault) → Result B Fault
 (Ok x) >>= f = f x
 (Err fault) >>= f = Err fault
-
--- this kind of fault at this place
-abbrev pub fault_at : Place → Kind → Fault
-fault_at place kind = record { place = place; kind = kind }
 
 -- the fields of a line's code
 unfoldable pub code_fields : Place → List ℕ → Result (List (List ℕ)) Fault

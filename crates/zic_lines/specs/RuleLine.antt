@@ -1,6 +1,6 @@
 -- A Rule line: zic(8), FILES.
 use Rattle.std.specs.Prelude.{◌≡◌, ℕ, not, List, [], ◌∷◌, Some, IsTrue}
-use Rattle.zic_lines.specs.declared.place.Place.{Place}
+use Rattle.zic_base.specs.declared.place.Place.{Place}
 use Rattle.zic_lines.specs.declared.rule.Rule.{Rule}
 use Rattle.zic_words.specs.Dash.{is_dash}
 use Rattle.zic_words.specs.declared.keyword.Keyword.TheVariants as keywords

@@ -1,8 +1,8 @@
 -- The RULES of a zone's line: zic(8), FILES; the limit of an amount is own choice.
 use Rattle.std.specs.Prelude.{ℕ, Bool, false, ◌||◌, List, [], ◌∷◌, Option, Some, None, option_map, if◌then◌else◌, ◌==◌}
 use Rattle.std.specs.Char.{is_ascii_digit}
-use Rattle.zic_lines.specs.declared.fault.Kind.{Kind}
-use Rattle.zic_lines.specs.declared.fault.Kind.TheVariants.{Name, Save}
+use Rattle.zic_base.specs.declared.fault.Kind.{Kind}
+use Rattle.zic_base.specs.declared.fault.Kind.TheVariants.{Name, Save}
 use Rattle.zic_lines.specs.declared.rules.Rules.{Rules}
 use Rattle.zic_lines.specs.declared.rules.Rules.TheVariants.{Standard, Amount, Set}
 use Rattle.zic_words.specs.Dash.{is_dash}

@@ -1,8 +1,8 @@
 -- How an answer of the code stands to what reading gives.
 use Rattle.std.specs.Prelude.{◌≡◌, Result, Ok, Err}
-use Rattle.zic_lines.specs.declared.fault.Fault.{Fault}
-use Rattle.zic_lines.specs.declared.fault.Stop.{Stop}
-use Rattle.zic_lines.specs.declared.fault.Stop.TheVariants as stops
+use Rattle.zic_base.specs.declared.fault.Fault.{Fault}
+use Rattle.zic_base.specs.declared.fault.Stop.{Stop}
+use Rattle.zic_base.specs.declared.fault.Stop.TheVariants as stops
 
 -- A stop for a fault has the fault that reading gives. One for want of memory says nothing of it.
 abbrev pub Stops : {Y : Type 0} → Stop → Result Y Fault → Type 0

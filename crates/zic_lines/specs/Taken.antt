@@ -1,12 +1,12 @@
 -- How the code takes a line apart, byte by byte; no public contract cites it.
 use Rattle.std.specs.Prelude.{◌≡◌, ℕ, Bool, true, not, ◌&&◌, List, [], ◌∷◌, ◌++◌, filter, All, Option, Some, None, Result, Ok, Err, unwrap_or, if◌then◌else◌, nat_le}
-use Rattle.zic_lines.specs.declared.place.Place.{Place}
-use Rattle.zic_lines.specs.declared.fault.Fault.{Fault}
-use Rattle.zic_lines.specs.declared.fault.Kind.TheVariants.{NotAscii, Quote}
+use Rattle.zic_base.specs.declared.place.Place.{Place}
+use Rattle.zic_base.specs.declared.fault.Fault.{Fault}
+use Rattle.zic_base.specs.declared.fault.Kind.TheVariants.{NotAscii, Quote}
 use Rattle.zic_lines.specs.declared.field.Role.{Role}
 use Rattle.zic_lines.specs.declared.field.Role.TheVariants as role
 use Rattle.zic_lines.specs.Field.{Mark, is_quote, is_allowed, starts_comment, is_gap, dash_if_empty}
-use Rattle.zic_lines.specs.Reading.{fault_at}
+use Rattle.zic_base.specs.Fault.{fault_at}
 
 -- the fields that are whole, and the text so far of one that isn't
 pub record TakenFields : Type 0 where

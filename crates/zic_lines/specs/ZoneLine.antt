@@ -1,6 +1,6 @@
 -- Zone lines and continuation lines: zic(8), FILES.
 use Rattle.std.specs.Prelude.{◌≡◌, ℕ, List, ◌∷◌, Some, IsTrue}
-use Rattle.zic_lines.specs.declared.place.Place.{Place}
+use Rattle.zic_base.specs.declared.place.Place.{Place}
 use Rattle.zic_words.specs.declared.keyword.Keyword.TheVariants.{Zone}
 use Rattle.zic_lines.specs.declared.zone_line.ZoneLine.{ZoneLine}
 use Rattle.zic_words.specs.Keyword.{keyword_of}

@@ -7,14 +7,13 @@ ghost use Rattle.zic_lines.specs.Reading.{entry_of, keyword_line};
 ghost use Rattle.zic_words.specs.Keyword.{keyword_of};
 ghost use Rattle.std.specs.Prelude.{◌<◌, length, slice_index_or, []};
 
-use crate::fault::{Kind, Stop};
 use crate::field::Fields;
 use crate::link::{Link, link_line};
-use crate::place::Place;
 use crate::rule::Rule;
 use crate::rule_line::rule_line;
 use crate::zone_line::{ZoneLine, continuation_line, zone_line};
 use std::alloc::Global;
+use zic_base::{Kind, Place, Stop};
 use zic_words::{Keyword, Name, parse_keyword};
 
 /// What a line that isn't blank says.

@@ -7,11 +7,10 @@ ghost use Rattle.zic_lines.specs.Stop.{Gives};
 ghost use Rattle.zic_lines.specs.Reading.{line_fields, code_fields};
 ghost use Rattle.zic_lines.specs.Taken.{role_of, is_plain, ArePlain, without_quotes, begun_text, ended_fields};
 
-use crate::fault::{Kind, Stop};
-use crate::place::Place;
 use std::alloc::{AllocError, Global};
 use std::borrow::CowSlice;
 use std::marker::Model;
+use zic_base::{Kind, Place, Stop};
 
 /// How many bytes a line may have without its newline.
 const LONGEST_LINE: usize = 2048;

@@ -2,16 +2,15 @@
 
 ghost use Rattle.std.specs.Prelude.{◌≡◌, ◌==◌, ok_or};
 ghost use Rattle.std.specs.List.{slice_split};
-ghost use Rattle.zic_lines.specs.declared.fault.Kind.TheVariants as kind;
+ghost use Rattle.zic_base.specs.declared.fault.Kind.TheVariants as kind;
 ghost use Rattle.zic_lines.specs.Stop.{Gives};
-ghost use Rattle.zic_lines.specs.Reading.{fault_at};
+ghost use Rattle.zic_base.specs.Fault.{fault_at};
 ghost use Rattle.zic_lines.specs.Format.{format_of, has_slash, slashed, conversion};
 
-use crate::fault::{Kind, Stop};
-use crate::place::Place;
 use smallvec::SmallVec;
 use std::alloc::{AllocError, Global};
 use std::marker::Model;
+use zic_base::{Kind, Place, Stop};
 use zic_words::{is_dash, split_once};
 
 /// A part of a FORMAT; clauses see its octets, which are printable ASCII and white space.

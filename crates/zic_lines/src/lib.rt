@@ -4,11 +4,9 @@
 #![tactic(auto)]
 
 mod entry;
-mod fault;
 mod field;
 mod format;
 mod link;
-mod place;
 mod rule;
 mod rule_line;
 mod rules;
@@ -16,14 +14,13 @@ mod until;
 mod zone_line;
 
 pub use entry::{Entry, line_entry};
-pub use fault::{Fault, Kind, Stop};
 pub use field::Fields;
 pub use format::{Format, FormatPart};
 pub use link::Link;
-pub use place::Place;
 pub use rule::Rule;
 pub use rules::Rules;
 pub use until::Until;
+pub use zic_base::{Fault, Kind, Place, Stop};
 pub use zone_line::ZoneLine;
 
 #[cfg(test)]

@@ -3,10 +3,9 @@
 ghost use Rattle.zic_lines.specs.Stop.{Gives};
 ghost use Rattle.zic_lines.specs.Reading.{link_line};
 
-use crate::fault::{Kind, Stop};
 use crate::field::Fields;
-use crate::place::Place;
 use std::alloc::Global;
+use zic_base::{Kind, Place, Stop};
 use zic_words::{Name, is_name};
 
 /// A Link line: one more name for a zone.

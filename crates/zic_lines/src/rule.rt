@@ -1,6 +1,6 @@
 //! Rules of a source.
 
-use crate::place::Place;
+use zic_base::Place;
 use zic_calendar::On;
 use zic_words::{ClockForm, Letter, SetName};
 

@@ -3,11 +3,10 @@
 ghost use Rattle.zic_lines.specs.Stop.{Gives};
 ghost use Rattle.zic_lines.specs.Reading.{rule_years, rule_when, rule_line};
 
-use crate::fault::{Kind, Stop};
 use crate::field::Fields;
-use crate::place::Place;
 use crate::rule::Rule;
 use std::alloc::Global;
+use zic_base::{Kind, Place, Stop};
 use zic_calendar::On;
 use zic_words::{
     ClockTime, SetName, clock_time, ends_before, is_dash, is_one_leap_year, is_set_name, last_year,

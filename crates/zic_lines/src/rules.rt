@@ -2,12 +2,11 @@
 
 ghost use Rattle.std.specs.Prelude.{◌≡◌, ok_or};
 ghost use Rattle.zic_lines.specs.Stop.{Gives};
-ghost use Rattle.zic_lines.specs.Reading.{fault_at};
+ghost use Rattle.zic_base.specs.Fault.{fault_at};
 ghost use Rattle.zic_lines.specs.RulesField.{begins_amount, rules_of, rules_kind};
 
-use crate::fault::{Kind, Stop};
-use crate::place::Place;
 use std::alloc::Global;
+use zic_base::{Kind, Place, Stop};
 use zic_words::{Saving, SetName, is_dash, is_set_name, save};
 
 /// What the RULES of a Zone or continuation line say.

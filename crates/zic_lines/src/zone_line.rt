@@ -4,13 +4,12 @@ ghost use Rattle.std.specs.Prelude.{◌≡◌, ◌+◌, ◌-◌, ◌≤◌, leng
 ghost use Rattle.zic_lines.specs.Stop.{Gives};
 ghost use Rattle.zic_lines.specs.Reading.{zone_fields, zone_line, continuation_line};
 
-use crate::fault::{Kind, Stop};
 use crate::field::Fields;
 use crate::format::{Format, parse_format};
-use crate::place::Place;
 use crate::rules::{Rules, parse_rules};
 use crate::until::{Until, parse_until};
 use std::alloc::Global;
+use zic_base::{Kind, Place, Stop};
 use zic_words::{Name, is_name, offset};
 
 /// A Zone or continuation line: what holds from the UNTIL of the line before it, if there is one, up to its own.

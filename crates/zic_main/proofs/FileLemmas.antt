@@ -15,10 +15,10 @@ use Rattle.zic_footer.proofs.StringLemmas.{spells_one}
 use Rattle.zic_table.specs.Content.{Content}
 use Rattle.zic_tzif.specs.Answer.{Gives}
 use Rattle.zic_tzif.specs.Reading.{IsFile}
-use Rattle.zic_lines.specs.declared.fault.Kind.TheVariants.{NoFooter}
+use Rattle.zic_base.specs.declared.fault.Kind.TheVariants.{NoFooter}
 use Rattle.zic_lines.specs.declared.zone_line.ZoneLine.{ZoneLine}
-use Rattle.zic_lines.specs.declared.fault.Stop.{Stop}
-use Rattle.zic_lines.specs.declared.fault.Stop.TheVariants as stop
+use Rattle.zic_base.specs.declared.fault.Stop.{Stop}
+use Rattle.zic_base.specs.declared.fault.Stop.TheVariants as stop
 use Rattle.zic_main.specs.File.{File, IsPlainSource, StopsForNow, StopsFile, StopsFiles, nth_zone, AreOctetsOf, IsFileOf, IsImage, ReadsAs}
 
 name_length : (text name : List ℕ) → SpellsName text name → 3 ≤ length text

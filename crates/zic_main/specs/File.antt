@@ -1,9 +1,9 @@
 -- The files of a source.
 use Rattle.std.specs.Prelude.{◌≡◌, ◌<◌, ℕ, ℤ, true, ◌↔◌, List, [], ◌∷◌, length, slice_get, Some, ◌⊎◌, IsSomeAnd}
-use Rattle.zic_lines.specs.declared.fault.Fault.{Fault}
-use Rattle.zic_lines.specs.declared.fault.Stop.{Stop}
-use Rattle.zic_lines.specs.declared.fault.Stop.TheVariants as stop
-use Rattle.zic_lines.specs.declared.fault.Kind.TheVariants.{NoFooter}
+use Rattle.zic_base.specs.declared.fault.Fault.{Fault}
+use Rattle.zic_base.specs.declared.fault.Stop.{Stop}
+use Rattle.zic_base.specs.declared.fault.Stop.TheVariants as stop
+use Rattle.zic_base.specs.declared.fault.Kind.TheVariants.{NoFooter}
 use Rattle.zic_source.specs.Source.{SourceLines, ZoneLines, zone_at}
 use Rattle.zic_rules.specs.Fault.{StopsZone, IsSound}
 use Rattle.zic_rules.specs.State.{Shown}

@@ -2,7 +2,7 @@
 
 ghost use Rattle.std.specs.Prelude.{◌<◌, length, map, IfOk, IfErr};
 ghost use Rattle.std.specs.Option.{MatchOption};
-ghost use Rattle.zic_lines.specs.declared.fault.Kind.TheVariants.{NoFooter};
+ghost use Rattle.zic_base.specs.declared.fault.Kind.TheVariants.{NoFooter};
 ghost use Rattle.zic_rules.specs.Zone.{IsPlainZone};
 ghost use Rattle.zic_tzif.specs.Reading.{IsFile};
 ghost use Rattle.zic_main.specs.File.{file_of, nth_zone, AreFilesOf, AreOctetsOf, IsFileOf, IsSomeFile, StopsFile, StopsFiles, StopsForNow, IsPlainSource};

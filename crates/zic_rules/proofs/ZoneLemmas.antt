@@ -3,7 +3,7 @@ use Rattle.std.proofs.Common.{◌≡◌, ℕ, ℤ, pos, ◌<◌, ◌≤◌, true
 use Rattle.std.specs.Prelude.{IfSome, IsSomeAnd, slice_get, unsigned_abs}
 use Rattle.std.proofs.lemmas.Option.{slice_get_cases}
 use Rattle.zic_lines.specs.declared.zone_line.ZoneLine.{ZoneLine}
-use Rattle.zic_lines.specs.declared.fault.Kind.TheVariants.{OffsetRange, BadAbbreviation}
+use Rattle.zic_base.specs.declared.fault.Kind.TheVariants.{OffsetRange, BadAbbreviation}
 use Rattle.zic_source.specs.Source.{SourceLines, ZoneLines, zone_at, lines_of_zone}
 use Rattle.zic_rules.specs.State.{Shown}
 use Rattle.zic_rules.specs.Change.{AreChanges}

@@ -1,10 +1,10 @@
 -- What is wrong with a zone whose source was read.
 use Rattle.std.specs.Prelude.{◌≡◌, ℕ, ℤ, ◌<◌, ◌≤◌, Bool, true, false, ◌&&◌, ◌||◌, nat_le, ◌==◌, List, length, IsSomeAnd, unsigned_abs}
 use Rattle.std.specs.List.{list_all}
-use Rattle.zic_lines.specs.declared.fault.Kind.{Kind}
-use Rattle.zic_lines.specs.declared.fault.Kind.TheVariants.{OffsetRange, BadAbbreviation}
-use Rattle.zic_lines.specs.declared.fault.Stop.{Stop}
-use Rattle.zic_lines.specs.declared.fault.Stop.TheVariants as stop
+use Rattle.zic_base.specs.declared.fault.Kind.{Kind}
+use Rattle.zic_base.specs.declared.fault.Kind.TheVariants.{OffsetRange, BadAbbreviation}
+use Rattle.zic_base.specs.declared.fault.Stop.{Stop}
+use Rattle.zic_base.specs.declared.fault.Stop.TheVariants as stop
 use Rattle.zic_rules.specs.State.{Shown}
 use Rattle.zic_rules.specs.Zone.{Zone, lines_of, Shows}
 

@@ -1,13 +1,14 @@
 -- The first fault of a line or of a text's end is the one before which all is read.
 use Rattle.std.proofs.Common.{◌≡◌, ℕ, ◌⊎◌, inl, inr, ⊎_elim, List, [], ◌∷◌, ◌++◌, Option, Some, None, Result, Ok, Err, refl, sym, ap, ◌∙◌}
 use Rattle.std.specs.Prelude.{IsSomeAnd, ◌↔◌}
-use Rattle.zic_lines.specs.declared.fault.Fault.{Fault}
-use Rattle.zic_lines.specs.declared.fault.Kind.TheVariants.{NoContinuation}
+use Rattle.zic_base.specs.declared.fault.Fault.{Fault}
+use Rattle.zic_base.specs.declared.fault.Kind.TheVariants.{NoContinuation}
 use Rattle.zic_lines.specs.declared.zone_line.ZoneLine.{ZoneLine}
 use Rattle.zic_source.specs.Source.{SourceLines, no_lines}
 use Rattle.zic_lines.specs.Line.{PlacedLine, lines_of_texts}
 use Rattle.zic_source.specs.FirstLine.{IsFaultOfLine, IsFaultOfEnd}
-use Rattle.zic_lines.specs.Reading.{◌>>=◌, fault_at}
+use Rattle.zic_base.specs.Fault.{fault_at}
+use Rattle.zic_lines.specs.Reading.{◌>>=◌}
 use Rattle.zic_source.specs.Reading.{open_line, line_read, lines_read, text_ended, text_read, texts_read, reading}
 use Rattle.zic_lines.proofs.Steps.{bound, failed, same_ok}
 use Rattle.zic_source.proofs.LinePlaces.{line_at}

@@ -4,15 +4,16 @@ use Rattle.std.specs.Prelude.{is_some, IfSome}
 use Rattle.std.specs.List.{AllZip}
 use Rattle.std.proofs.lemmas.Bool.{ltb-false, le-ltb, not-false}
 use Rattle.std.proofs.lemmas.List.{append-nil}
-use Rattle.zic_lines.specs.declared.fault.Fault.{Fault}
-use Rattle.zic_lines.specs.declared.fault.Kind.TheVariants.{LineTooLong, NotAscii, Quote}
+use Rattle.zic_base.specs.declared.fault.Fault.{Fault}
+use Rattle.zic_base.specs.declared.fault.Kind.TheVariants.{LineTooLong, NotAscii, Quote}
 use Rattle.zic_source.specs.Source.{SourceLines}
 use Rattle.zic_lines.specs.Entry.{LineEntry, is_continuation, goes_on}
 use Rattle.zic_lines.specs.Line.{PlacedLine}
 use Rattle.zic_lines.specs.Field.{fields, is_ascii_code, is_closed}
 use Rattle.zic_lines.specs.Grammar.{IsLine, FieldsSay, Says}
 use Rattle.zic_source.specs.Grammar.{said}
-use Rattle.zic_lines.specs.Reading.{◌>>=◌, fault_at, code_fields, line_fields, entry_of}
+use Rattle.zic_base.specs.Fault.{fault_at}
+use Rattle.zic_lines.specs.Reading.{◌>>=◌, code_fields, line_fields, entry_of}
 use Rattle.zic_source.specs.Reading.{with_entry, open_line, line_read, lines_read}
 use Rattle.zic_lines.proofs.Steps.{bound, guarded, same_ok}
 use Rattle.zic_lines.proofs.Entries.{entry_says, says_entry}

@@ -1,8 +1,8 @@
 -- The fault that a line adds to a source stands at its place.
 use Rattle.std.proofs.Common.{Option, Some, None}
 use Rattle.std.specs.Prelude.{is_some}
-use Rattle.zic_lines.specs.declared.place.Place.{Place}
-use Rattle.zic_lines.specs.declared.fault.Kind.TheVariants as kinds
+use Rattle.zic_base.specs.declared.place.Place.{Place}
+use Rattle.zic_base.specs.declared.fault.Kind.TheVariants as kinds
 use Rattle.zic_source.specs.Source.{SourceLines}
 use Rattle.zic_lines.specs.Entry.{LineEntry, RuleEntry, ZoneEntry, ContinuationEntry, LinkEntry}
 use Rattle.zic_lines.specs.Line.{PlacedLine}

@@ -3,8 +3,8 @@ use Rattle.std.proofs.Common.{◌≡◌, ℕ, ◌+◌, ◌<◌, ◌≤◌, List,
 use Rattle.std.specs.Global.{Vec}
 use Rattle.std.specs.List.{enumerate_from}
 use Rattle.std.proofs.lemmas.List.{drop_more, drop_all, get_or-map}
-use Rattle.zic_lines.specs.declared.fault.Fault.{Fault}
-use Rattle.zic_lines.specs.declared.fault.Stop.{Stop}
+use Rattle.zic_base.specs.declared.fault.Fault.{Fault}
+use Rattle.zic_base.specs.declared.fault.Stop.{Stop}
 use Rattle.zic_source.specs.Source.{SourceLines, no_lines}
 use Rattle.zic_lines.specs.Stop.{Stops}
 use Rattle.zic_lines.specs.Line.{PlacedLine, lines_of, text_lines, lines_of_texts}

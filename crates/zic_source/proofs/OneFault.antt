@@ -2,10 +2,10 @@
 use Rattle.std.proofs.Common.{◌≡◌, ℕ, ◌<◌, true, false, ◌⊎◌, inl, inr, List, refl, sym, ap, subst, ◌∙◌}
 use Rattle.std.specs.Prelude.{Contains}
 use Rattle.std.proofs.lemmas.Bool.{not-true, or_parts, cases_order}
-use Rattle.zic_lines.specs.declared.place.Place.{Place}
-use Rattle.zic_lines.specs.declared.fault.Fault.{Fault}
-use Rattle.zic_lines.specs.declared.fault.Kind.{Kind}
-use Rattle.zic_lines.specs.declared.fault.Kind.TheVariants.{UnknownRules, UnknownTarget, LinkCycle}
+use Rattle.zic_base.specs.declared.place.Place.{Place}
+use Rattle.zic_base.specs.declared.fault.Fault.{Fault}
+use Rattle.zic_base.specs.declared.fault.Kind.{Kind}
+use Rattle.zic_base.specs.declared.fault.Kind.TheVariants.{UnknownRules, UnknownTarget, LinkCycle}
 use Rattle.zic_lines.specs.declared.link.Link.{Link}
 use Rattle.zic_lines.specs.declared.zone_line.ZoneLine.{ZoneLine}
 use Rattle.zic_source.specs.Source.{SourceLines, zone_lines_of}

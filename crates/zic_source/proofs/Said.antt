@@ -5,8 +5,8 @@ use Rattle.std.specs.List.{list_any}
 use Rattle.std.proofs.lemmas.Bool.{leb-false, lt-leb}
 use Rattle.std.proofs.lemmas.List.{append-nil, length-append, length-map}
 use Rattle.std.proofs.lemmas.List.Folds.{list_any-append}
-use Rattle.zic_lines.specs.declared.place.Place.{Place}
-use Rattle.zic_lines.specs.declared.fault.Kind.TheVariants.{DuplicateName, TooMany}
+use Rattle.zic_base.specs.declared.place.Place.{Place}
+use Rattle.zic_base.specs.declared.fault.Kind.TheVariants.{DuplicateName, TooMany}
 use Rattle.zic_lines.specs.declared.rule.Rule.{Rule}
 use Rattle.zic_lines.specs.declared.link.Link.{Link}
 use Rattle.zic_lines.specs.declared.zone_line.ZoneLine.{ZoneLine}
@@ -15,7 +15,7 @@ use Rattle.zic_lines.specs.Entry.{has_until}
 use Rattle.zic_lines.specs.Entry.{LineEntry, RuleEntry, ZoneEntry, ContinuationEntry, LinkEntry, is_continuation, goes_on, rules_in, links_in, zone_entries_in, names_in}
 use Rattle.zic_source.specs.Source.{entries_of_zone}
 use Rattle.zic_source.specs.Links.{is_zone_name, is_link_name, is_named}
-use Rattle.zic_lines.specs.Reading.{fault_at}
+use Rattle.zic_base.specs.Fault.{fault_at}
 use Rattle.zic_source.specs.Reading.{with_rule, with_zone, with_continuation, with_link, with_entry, name_count, is_full_of_lines, is_full_of_names, continued, last_until, open_line}
 use Rattle.zic_lines.proofs.Steps.{guarded, same_ok}
 use Rattle.zic_source.proofs.ZoneLists.{last_until-push, continued_lines, continued_entries}

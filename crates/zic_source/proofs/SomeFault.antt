@@ -1,9 +1,9 @@
 -- Texts that are no source have a first fault.
 use Rattle.std.proofs.Common.{◌≡◌, ℕ, Bool, true, false, ◌⊎◌, inl, inr, ⊎_elim, List, [], ◌∷◌, Option, Some, None, Result, Ok, Err, refl, sym, ap, subst}
 use Rattle.std.proofs.lemmas.List.Elements.{Contains-append_right}
-use Rattle.zic_lines.specs.declared.place.Place.{Place}
-use Rattle.zic_lines.specs.declared.fault.Fault.{Fault}
-use Rattle.zic_lines.specs.declared.fault.Kind.TheVariants.{UnknownRules, UnknownTarget, LinkCycle}
+use Rattle.zic_base.specs.declared.place.Place.{Place}
+use Rattle.zic_base.specs.declared.fault.Fault.{Fault}
+use Rattle.zic_base.specs.declared.fault.Kind.TheVariants.{UnknownRules, UnknownTarget, LinkCycle}
 use Rattle.zic_lines.specs.declared.rule.Rule.{Rule}
 use Rattle.zic_lines.specs.declared.zone_line.ZoneLine.{ZoneLine}
 use Rattle.zic_lines.specs.declared.link.Link.{Link}
@@ -11,7 +11,7 @@ use Rattle.zic_source.specs.Source.{SourceLines, ZoneLines, lines_of_zone}
 use Rattle.zic_source.specs.Links.{EndsAtZone, EndsNowhere, HasNoEnd}
 use Rattle.zic_source.specs.Whole.{is_unknown, IsBefore, IsWhole, HasFirst}
 use Rattle.zic_source.specs.Grammar.{IsSource}
-use Rattle.zic_lines.specs.Reading.{fault_at}
+use Rattle.zic_base.specs.Fault.{fault_at}
 use Rattle.zic_source.specs.Reading.{reading}
 use Rattle.zic_source.specs.FirstFault.{IsFirstFault}
 use Rattle.zic_source.specs.Faults.{earlier, IsFirst, IsFirstOf, LineIsRight, LineHas, ZoneIsRight, ZoneHas, LinkHas, IsFirstOfZones, IsFirstOfLinks}

@@ -4,8 +4,8 @@ use Rattle.std.specs.Prelude.{◌||◌, is_some, flat_map, bytes_eq}
 use Rattle.std.proofs.lemmas.Bool.{le-leb, lt-leb}
 use Rattle.std.proofs.lemmas.Grind.{flat_map-append}
 use Rattle.std.proofs.lemmas.List.{length-append}
-use Rattle.zic_lines.specs.declared.place.Place.{Place}
-use Rattle.zic_lines.specs.declared.fault.Kind.TheVariants.{DuplicateName, TooMany}
+use Rattle.zic_base.specs.declared.place.Place.{Place}
+use Rattle.zic_base.specs.declared.fault.Kind.TheVariants.{DuplicateName, TooMany}
 use Rattle.zic_lines.specs.declared.link.Link.{Link}
 use Rattle.zic_source.specs.declared.names.Named.{Named}
 use Rattle.zic_source.specs.declared.names.Names.{Names}
@@ -13,7 +13,7 @@ use Rattle.zic_lines.specs.declared.zone_line.ZoneLine.{ZoneLine}
 use Rattle.zic_source.specs.Source.{ZoneLines, SourceLines, zone_lines_of, lines_of_zone}
 use Rattle.zic_source.specs.Names.{who, Indexes}
 use Rattle.zic_source.specs.Links.{is_named}
-use Rattle.zic_lines.specs.Reading.{fault_at}
+use Rattle.zic_base.specs.Fault.{fault_at}
 use Rattle.zic_source.specs.Reading.{with_zone, with_link, is_full_of_lines, is_full_of_names, continued}
 use Rattle.zic_source.proofs.NamesLemmas.{nobody}
 use Rattle.zic_source.proofs.ZoneLists.{continued_lines}

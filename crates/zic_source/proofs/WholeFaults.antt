@@ -2,10 +2,10 @@
 use Rattle.std.proofs.Common.{◌≡◌, ◌<◌, ℕ, zero, suc, ◌⊎◌, inl, inr, ⊎_elim, List, [], ◌∷◌, length, Option, Some, None, refl, sym, ap, subst, arith}
 use Rattle.std.specs.Prelude.{Contains, slice_get}
 use Rattle.std.specs.Option.{IfSome, ForSome}
-use Rattle.zic_lines.specs.declared.place.Place.{Place}
-use Rattle.zic_lines.specs.declared.fault.Fault.{Fault}
-use Rattle.zic_lines.specs.declared.fault.Kind.{Kind}
-use Rattle.zic_lines.specs.declared.fault.Kind.TheVariants.{UnknownRules, UnknownTarget, LinkCycle}
+use Rattle.zic_base.specs.declared.place.Place.{Place}
+use Rattle.zic_base.specs.declared.fault.Fault.{Fault}
+use Rattle.zic_base.specs.declared.fault.Kind.{Kind}
+use Rattle.zic_base.specs.declared.fault.Kind.TheVariants.{UnknownRules, UnknownTarget, LinkCycle}
 use Rattle.zic_lines.specs.declared.rule.Rule.{Rule}
 use Rattle.zic_lines.specs.declared.zone_line.ZoneLine.{ZoneLine}
 use Rattle.zic_lines.specs.declared.link.Link.{Link}
@@ -14,7 +14,7 @@ use Rattle.zic_source.specs.Source.{SourceLines, ZoneLines, lines_of_zone}
 use Rattle.zic_source.specs.Names.{Indexes}
 use Rattle.zic_source.specs.Links.{EndsAtZone}
 use Rattle.zic_source.specs.Whole.{IsWhole, HasAt, HasFirst}
-use Rattle.zic_lines.specs.Reading.{fault_at}
+use Rattle.zic_base.specs.Fault.{fault_at}
 use Rattle.zic_source.specs.Faults.{earlier, IsFirst, LineIsRight, LineHas, ZoneIsRight, ZoneHas, LinkHas, IsFirstOfZones, IsFirstOfLinks}
 use Rattle.zic_source.proofs.Elements.{from_flat_map, into_flat_map}
 use Rattle.zic_source.proofs.NamesDiffer.{NamesDiffer}

@@ -1,8 +1,8 @@
 -- Which fault of some texts is the first: own choice.
 use Rattle.std.specs.Prelude.{◌≡◌, ℕ, List, Ok, Err, ◌⊎◌}
-use Rattle.zic_lines.specs.declared.fault.Fault.{Fault}
-use Rattle.zic_lines.specs.declared.fault.Stop.{Stop}
-use Rattle.zic_lines.specs.declared.fault.Stop.TheVariants as stops
+use Rattle.zic_base.specs.declared.fault.Fault.{Fault}
+use Rattle.zic_base.specs.declared.fault.Stop.{Stop}
+use Rattle.zic_base.specs.declared.fault.Stop.TheVariants as stops
 use Rattle.zic_source.specs.Source.{SourceLines}
 use Rattle.zic_source.specs.Whole.{HasFirst}
 use Rattle.zic_source.specs.Reading.{reading}

@@ -1,10 +1,10 @@
 -- Where the first fault of a line or of a text's end stands: all that comes before it is read.
 use Rattle.std.specs.Prelude.{◌≡◌, List, ◌∷◌, ◌++◌, Ok, Err, IsSomeAnd}
-use Rattle.zic_lines.specs.declared.fault.Fault.{Fault}
-use Rattle.zic_lines.specs.declared.fault.Kind.TheVariants.{NoContinuation}
+use Rattle.zic_base.specs.declared.fault.Fault.{Fault}
+use Rattle.zic_base.specs.declared.fault.Kind.TheVariants.{NoContinuation}
 use Rattle.zic_source.specs.Source.{SourceLines, no_lines}
 use Rattle.zic_lines.specs.Line.{PlacedLine}
-use Rattle.zic_lines.specs.Reading.{fault_at}
+use Rattle.zic_base.specs.Fault.{fault_at}
 use Rattle.zic_source.specs.Reading.{open_line, line_read, lines_read, texts_read}
 
 -- a line of some texts, the texts before it are read and the lines before it in its own text, and this is its fault

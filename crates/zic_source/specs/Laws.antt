@@ -1,6 +1,6 @@
 -- Laws about sources and first faults.
 use Rattle.std.specs.Prelude.{◌≡◌, ℕ, List, Err, ◌⊎◌, ◌↔◌}
-use Rattle.zic_lines.specs.declared.fault.Fault.{Fault}
+use Rattle.zic_base.specs.declared.fault.Fault.{Fault}
 use Rattle.zic_source.specs.Source.{SourceLines}
 use Rattle.zic_source.specs.Grammar.{IsSource}
 use Rattle.zic_lines.specs.Line.{lines_of_texts}

@@ -2,9 +2,9 @@
 -- stands only which fault comes first.
 use Rattle.std.specs.Prelude.{ℕ, ◌+◌, Bool, not, ◌||◌, List, [], ◌∷◌, ◌++◌, length, map, is_some, Option, Some, None, Result, Ok, Err, if◌then◌else◌, nat_le}
 use Rattle.std.specs.Global.{Vec}
-use Rattle.zic_lines.specs.declared.place.Place.{Place}
-use Rattle.zic_lines.specs.declared.fault.Fault.{Fault}
-use Rattle.zic_lines.specs.declared.fault.Kind.TheVariants.{NoContinuation, DuplicateName, TooMany}
+use Rattle.zic_base.specs.declared.place.Place.{Place}
+use Rattle.zic_base.specs.declared.fault.Fault.{Fault}
+use Rattle.zic_base.specs.declared.fault.Kind.TheVariants.{NoContinuation, DuplicateName, TooMany}
 use Rattle.zic_lines.specs.declared.rule.Rule.{Rule}
 use Rattle.zic_lines.specs.declared.zone_line.ZoneLine.{ZoneLine}
 use Rattle.zic_lines.specs.declared.link.Link.{Link}
@@ -14,7 +14,8 @@ use Rattle.zic_lines.specs.Entry.{LineEntry, RuleEntry, ZoneEntry, ContinuationE
 use Rattle.zic_lines.specs.Line.{PlacedLine, lines_of_texts}
 use Rattle.zic_source.specs.Links.{is_named}
 use Rattle.zic_lines.specs.Field.{fields}
-use Rattle.zic_lines.specs.Reading.{◌>>=◌, fault_at, line_fields, entry_of}
+use Rattle.zic_base.specs.Fault.{fault_at}
+use Rattle.zic_lines.specs.Reading.{◌>>=◌, line_fields, entry_of}
 
 -- The source with one rule more. A fault where its set has 1,000 rules already, or all sets together 10,000.
 unfoldable pub with_rule : Place → SourceLines → Rule → Result SourceLines Fault

@@ -1,12 +1,12 @@
 -- What can be wrong only with a source as a whole: zic(8), FILES; which fault is the first is own choice.
 use Rattle.std.specs.Prelude.{◌≡◌, ℕ, ◌<◌, Bool, false, not, List, Contains, IsTrue, ◌⊎◌, bytes_eq}
 use Rattle.std.specs.List.{list_any}
-use Rattle.zic_lines.specs.declared.place.Place.{Place}
-use Rattle.zic_lines.specs.declared.fault.Fault.{Fault}
-use Rattle.zic_lines.specs.declared.fault.Kind.{Kind}
-use Rattle.zic_lines.specs.declared.fault.Stop.{Stop}
-use Rattle.zic_lines.specs.declared.fault.Stop.TheVariants as stops
-use Rattle.zic_lines.specs.declared.fault.Kind.TheVariants.{UnknownRules, UnknownTarget, LinkCycle}
+use Rattle.zic_base.specs.declared.place.Place.{Place}
+use Rattle.zic_base.specs.declared.fault.Fault.{Fault}
+use Rattle.zic_base.specs.declared.fault.Kind.{Kind}
+use Rattle.zic_base.specs.declared.fault.Stop.{Stop}
+use Rattle.zic_base.specs.declared.fault.Stop.TheVariants as stops
+use Rattle.zic_base.specs.declared.fault.Kind.TheVariants.{UnknownRules, UnknownTarget, LinkCycle}
 use Rattle.zic_lines.specs.declared.rule.Rule.{Rule}
 use Rattle.zic_lines.specs.declared.rules.Rules.{Rules}
 use Rattle.zic_lines.specs.declared.rules.Rules.TheVariants.{Standard, Amount, Set}

@@ -1,10 +1,10 @@
 //! How many rules each set has.
 
 ghost use Rattle.std.specs.Prelude.{◌≡◌, ◌+◌, ℕ, List, Ok, Err, OnOk, if◌then◌else◌, nat_le, bytes_eq};
-ghost use Rattle.zic_lines.specs.declared.fault.Kind.TheVariants.{TooMany};
+ghost use Rattle.zic_base.specs.declared.fault.Kind.TheVariants.{TooMany};
 ghost use Rattle.zic_lines.specs.declared.rule.Rule.{Rule};
 ghost use Rattle.zic_lines.specs.Stop.{Gives};
-ghost use Rattle.zic_lines.specs.Reading.{fault_at};
+ghost use Rattle.zic_base.specs.Fault.{fault_at};
 ghost use Rattle.zic_source.specs.SetSizes.{counted, Counts};
 ghost use Rattle.zic_source.specs.Whole.{is_set};
 

@@ -3,10 +3,10 @@ use Rattle.std.specs.Prelude.{IfOk, IfErr}
 use Rattle.std.proofs.lemmas.Int.{ints}
 use Rattle.zic_rules.specs.declared.states.Tail.{Tail}
 use Rattle.zic_rules.specs.declared.states.Tail.TheVariants.{Constant}
-use Rattle.zic_lines.specs.declared.place.Place.{Place}
-use Rattle.zic_lines.specs.declared.fault.Kind.TheVariants.{PermanentDaylight}
-use Rattle.zic_lines.specs.declared.fault.Stop.{Stop}
-use Rattle.zic_lines.specs.declared.fault.Stop.TheVariants as stop
+use Rattle.zic_base.specs.declared.place.Place.{Place}
+use Rattle.zic_base.specs.declared.fault.Kind.TheVariants.{PermanentDaylight}
+use Rattle.zic_base.specs.declared.fault.Stop.{Stop}
+use Rattle.zic_base.specs.declared.fault.Stop.TheVariants as stop
 use Rattle.zic_rules.specs.State.{shown}
 use Rattle.zic_rules.specs.Tail.{IsTail}
 use Rattle.zic_rules.specs.Zone.{Zone, IsChange, end_of}

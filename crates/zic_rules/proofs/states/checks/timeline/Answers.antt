@@ -1,6 +1,6 @@
 use Rattle.std.proofs.Common.{sym, ap, subst, ◌∙◌}
 use Rattle.std.proofs.lemmas.Bool.{ltb-false}
-use Rattle.zic_lines.specs.declared.fault.Stop.{Stop}
+use Rattle.zic_base.specs.declared.fault.Stop.{Stop}
 use Rattle.zic_rules.specs.Fault.{StopsZone, is_abbreviation}
 use Rattle.zic_rules.proofs.ZoneLemmas.{first_found, sound, bad_abbreviation}
 use Rattle.zic_rules.proofs.states.checks.timeline.Goals as goal

@@ -77,6 +77,17 @@ pub enum Kind {
     TooManyChars = 34,
 }
 
+impl Kind {
+    ghost use Rattle.zic_base.specs.Fault.{kind_number};
+
+    /// The number of the kind, 1 to 34; 31 is no kind's.
+    pub fn number(self) -> u8
+        ensures { result ≡ kind_number self }
+    {
+        self as u8
+    }
+}
+
 /// A fault and the line where it stands.
 #[derive(Clone, Copy, Debug, PartialEq, Eq)]
 pub struct Fault {
@@ -94,7 +105,7 @@ pub enum Stop {
 }
 
 impl Stop {
-    ghost use Rattle.zic_lines.specs.Reading.{fault_at};
+    ghost use Rattle.zic_base.specs.Fault.{fault_at};
 
     /// A fault of this kind at this place.
     pub fn at(place: Place, kind: Kind) -> Stop
@@ -105,7 +116,7 @@ impl Stop {
 }
 
 impl From<AllocError> for Stop {
-    ghost use Rattle.zic_lines.specs.declared.fault.Stop.TheVariants.{Memory};
+    ghost use Rattle.zic_base.specs.declared.fault.Stop.TheVariants.{Memory};
 
     ghost from_gives = { λ _ e. e ≡ Memory };
 
@@ -115,7 +126,7 @@ impl From<AllocError> for Stop {
 }
 
 impl<T: Drop> From<AllocFailed<T>> for Stop {
-    ghost use Rattle.zic_lines.specs.declared.fault.Stop.TheVariants.{Memory};
+    ghost use Rattle.zic_base.specs.declared.fault.Stop.TheVariants.{Memory};
 
     ghost from_gives = { λ _ e. e ≡ Memory };
 

@@ -1,0 +1,53 @@
+-- Faults of sources and zones. The number of each kind is own choice; 31 is not used.
+use Rattle.std.specs.Prelude.{ℕ, Option, Some, None}
+use Rattle.zic_base.specs.declared.place.Place.{Place}
+use Rattle.zic_base.specs.declared.fault.Fault.{Fault}
+use Rattle.zic_base.specs.declared.fault.Kind.{Kind}
+use Rattle.zic_base.specs.declared.fault.Kind.TheVariants as kind
+use Rattle.zic_base.specs.declared.fault.Stop.{Stop}
+use Rattle.zic_base.specs.declared.fault.Stop.TheVariants as stops
+
+-- this kind of fault at this place
+abbrev pub fault_at : Place → Kind → Fault
+fault_at place kind = record { place = place; kind = kind }
+
+-- the fault that a stop tells, and nothing where it is want of memory
+abbrev pub fault_of : Stop → Option Fault
+fault_of (stops.Fault fault) = Some fault
+fault_of stops.Memory = None
+
+-- the number of a kind
+abbrev pub kind_number : Kind → ℕ
+kind_number kind.NotAscii = 1
+kind_number kind.Quote = 2
+kind_number kind.LineTooLong = 3
+kind_number kind.Keyword = 4
+kind_number kind.FieldCount = 5
+kind_number kind.Name = 6
+kind_number kind.Year = 7
+kind_number kind.YearOrder = 8
+kind_number kind.Reserved = 9
+kind_number kind.Month = 10
+kind_number kind.Day = 11
+kind_number kind.Time = 12
+kind_number kind.Save = 13
+kind_number kind.Letter = 14
+kind_number kind.Offset = 15
+kind_number kind.Format = 16
+kind_number kind.Until = 17
+kind_number kind.NoContinuation = 18
+kind_number kind.DuplicateName = 19
+kind_number kind.TooMany = 20
+kind_number kind.UnknownRules = 21
+kind_number kind.UnknownTarget = 22
+kind_number kind.LinkCycle = 23
+kind_number kind.OffsetRange = 24
+kind_number kind.RulesOutOfOrder = 25
+kind_number kind.UntilNotRising = 26
+kind_number kind.NoLetter = 27
+kind_number kind.BadAbbreviation = 28
+kind_number kind.NoFooter = 29
+kind_number kind.PermanentDaylight = 30
+kind_number kind.TooManyChanges = 32
+kind_number kind.TooManyTypes = 33
+kind_number kind.TooManyChars = 34

@@ -1,0 +1,6 @@
+pub mod Place
+pub mod Fault
+pub mod Memory
+pub mod Option
+pub mod Check
+pub mod Byte

@@ -1,0 +1,43 @@
+//! Kinds, places and texts.
+
+use super::*;
+use std::alloc::Global;
+use std::test::Fail;
+
+#[test]
+fn numbers_of_kinds(rt: HostRuntime) {
+    assert_eq!(rt; Kind::NotAscii.number(), 1);
+    assert_eq!(rt; Kind::PermanentDaylight.number(), 30);
+    assert_eq!(rt; Kind::TooManyChars.number(), 34);
+}
+
+#[test]
+fn places_in_order(rt: HostRuntime) {
+    let first = Place { text: 1, line: 9 };
+    let second = Place { text: 2, line: 3 };
+    assert!(rt; first.is_before(second) && !second.is_before(first) && !first.is_before(first));
+    assert!(rt; second.is_before(Place { text: 2, line: 4 }));
+}
+
+/// A text of these octets, and a clone of it.
+fn twice(alloc: Global, octets: &[u8]) -> Result<(ShortText<4>, ShortText<4>), Fail> {
+    let text = ShortText::new(alloc, octets)?;
+    let copy = text.clone()?;
+    Ok((text, copy))
+}
+
+#[test]
+fn texts_inline_and_not(rt: HostRuntime) -> Result<(), Fail> {
+    for octets in [b"".as_slice(), b"EST", b"Europe/Berlin"] {
+        let (text, copy) = twice(rt.alloc(), octets)?;
+        assert_eq!(rt; text.octets(), octets);
+        assert!(rt; text == copy);
+    }
+    Ok(())
+}
+
+#[test]
+fn abbreviation_bytes(rt: HostRuntime) {
+    assert!(rt; are_abbreviation_bytes(b"CEST+02-Z"));
+    assert!(rt; !are_abbreviation_bytes(b"C_T") && !is_abbreviation_byte(b' '));
+}
