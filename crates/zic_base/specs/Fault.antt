@@ -1,5 +1,6 @@
 -- Faults of sources and zones. The number of each kind is own choice; 31 is not used.
-use Rattle.std.specs.Prelude.{ℕ, Option, Some, None}
+use Rattle.std.specs.Prelude.{◌≡◌, ℕ, List, Option, Some, None}
+use Rattle.zic_base.specs.Check.{Check, first_failed}
 use Rattle.zic_base.specs.declared.place.Place.{Place}
 use Rattle.zic_base.specs.declared.fault.Fault.{Fault}
 use Rattle.zic_base.specs.declared.fault.Kind.{Kind}
@@ -15,6 +16,10 @@ fault_at place kind = record { place = place; kind = kind }
 abbrev pub fault_of : Stop → Option Fault
 fault_of (stops.Fault fault) = Some fault
 fault_of stops.Memory = None
+
+-- The fault of what fails some checks at this place: the kind is that of the first check that fails.
+abbrev pub IsFirstFailed : Place → List (Check Kind) → Fault → Type 0
+IsFirstFailed place checks fault = (fault.place ≡ place) × (first_failed checks ≡ Some fault.kind)
 
 -- the number of a kind
 abbrev pub kind_number : Kind → ℕ

@@ -21,7 +21,7 @@ use Rattle.zic_words.specs.Clock.{clock_time_of}
 use Rattle.zic_words.specs.Saving.{saving_of}
 use Rattle.zic_words.specs.Letter.{letter_of}
 use Rattle.zic_base.specs.Fault.{fault_at}
-use Rattle.zic_lines.specs.Reading.{◌>>=◌, code_fields, line_fields, zone_fields, continuation_line, zone_line, link_line, rule_years, rule_when, rule_of, rule_line, keyword_line, entry_of}
+use Rattle.zic_lines.specs.Reading.{◌>>=◌, code_fields, line_fields, zone_fields, continuation_line, zone_line, link_line, rule_years, rule_moment, rule_of, rule_line, keyword_line, entry_of}
 
 -- if it is a fault, it stands at this place
 pub record StandsAt {A : Type 0} (place : Place) (r : Result A Fault) : Type 0 where
@@ -79,8 +79,8 @@ module _ (place : Place) where
       given (year_of from) kinds.Year _ (λ first.
       given (last_year_of first to) kinds.Year _ (λ last. guard _ kinds.YearOrder _ (well _)))
 
-  when_at : (years : Years) (month day time : List ℕ) → StandsAt place (rule_when place years month day time)
-  unfolding rule_when
+  when_at : (years : Years) (month day time : List ℕ) → StandsAt place (rule_moment place years month day time)
+  unfolding rule_moment
   when_at years month day time =
       given (month_of month) kinds.Month _ (λ in_month.
       given (day_form_of (is_one_leap_year years.first years.last) in_month day) kinds.Day _ (λ on.

@@ -6,7 +6,7 @@ use Rattle.zic_base.specs.declared.place.Place.{Place}
 use Rattle.zic_base.specs.declared.fault.Kind.TheVariants.{Name, Year, YearOrder, Reserved, Month, Day, Time, Save, Letter}
 use Rattle.zic_lines.specs.declared.rule.Rule.{Rule}
 use Rattle.zic_lines.specs.declared.rule_line.Years.{Years}
-use Rattle.zic_lines.specs.declared.rule_line.When.{When}
+use Rattle.zic_lines.specs.declared.moment.Moment.{Moment}
 use Rattle.zic_words.specs.Dash.{is_dash}
 use Rattle.zic_words.specs.declared.keyword.Keyword.TheVariants as keywords
 use Rattle.zic_words.specs.Keyword.{keyword_of}
@@ -19,7 +19,7 @@ use Rattle.zic_words.specs.Saving.{saving_of}
 use Rattle.zic_words.specs.Letter.{letter_of}
 use Rattle.zic_lines.specs.RuleLine.{IsRuleLine}
 use Rattle.zic_base.specs.Fault.{fault_at}
-use Rattle.zic_lines.specs.Reading.{rule_years, rule_when, rule_with, rule_of, rule_line}
+use Rattle.zic_lines.specs.Reading.{rule_years, rule_moment, rule_with, rule_of, rule_line}
 use Rattle.zic_lines.proofs.Steps.{bound, guarded, present, same_ok}
 
 -- ten fields
@@ -60,18 +60,18 @@ years_taken place from to years e =
     subst (SayYears from to) (same_ok made years order.1) say
 
 -- IN, ON and AT of a rule for these years say when it begins.
-record SayWhen (years : Years) (month day time : List ℕ) (when : When) : Type 0 where
+record SayWhen (years : Years) (month day time : List ℕ) (when : Moment) : Type 0 where
   in_month : month_of month ≡ Some when.month
   on_day : day_form_of (is_one_leap_year years.first years.last) when.month day ≡ Some when.on
   at_time : clock_time_of time ≡ Some when.at
 
-when_taken : (place : Place) (years : Years) (month day time : List ℕ) (when : When) → rule_when place years month day time ≡ Ok when → SayWhen years month day time when
-unfolding rule_when
+when_taken : (place : Place) (years : Years) (month day time : List ℕ) (when : Moment) → rule_moment place years month day time ≡ Ok when → SayWhen years month day time when
+unfolding rule_moment
 when_taken place years month day time when e =
     let in_month = bound (ok_or (month_of month) (fault_at place Month)) _ when e in
     let on = bound (ok_or (day_form_of (is_one_leap_year years.first years.last) in_month.0 day) (fault_at place Day)) _ when in_month.2 in
     let at = bound (ok_or (clock_time_of time) (fault_at place Time)) _ when on.2 in
-    let made : When = record { month = in_month.0; on = on.0; at = at.0 } in
+    let made : Moment = record { month = in_month.0; on = on.0; at = at.0 } in
     let say : SayWhen years month day time made = record {
       in_month = present (month_of month) _ in_month.0 in_month.1;
       on_day = present (day_form_of (is_one_leap_year years.first years.last) in_month.0 day) _ on.0 on.1;
@@ -96,7 +96,7 @@ line_taken place (keyword ∷ name ∷ from ∷ to ∷ reserved ∷ month ∷ da
     let named = guarded (not (is_set_name name)) (fault_at place Name) _ rule e in
     let years = bound (rule_years place from to) _ rule named.1 in
     let unused = guarded (not (is_dash reserved)) (fault_at place Reserved) _ rule years.2 in
-    let when = bound (rule_when place years.0 month day time) _ rule unused.1 in
+    let when = bound (rule_moment place years.0 month day time) _ rule unused.1 in
     let saving = bound (ok_or (saving_of save) (fault_at place Save)) _ rule when.2 in
     let text = bound (ok_or (letter_of letter) (fault_at place Letter)) _ rule saving.2 in
     let say_years = years_taken place from to years.0 years.1 in
@@ -134,11 +134,11 @@ order_kept true e = absurd cc
 order_kept false e = refl
 
 pub line_again : (place : Place) (fields : List (List ℕ)) (rule : Rule) → IsRuleLine place fields rule → rule_line place fields ≡ Ok rule
-unfolding rule_line rule_of rule_years rule_when
+unfolding rule_line rule_of rule_years rule_moment
 line_again place fields rule is =
     let years : Years = record { first = rule.first; last = rule.last } in
-    let when : When = record { month = rule.month; on = rule.on; at = record { seconds = rule.at; form = rule.form } } in
-    let made : rule_with place rule.name years when (record { seconds = rule.save; daylight = rule.daylight }) rule.letter ≡ rule =
-    ap (λ (p : Place). rule_with p rule.name years when (record { seconds = rule.save; daylight = rule.daylight }) rule.letter) (sym is.stands) in
+    let when : Moment = rule.moment in
+    let made : rule_with place rule.name years when rule.saving rule.letter ≡ rule =
+    ap (λ (p : Place). rule_with p rule.name years when rule.saving rule.letter) (sym is.stands) in
     let order : ends_before rule.last rule.first ≡ false = order_kept _ is.in_order in
     ap (rule_line place) is.ten ∙ rw (is.named, is.begins, is.ends, order, is.unused, is.in_month, is.on_day, is.at_time, is.saves, is.abbreviates) (ap (λ (r : Rule). Ok r) made)

@@ -3,7 +3,8 @@ use Rattle.std.specs.Prelude.{◌≡◌, ◌≤◌, ℕ, List, [], length, Optio
 use Rattle.zic_base.specs.declared.place.Place.{Place}
 use Rattle.zic_lines.specs.Line.{PlacedLine}
 use Rattle.zic_lines.specs.Field.{is_ascii_code, is_closed, fields}
-use Rattle.zic_lines.specs.Entry.{LineEntry, RuleEntry, ZoneEntry, ContinuationEntry, LinkEntry}
+use Rattle.zic_lines.specs.declared.entry.Entry.{Entry}
+use Rattle.zic_lines.specs.declared.entry.Entry.TheVariants as entries
 use Rattle.zic_lines.specs.RuleLine.{IsRuleLine}
 use Rattle.zic_lines.specs.ZoneLine.{IsZoneLine, IsContinuationLine}
 use Rattle.zic_lines.specs.LinkLine.{IsLinkLine}
@@ -15,13 +16,13 @@ pub record IsLine (bytes : List ℕ) : Type 0 where
   pub closed : IsTrue (is_closed bytes)
 
 -- The fields at this place say this. A line without fields says nothing.
-abbrev pub FieldsSay : Place → List (List ℕ) → Option LineEntry → Type 0
+abbrev pub FieldsSay : Place → List (List ℕ) → Option Entry → Type 0
 FieldsSay place fields None = fields ≡ []
-FieldsSay place fields (Some (RuleEntry rule)) = IsRuleLine place fields rule
-FieldsSay place fields (Some (ZoneEntry name line)) = IsZoneLine place fields name line
-FieldsSay place fields (Some (ContinuationEntry line)) = IsContinuationLine place fields line
-FieldsSay place fields (Some (LinkEntry link)) = IsLinkLine place fields link
+FieldsSay place fields (Some (entries.Rule rule)) = IsRuleLine place fields rule
+FieldsSay place fields (Some (entries.Zone name line)) = IsZoneLine place fields name line
+FieldsSay place fields (Some (entries.Continuation line)) = IsContinuationLine place fields line
+FieldsSay place fields (Some (entries.Link link)) = IsLinkLine place fields link
 
 -- what a line says
-abbrev pub Says : PlacedLine → Option LineEntry → Type 0
+abbrev pub Says : PlacedLine → Option Entry → Type 0
 Says line entry = IsLine line.bytes × FieldsSay line.place (fields line.bytes) entry

@@ -11,4 +11,5 @@ pub mod RuleLine
 pub mod LinkLine
 pub mod Seen
 pub mod Grammar
+pub mod Checks
 pub mod Reading

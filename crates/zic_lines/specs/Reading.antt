@@ -9,12 +9,13 @@ use Rattle.zic_words.specs.declared.keyword.Keyword as keyword
 use Rattle.zic_words.specs.declared.keyword.Keyword.TheVariants as keywords
 use Rattle.zic_lines.specs.declared.rule.Rule.{Rule}
 use Rattle.zic_lines.specs.declared.rule_line.Years.{Years}
-use Rattle.zic_lines.specs.declared.rule_line.When.{When}
+use Rattle.zic_lines.specs.declared.moment.Moment.{Moment}
 use Rattle.zic_lines.specs.declared.zone_line.ZoneLine.{ZoneLine}
 use Rattle.zic_lines.specs.declared.link.Link.{Link}
 use Rattle.zic_words.specs.declared.saving.Saving.{Saving}
 use Rattle.zic_base.specs.Fault.{fault_at}
-use Rattle.zic_lines.specs.Entry.{LineEntry, RuleEntry, ZoneEntry, ContinuationEntry, LinkEntry}
+use Rattle.zic_lines.specs.declared.entry.Entry.{Entry}
+use Rattle.zic_lines.specs.declared.entry.Entry.TheVariants as entries
 use Rattle.zic_lines.specs.Line.{PlacedLine}
 use Rattle.zic_lines.specs.Field.{is_ascii_code, is_closed, fields}
 use Rattle.zic_words.specs.Dash.{is_dash}
@@ -87,26 +88,22 @@ rule_years place from to = do
   if ends_before last first then Err (fault_at place YearOrder) else Ok (record { first = first; last = last })
 
 -- what IN, ON and AT say of a rule for these years
-unfoldable pub rule_when : Place → Years → List ℕ → List ℕ → List ℕ → Result When Fault
-rule_when place years month day time = do
+unfoldable pub rule_moment : Place → Years → List ℕ → List ℕ → List ℕ → Result Moment Fault
+rule_moment place years month day time = do
   in_month ← ok_or (month_of month) (fault_at place Month)
   on ← ok_or (day_form_of (is_one_leap_year years.first years.last) in_month day) (fault_at place Day)
   at ← ok_or (clock_time_of time) (fault_at place Time)
   Ok (record { month = in_month; on = on; at = at })
 
 -- a rule of these parts
-abbrev pub rule_with : Place → List ℕ → Years → When → Saving → List ℕ → Rule
-rule_with place name years when saving letter = record {
+abbrev pub rule_with : Place → List ℕ → Years → Moment → Saving → List ℕ → Rule
+rule_with place name years moment saving letter = record {
   place = place;
   name = name;
   first = years.first;
   last = years.last;
-  month = when.month;
-  on = when.on;
-  at = when.at.seconds;
-  form = when.at.form;
-  save = saving.seconds;
-  daylight = saving.daylight;
+  moment = moment;
+  saving = saving;
   letter = letter;
 }
 
@@ -115,10 +112,10 @@ unfoldable pub rule_of : Place → List ℕ → List ℕ → List ℕ → List �
 rule_of place name from to reserved month day time save letter = if not (is_set_name name) then Err (fault_at place Name) else do
   years ← rule_years place from to
   if not (is_dash reserved) then Err (fault_at place Reserved) else do
-    when ← rule_when place years month day time
+    moment ← rule_moment place years month day time
     saving ← ok_or (saving_of save) (fault_at place Save)
     text ← ok_or (letter_of letter) (fault_at place Letter)
-    Ok (rule_with place name years when saving text)
+    Ok (rule_with place name years moment saving text)
 
 -- what the fields of a Rule line say
 unfoldable pub rule_line : Place → List (List ℕ) → Result Rule Fault
@@ -126,14 +123,14 @@ rule_line place (keyword ∷ name ∷ from ∷ to ∷ reserved ∷ month ∷ day
 rule_line place fields = Err (fault_at place FieldCount)
 
 -- what the fields of a line say that begins with this keyword
-abbrev pub keyword_line : Place → Option keyword.Keyword → List (List ℕ) → Result LineEntry Fault
+abbrev pub keyword_line : Place → Option keyword.Keyword → List (List ℕ) → Result Entry Fault
 keyword_line place None fields = Err (fault_at place Keyword)
-keyword_line place (Some keywords.Rule) fields = rule_line place fields >>= λ rule. Ok (RuleEntry rule)
-keyword_line place (Some keywords.Zone) fields = zone_line place fields >>= λ zone. Ok (ZoneEntry zone.0 zone.1)
-keyword_line place (Some keywords.Link) fields = link_line place fields >>= λ link. Ok (LinkEntry link)
+keyword_line place (Some keywords.Rule) fields = rule_line place fields >>= λ rule. Ok (entries.Rule rule)
+keyword_line place (Some keywords.Zone) fields = zone_line place fields >>= λ zone. Ok (entries.Zone zone.0 zone.1)
+keyword_line place (Some keywords.Link) fields = link_line place fields >>= λ link. Ok (entries.Link link)
 
 -- What fields say: nothing where there is none. Where a continuation line is awaited they are its fields, whatever the first is.
-unfoldable pub entry_of : Bool → Place → List (List ℕ) → Result (Option LineEntry) Fault
+unfoldable pub entry_of : Bool → Place → List (List ℕ) → Result (Option Entry) Fault
 entry_of awaited place [] = Ok None
-entry_of true place (field ∷ fields) = continuation_line place (field ∷ fields) >>= λ line. Ok (Some (ContinuationEntry line))
+entry_of true place (field ∷ fields) = continuation_line place (field ∷ fields) >>= λ line. Ok (Some (entries.Continuation line))
 entry_of false place (field ∷ fields) = keyword_line place (keyword_of field) (field ∷ fields) >>= λ entry. Ok (Some entry)

@@ -31,9 +31,9 @@ pub record IsRuleLine (place : Place) (fields : List (List ℕ)) (rule : Rule) :
   pub ends : last_year_of rule.first to ≡ Some rule.last
   pub in_order : IsTrue (not (ends_before rule.last rule.first))
   pub unused : IsTrue (is_dash reserved)
-  pub in_month : month_of month ≡ Some rule.month
-  pub on_day : day_form_of (is_one_leap_year rule.first rule.last) rule.month day ≡ Some rule.on
-  pub at_time : clock_time_of time ≡ Some (record { seconds = rule.at; form = rule.form })
-  pub saves : saving_of save ≡ Some (record { seconds = rule.save; daylight = rule.daylight })
+  pub in_month : month_of month ≡ Some rule.moment.month
+  pub on_day : day_form_of (is_one_leap_year rule.first rule.last) rule.moment.month day ≡ Some rule.moment.on
+  pub at_time : clock_time_of time ≡ Some rule.moment.at
+  pub saves : saving_of save ≡ Some rule.saving
   pub abbreviates : letter_of letter ≡ Some rule.letter
   pub stands : rule.place ≡ place

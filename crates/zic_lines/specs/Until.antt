@@ -15,7 +15,7 @@ until_at year month day time = do
   m ← month_of month
   on ← day_form_of (is_leap_year (pos y)) m day
   clock ← clock_time_of time
-  Some (record { year = y; month = m; on = on; at = clock.seconds; form = clock.form })
+  Some (record { year = y; moment = record { month = m; on = on; at = clock } })
 
 -- UNTIL, where there is one. Missing parts are January, day 1 and 0 by the wall clock.
 unfoldable pub until_of : List (List ℕ) → Option (Option Until)

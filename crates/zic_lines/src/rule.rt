@@ -1,8 +1,8 @@
 //! Rules of a source.
 
+use crate::moment::Moment;
 use zic_base::Place;
-use zic_calendar::On;
-use zic_words::{ClockForm, Letter, SetName};
+use zic_words::{Letter, Saving, SetName};
 
 /// A Rule line: each year from the first to the last, a day and a time when the saving of its set changes.
 #[derive(Debug, Drop)]
@@ -15,18 +15,10 @@ pub struct Rule {
     pub first: u16,
     /// TO: the last year, from the first to 9000; `None` where there is no last year.
     pub last: Option<u16>,
-    /// IN: the month, 1 to 12.
-    pub month: u8,
-    /// ON: the form of the day.
-    pub on: On,
-    /// AT: seconds after 00:00 of that day, within 300:00:00 either way.
-    pub at: i32,
-    /// The clock by which AT is meant.
-    pub form: ClockForm,
-    /// SAVE: what is added to standard time, in seconds, within 24:00:00 either way.
-    pub save: i32,
-    /// Whether this is daylight saving time.
-    pub daylight: bool,
+    /// IN, ON and AT: when the change comes in each year.
+    pub moment: Moment,
+    /// SAVE: what is added to standard time from then on, and whether this is daylight saving time.
+    pub saving: Saving,
     /// LETTER/S: what `%s` of a FORMAT stands for.
     pub letter: Letter,
 }

@@ -1,15 +1,15 @@
 //! Rule lines.
 
 ghost use Rattle.zic_lines.specs.Stop.{Gives};
-ghost use Rattle.zic_lines.specs.Reading.{rule_years, rule_when, rule_line};
+ghost use Rattle.zic_lines.specs.Reading.{rule_years, rule_moment, rule_line};
 
 use crate::field::Fields;
+use crate::moment::Moment;
 use crate::rule::Rule;
 use std::alloc::Global;
 use zic_base::{Kind, Place, Stop};
-use zic_calendar::On;
 use zic_words::{
-    ClockTime, SetName, clock_time, ends_before, is_dash, is_one_leap_year, is_set_name, last_year,
+    SetName, clock_time, ends_before, is_dash, is_one_leap_year, is_set_name, last_year,
     parse_day_form, parse_letter, parse_month, parse_year, save,
 };
 
@@ -19,14 +19,6 @@ struct Years {
     first: u16,
     /// `None` where there is no last year.
     last: Option<u16>,
-}
-
-/// When the change of a rule comes in each of its years.
-#[derive(Clone, Copy, Debug)]
-struct When {
-    month: u8,
-    on: On,
-    at: ClockTime,
 }
 
 /// FROM and TO.
@@ -47,15 +39,15 @@ fn rule_years(place: Place, from: &[u8], to: &[u8]) -> Result<Years, Stop>
 }
 
 /// IN, ON and AT of a rule for these years.
-#[tactic(auto, unfolding(crate::specs::Reading::rule_when))]
-fn rule_when(
+#[tactic(auto, unfolding(crate::specs::Reading::rule_moment))]
+fn rule_moment(
     place: Place,
     years: Years,
     month_field: &[u8],
     day_field: &[u8],
     time_field: &[u8],
-) -> Result<When, Stop>
-    ensures { Gives (λ when. when) result (rule_when place years month_field.now day_field.now time_field.now) }
+) -> Result<Moment, Stop>
+    ensures { Gives (λ moment. moment) result (rule_moment place years month_field.now day_field.now time_field.now) }
 {
     let Some(month) = parse_month(month_field) else {
         return Err(Stop::at(place, Kind::Month));
@@ -67,7 +59,7 @@ fn rule_when(
     let Some(at) = clock_time(time_field) else {
         return Err(Stop::at(place, Kind::Time));
     };
-    Ok(When { month, on, at })
+    Ok(Moment { month, on, at })
 }
 
 /// What the fields of a Rule line say.
@@ -86,7 +78,7 @@ pub(crate) fn rule_line(alloc: Global, place: Place, fields: &Fields) -> Result<
     if !is_dash(fields.get(4)) {
         return Err(Stop::at(place, Kind::Reserved));
     }
-    let when = rule_when(place, years, fields.get(5), fields.get(6), fields.get(7))?;
+    let moment = rule_moment(place, years, fields.get(5), fields.get(6), fields.get(7))?;
     let Some(saving) = save(fields.get(8)) else {
         return Err(Stop::at(place, Kind::Save));
     };
@@ -98,12 +90,8 @@ pub(crate) fn rule_line(alloc: Global, place: Place, fields: &Fields) -> Result<
         name: SetName::new(alloc, name)?,
         first: years.first,
         last: years.last,
-        month: when.month,
-        on: when.on,
-        at: when.at.seconds,
-        form: when.at.form,
-        save: saving.seconds,
-        daylight: saving.daylight,
+        moment,
+        saving,
         letter,
     })
 }

@@ -4,22 +4,17 @@ ghost use Rattle.std.specs.Prelude.{◌≡◌, ◌+◌, ◌≤◌, length, drop,
 ghost use Rattle.zic_lines.specs.Until.{until_of, until_at};
 
 use crate::field::Fields;
-use zic_calendar::{On, is_leap_year};
-use zic_words::{ClockForm, clock_time, parse_day_form, parse_month, parse_year};
+use crate::moment::Moment;
+use zic_calendar::is_leap_year;
+use zic_words::{clock_time, parse_day_form, parse_month, parse_year};
 
 /// When the line that follows takes over.
 #[derive(Clone, Copy, Debug, PartialEq, Eq)]
 pub struct Until {
     /// 1 to 9000.
     pub year: u16,
-    /// 1 to 12.
-    pub month: u8,
-    /// The form of the day. A plain day is one that the month has in that year.
-    pub on: On,
-    /// Seconds after 00:00 of that day, within 300:00:00 either way.
-    pub at: i32,
-    /// The clock by which the time is meant.
-    pub form: ClockForm,
+    /// MONTH, DAY and TIME. A plain day is one that the month has in that year.
+    pub moment: Moment,
 }
 
 /// The field so many behind the first, or what a missing one means.
@@ -42,14 +37,9 @@ fn until_at(year_field: &[u8], month_field: &[u8], day: &[u8], time: &[u8]) -> O
     let year = parse_year(year_field)?;
     let month = parse_month(month_field)?;
     let on = parse_day_form(is_leap_year(i64::from(year)), month, day)?;
-    let time = clock_time(time)?;
-    Some(Until {
-        year,
-        month,
-        on,
-        at: time.seconds,
-        form: time.form,
-    })
+    let at = clock_time(time)?;
+    let moment = Moment { month, on, at };
+    Some(Until { year, moment })
 }
 
 /// The UNTIL whose fields begin at this one: YEAR [MONTH [DAY [TIME]]], or none where there is no such field.

@@ -11,7 +11,8 @@ use Rattle.std.proofs.Math.ListN.{get_or-append}
 use Rattle.std.proofs.Math.Seq.{get_or-append_seam}
 use Rattle.zic_lines.specs.declared.rule.Rule.{Rule}
 use Rattle.zic_source.specs.Source.{set_size}
-use Rattle.zic_lines.specs.Entry.{LineEntry, rules_in, zone_entries_in, names_in}
+use Rattle.zic_lines.specs.declared.entry.Entry.{Entry}
+use Rattle.zic_lines.specs.Entry.{rules_in, zone_entries_in, names_in}
 use Rattle.zic_source.proofs.SameBytes.{bytes_eq_means, bytes_eq_itself}
 
 -- ---- names
@@ -133,26 +134,26 @@ limits_of rules rules' n n' names names' e f g is =
 -- ---- what lines say
 
 -- what is said is within the limits
-abbrev pub IsWithin : List LineEntry → Type 0
+abbrev pub IsWithin : List Entry → Type 0
 IsWithin entries = Limits (flat_map rules_in entries) (length (flat_map zone_entries_in entries)) (flat_map names_in entries)
 
 pub flat_map-push : {X A : Type 0} (f : X → List A) (xs : List X) (x : X) → flat_map f (xs ++ x ∷ []) ≡ flat_map f xs ++ f x
 flat_map-push f xs x = flat_map-append f xs (x ∷ []) ∙ ap (λ (rest : List _). flat_map f xs ++ rest) (append-nil (f x))
 
 -- one entry more
-abbrev pub With : List LineEntry → LineEntry → Type 0
+abbrev pub With : List Entry → Entry → Type 0
 With entries entry = Limits (flat_map rules_in entries ++ rules_in entry) (length (flat_map zone_entries_in entries) + length (zone_entries_in entry)) (flat_map names_in entries ++ names_in entry)
 
-push_length : (entries : List LineEntry) (entry : LineEntry) → length (flat_map zone_entries_in entries) + length (zone_entries_in entry) ≡ length (flat_map zone_entries_in (entries ++ entry ∷ []))
+push_length : (entries : List Entry) (entry : Entry) → length (flat_map zone_entries_in entries) + length (zone_entries_in entry) ≡ length (flat_map zone_entries_in (entries ++ entry ∷ []))
 push_length entries entry = sym (ap length (flat_map-push zone_entries_in entries entry) ∙ length-append (flat_map zone_entries_in entries) (zone_entries_in entry))
 
-pub within_push : (entries : List LineEntry) (entry : LineEntry) → With entries entry → IsWithin (entries ++ entry ∷ [])
+pub within_push : (entries : List Entry) (entry : Entry) → With entries entry → IsWithin (entries ++ entry ∷ [])
 within_push entries entry = limits_of _ _ _ _ _ _ (sym (flat_map-push rules_in entries entry)) (push_length entries entry) (sym (flat_map-push names_in entries entry))
 
-pub within_pushed : (entries : List LineEntry) (entry : LineEntry) → IsWithin (entries ++ entry ∷ []) → With entries entry
+pub within_pushed : (entries : List Entry) (entry : Entry) → IsWithin (entries ++ entry ∷ []) → With entries entry
 within_pushed entries entry = limits_of _ _ _ _ _ _ (flat_map-push rules_in entries entry) (sym (push_length entries entry)) (flat_map-push names_in entries entry)
 
-pub within_front : (entries more : List LineEntry) → IsWithin (entries ++ more) → IsWithin entries
+pub within_front : (entries more : List Entry) → IsWithin (entries ++ more) → IsWithin entries
 within_front entries more is =
     limits_front (flat_map rules_in entries) (flat_map rules_in more) (length (flat_map zone_entries_in entries)) (length (flat_map zone_entries_in more)) (flat_map names_in entries) (flat_map names_in more)
     (limits_of _ _ _ _ _ _ (flat_map-append rules_in entries more) (ap length (flat_map-append zone_entries_in entries more) ∙ length-append (flat_map zone_entries_in entries) (flat_map zone_entries_in more)) (flat_map-append names_in entries more) is)

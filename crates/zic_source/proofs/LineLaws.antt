@@ -7,7 +7,8 @@ use Rattle.std.proofs.lemmas.List.{append-nil}
 use Rattle.zic_base.specs.declared.fault.Fault.{Fault}
 use Rattle.zic_base.specs.declared.fault.Kind.TheVariants.{LineTooLong, NotAscii, Quote}
 use Rattle.zic_source.specs.Source.{SourceLines}
-use Rattle.zic_lines.specs.Entry.{LineEntry, is_continuation, goes_on}
+use Rattle.zic_lines.specs.declared.entry.Entry.{Entry}
+use Rattle.zic_lines.specs.Entry.{is_continuation, goes_on}
 use Rattle.zic_lines.specs.Line.{PlacedLine}
 use Rattle.zic_lines.specs.Field.{fields, is_ascii_code, is_closed}
 use Rattle.zic_lines.specs.Grammar.{IsLine, FieldsSay, Says}
@@ -34,26 +35,26 @@ line_again : (line : PlacedLine) → IsLine line.bytes → line_fields line ≡ 
 unfolding line_fields code_fields
 line_again line is = rw (le-ltb 2048 (length line.bytes) is.short, is.ascii, is.closed) refl
 
-line_reads : (line : PlacedLine) (source now : SourceLines) (entry : Option LineEntry) → Says line entry → IfSome entry (λ e. is_continuation e ≡ is_some (open_line source)) → with_entry line.place source entry ≡ Ok now → line_read source line ≡ Ok now
+line_reads : (line : PlacedLine) (source now : SourceLines) (entry : Option Entry) → Says line entry → IfSome entry (λ e. is_continuation e ≡ is_some (open_line source)) → with_entry line.place source entry ≡ Ok now → line_read source line ≡ Ok now
 unfolding line_read
 line_reads line source now entry says awaited e =
     ap (λ (r : Result (List (List ℕ)) Fault). r >>= λ fs. entry_of (is_some (open_line source)) line.place fs >>= λ en. with_entry line.place source en) (line_again line says.0)
-    ∙ ap (λ (r : Result (Option LineEntry) Fault). r >>= λ en. with_entry line.place source en) (says_entry (is_some (open_line source)) line.place (fields line.bytes) entry says.1 awaited)
+    ∙ ap (λ (r : Result (Option Entry) Fault). r >>= λ en. with_entry line.place source en) (says_entry (is_some (open_line source)) line.place (fields line.bytes) entry says.1 awaited)
     ∙ e
 
 -- ---- what is read is said
 
 -- what the lines say, after these entries
-pub record Follows (source total : SourceLines) (before : List LineEntry) (lines : List PlacedLine) : Type 0 where
-  pub entries : List (Option LineEntry)
+pub record Follows (source total : SourceLines) (before : List Entry) (lines : List PlacedLine) : Type 0 where
+  pub entries : List (Option Entry)
   pub each : AllZip Says lines entries
   pub is : IsOf total (before ++ said entries)
   pub within : IsWithin (before ++ said entries)
   pub continued : (is_some (open_line source) ∷ map goes_on (said entries)) ≡ (map is_continuation (said entries) ++ is_some (open_line total) ∷ [])
 
-one_follows : (line : PlacedLine) (lines : List PlacedLine) (source now total : SourceLines) (before : List LineEntry) (entry : Option LineEntry) → IsOf source before → IsWithin before → Says line entry
+one_follows : (line : PlacedLine) (lines : List PlacedLine) (source now total : SourceLines) (before : List Entry) (entry : Option Entry) → IsOf source before → IsWithin before → Says line entry
     → IfSome entry (λ e. is_continuation e ≡ is_some (open_line source)) → with_entry line.place source entry ≡ Ok now
-    → ((after : List LineEntry) → IsOf now after → IsWithin after → Follows now total after lines) → Follows source total before (line ∷ lines)
+    → ((after : List Entry) → IsOf now after → IsWithin after → Follows now total after lines) → Follows source total before (line ∷ lines)
 unfolding with_entry
 one_follows line lines source now total before None is within says awaited e rest =
     let same : source ≡ now = same_ok source now e in
@@ -74,22 +75,22 @@ one_follows line lines source now total before (Some entry) is within says await
     record {
       entries = Some entry ∷ follows.entries;
       each = (says, follows.each);
-      is = subst (λ (es : List LineEntry). IsOf total es) grouped follows.is;
-      within = subst (λ (es : List LineEntry). IsWithin es) grouped follows.within;
+      is = subst (λ (es : List Entry). IsOf total es) grouped follows.is;
+      within = subst (λ (es : List Entry). IsWithin es) grouped follows.within;
       continued = ap (λ (b : Bool). b ∷ goes_on entry ∷ map goes_on (said follows.entries)) (sym awaited)
           ∙ ap (λ (b : Bool). is_continuation entry ∷ b ∷ map goes_on (said follows.entries)) opens
           ∙ ap (λ (bs : List Bool). is_continuation entry ∷ bs) follows.continued;
     }
 
-pub lines_follow : (lines : List PlacedLine) (source total : SourceLines) (before : List LineEntry) → IsOf source before → IsWithin before → lines_read source lines ≡ Ok total → Follows source total before lines
+pub lines_follow : (lines : List PlacedLine) (source total : SourceLines) (before : List Entry) → IsOf source before → IsWithin before → lines_read source lines ≡ Ok total → Follows source total before lines
 unfolding lines_read line_read
 lines_follow [] source total before is within e =
     let same : source ≡ total = same_ok source total e in
     record {
       entries = [];
       each = tt;
-      is = subst (λ (es : List LineEntry). IsOf total es) (sym (append-nil before)) (subst (λ (s : SourceLines). IsOf s before) same is);
-      within = subst (λ (es : List LineEntry). IsWithin es) (sym (append-nil before)) within;
+      is = subst (λ (es : List Entry). IsOf total es) (sym (append-nil before)) (subst (λ (s : SourceLines). IsOf s before) same is);
+      within = subst (λ (es : List Entry). IsWithin es) (sym (append-nil before)) within;
       continued = ap (λ (s : SourceLines). is_some (open_line s) ∷ []) same;
     }
 lines_follow (line ∷ lines) source total before is within e =
@@ -104,19 +105,19 @@ lines_follow (line ∷ lines) source total before is within e =
 -- ---- what is said is read
 
 -- the lines are read, and the source after them
-pub record Reads (source : SourceLines) (before : List LineEntry) (lines : List PlacedLine) (entries : List (Option LineEntry)) (awaited : Bool) : Type 0 where
+pub record Reads (source : SourceLines) (before : List Entry) (lines : List PlacedLine) (entries : List (Option Entry)) (awaited : Bool) : Type 0 where
   pub total : SourceLines
   pub read : lines_read source lines ≡ Ok total
   pub is : IsOf total (before ++ said entries)
   pub ends : is_some (open_line total) ≡ awaited
 
-pub lines_again : (lines : List PlacedLine) (entries : List (Option LineEntry)) (source : SourceLines) (before : List LineEntry) (awaited : Bool) → IsOf source before → IsWithin (before ++ said entries) → AllZip Says lines entries
+pub lines_again : (lines : List PlacedLine) (entries : List (Option Entry)) (source : SourceLines) (before : List Entry) (awaited : Bool) → IsOf source before → IsWithin (before ++ said entries) → AllZip Says lines entries
     → (is_some (open_line source) ∷ map goes_on (said entries)) ≡ (map is_continuation (said entries) ++ awaited ∷ []) → Reads source before lines entries awaited
 unfolding lines_read with_entry
 lines_again [] [] source before awaited is within each continued = record {
   total = source;
   read = refl;
-  is = subst (λ (es : List LineEntry). IsOf source es) (sym (append-nil before)) is;
+  is = subst (λ (es : List Entry). IsOf source es) (sym (append-nil before)) is;
   ends = cc;
 }
 lines_again [] (entry ∷ entries) source before awaited is within each continued = absurd each
@@ -133,13 +134,13 @@ lines_again (line ∷ lines) (Some entry ∷ entries) source before awaited is w
     let head : is_continuation entry ≡ is_some (open_line source) = cc in
     let tail : (goes_on entry ∷ map goes_on (said entries)) ≡ (map is_continuation (said entries) ++ awaited ∷ []) = cc in
     let grouped : (before ++ entry ∷ []) ++ said entries ≡ before ++ entry ∷ said entries = append_assoc before (entry ∷ []) (said entries) in
-    let all : IsWithin ((before ++ entry ∷ []) ++ said entries) = subst (λ (es : List LineEntry). IsWithin es) (sym grouped) within in
+    let all : IsWithin ((before ++ entry ∷ []) ++ said entries) = subst (λ (es : List Entry). IsWithin es) (sym grouped) within in
     let adds = entry_adds line.place source before is entry (within_front (before ++ entry ∷ []) (said entries) all) in
     let rest : Reads (with_said source entry) (before ++ entry ∷ []) lines entries awaited = lines_again lines entries (with_said source entry) (before ++ entry ∷ []) awaited (entry_said source before is entry head) all each.1
     (ap (λ (b : Bool). b ∷ map goes_on (said entries)) (open_after source entry head) ∙ tail) in
     record {
       total = rest.total;
       read = ap (λ (r : Result SourceLines Fault). r >>= λ now. lines_read now lines) (line_reads line source (with_said source entry) (Some entry) each.0 head adds) ∙ rest.read;
-      is = subst (λ (es : List LineEntry). IsOf rest.total es) grouped rest.is;
+      is = subst (λ (es : List Entry). IsOf rest.total es) grouped rest.is;
       ends = rest.ends;
     }

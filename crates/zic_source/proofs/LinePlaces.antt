@@ -4,18 +4,19 @@ use Rattle.std.specs.Prelude.{is_some}
 use Rattle.zic_base.specs.declared.place.Place.{Place}
 use Rattle.zic_base.specs.declared.fault.Kind.TheVariants as kinds
 use Rattle.zic_source.specs.Source.{SourceLines}
-use Rattle.zic_lines.specs.Entry.{LineEntry, RuleEntry, ZoneEntry, ContinuationEntry, LinkEntry}
+use Rattle.zic_lines.specs.declared.entry.Entry.{Entry}
+use Rattle.zic_lines.specs.declared.entry.Entry.TheVariants as entries
 use Rattle.zic_lines.specs.Line.{PlacedLine}
 use Rattle.zic_source.specs.Reading.{with_rule, with_zone, with_continuation, with_link, with_entry, open_line, line_read}
 use Rattle.zic_lines.proofs.FaultPlaces.{StandsAt, well, guard, next, fields_at, entry_at}
 
-with_at : (place : Place) (source : SourceLines) (entry : Option LineEntry) → StandsAt place (with_entry place source entry)
+with_at : (place : Place) (source : SourceLines) (entry : Option Entry) → StandsAt place (with_entry place source entry)
 unfolding with_entry with_rule with_zone with_continuation with_link
 with_at place source None = well place source
-with_at place source (Some (RuleEntry rule)) = guard place _ kinds.TooMany _ (guard place _ kinds.TooMany _ (well place _))
-with_at place source (Some (ZoneEntry name line)) = guard place _ kinds.DuplicateName _ (guard place _ kinds.TooMany _ (well place _))
-with_at place source (Some (ContinuationEntry line)) = guard place _ kinds.TooMany _ (well place _)
-with_at place source (Some (LinkEntry link)) = guard place _ kinds.DuplicateName _ (guard place _ kinds.TooMany _ (well place _))
+with_at place source (Some (entries.Rule rule)) = guard place _ kinds.TooMany _ (guard place _ kinds.TooMany _ (well place _))
+with_at place source (Some (entries.Zone name line)) = guard place _ kinds.DuplicateName _ (guard place _ kinds.TooMany _ (well place _))
+with_at place source (Some (entries.Continuation line)) = guard place _ kinds.TooMany _ (well place _)
+with_at place source (Some (entries.Link link)) = guard place _ kinds.DuplicateName _ (guard place _ kinds.TooMany _ (well place _))
 
 pub line_at : (source : SourceLines) (line : PlacedLine) → StandsAt line.place (line_read source line)
 unfolding line_read

@@ -11,7 +11,8 @@ use Rattle.zic_lines.specs.declared.rule.Rule.{Rule}
 use Rattle.zic_lines.specs.declared.link.Link.{Link}
 use Rattle.zic_lines.specs.declared.zone_line.ZoneLine.{ZoneLine}
 use Rattle.zic_source.specs.Source.{ZoneLines, SourceLines, no_lines, set_size, zone_lines_of}
-use Rattle.zic_lines.specs.Entry.{LineEntry, is_continuation, goes_on, rules_in, links_in, zone_entries_in}
+use Rattle.zic_lines.specs.declared.entry.Entry.{Entry}
+use Rattle.zic_lines.specs.Entry.{is_continuation, goes_on, rules_in, links_in, zone_entries_in}
 use Rattle.zic_lines.specs.Line.{PlacedLine, lines_of_texts}
 use Rattle.zic_lines.specs.Grammar.{Says}
 use Rattle.zic_source.specs.Grammar.{said, IsContinued, IsSource}
@@ -42,14 +43,14 @@ ends now (Some line) e = absurd cc
 -- ---- the texts, one after the other
 
 -- what the texts say, after these entries
-pub record TextsFollow (total : SourceLines) (before : List LineEntry) (texts : List (List PlacedLine)) : Type 0 where
-  pub entries : List (List (Option LineEntry))
+pub record TextsFollow (total : SourceLines) (before : List Entry) (texts : List (List PlacedLine)) : Type 0 where
+  pub entries : List (List (Option Entry))
   pub each : AllZip (AllZip Says) texts entries
   pub continued : All IsContinued entries
   pub is : IsOf total (before ++ flat_map said entries)
   pub within : IsWithin (before ++ flat_map said entries)
 
-texts_follow : (texts : List (List PlacedLine)) (source total : SourceLines) (before : List LineEntry) → IsOf source before → IsWithin before → is_some (open_line source) ≡ false → texts_read source texts ≡ Ok total → TextsFollow total before texts
+texts_follow : (texts : List (List PlacedLine)) (source total : SourceLines) (before : List Entry) → IsOf source before → IsWithin before → is_some (open_line source) ≡ false → texts_read source texts ≡ Ok total → TextsFollow total before texts
 unfolding texts_read text_read
 texts_follow [] source total before is within closed e =
     let same : source ≡ total = same_ok source total e in
@@ -57,8 +58,8 @@ texts_follow [] source total before is within closed e =
       entries = [];
       each = tt;
       continued = All-nil IsContinued;
-      is = subst (λ (es : List LineEntry). IsOf total es) (sym (append-nil before)) (subst (λ (s : SourceLines). IsOf s before) same is);
-      within = subst (λ (es : List LineEntry). IsWithin es) (sym (append-nil before)) within;
+      is = subst (λ (es : List Entry). IsOf total es) (sym (append-nil before)) (subst (λ (s : SourceLines). IsOf s before) same is);
+      within = subst (λ (es : List Entry). IsWithin es) (sym (append-nil before)) within;
     }
 texts_follow (lines ∷ texts) source total before is within closed e =
     let a = bound (text_read source lines) _ total e in
@@ -73,29 +74,29 @@ texts_follow (lines ∷ texts) source total before is within closed e =
       entries = first.entries ∷ rest.entries;
       each = (first.each, rest.each);
       continued = All-cons IsContinued first.entries rest.entries continued rest.continued;
-      is = subst (λ (es : List LineEntry). IsOf total es) grouped rest.is;
-      within = subst (λ (es : List LineEntry). IsWithin es) grouped rest.within;
+      is = subst (λ (es : List Entry). IsOf total es) grouped rest.is;
+      within = subst (λ (es : List Entry). IsWithin es) grouped rest.within;
     }
 
 -- the texts are read, and the source after them
-record TextsRead (source : SourceLines) (before : List LineEntry) (texts : List (List PlacedLine)) (entries : List (List (Option LineEntry))) : Type 0 where
+record TextsRead (source : SourceLines) (before : List Entry) (texts : List (List PlacedLine)) (entries : List (List (Option Entry))) : Type 0 where
   total : SourceLines
   read : texts_read source texts ≡ Ok total
   is : IsOf total (before ++ flat_map said entries)
 
-texts_again : (texts : List (List PlacedLine)) (entries : List (List (Option LineEntry))) (source : SourceLines) (before : List LineEntry) → IsOf source before → is_some (open_line source) ≡ false
+texts_again : (texts : List (List PlacedLine)) (entries : List (List (Option Entry))) (source : SourceLines) (before : List Entry) → IsOf source before → is_some (open_line source) ≡ false
     → AllZip (AllZip Says) texts entries → All IsContinued entries → IsWithin (before ++ flat_map said entries) → TextsRead source before texts entries
 unfolding texts_read text_read
 texts_again [] [] source before is closed each continued within = record {
   total = source;
   read = refl;
-  is = subst (λ (es : List LineEntry). IsOf source es) (sym (append-nil before)) is;
+  is = subst (λ (es : List Entry). IsOf source es) (sym (append-nil before)) is;
 }
 texts_again [] (first ∷ entries) source before is closed each continued within = absurd each
 texts_again (lines ∷ texts) [] source before is closed each continued within = absurd each
 texts_again (lines ∷ texts) (first ∷ entries) source before is closed each continued within =
     let grouped : (before ++ said first) ++ flat_map said entries ≡ before ++ (said first ++ flat_map said entries) = append_assoc before (said first) (flat_map said entries) in
-    let all : IsWithin ((before ++ said first) ++ flat_map said entries) = subst (λ (es : List LineEntry). IsWithin es) (sym grouped) within in
+    let all : IsWithin ((before ++ said first) ++ flat_map said entries) = subst (λ (es : List Entry). IsWithin es) (sym grouped) within in
     let chain : IsContinued first = All-head IsContinued first entries continued in
     let again : Reads source before lines first false = lines_again lines first source before false is (within_front (before ++ said first) (flat_map said entries) all) each.0
     (ap (λ (x : Bool). x ∷ map goes_on (said first)) closed ∙ chain) in
@@ -104,7 +105,7 @@ texts_again (lines ∷ texts) (first ∷ entries) source before is closed each c
     record {
       total = rest.total;
       read = ap (λ (r : Result SourceLines Fault). r >>= λ now. texts_read now texts) text ∙ rest.read;
-      is = subst (λ (es : List LineEntry). IsOf rest.total es) grouped rest.is;
+      is = subst (λ (es : List Entry). IsOf rest.total es) grouped rest.is;
     }
 
 -- ---- all of the texts
@@ -155,7 +156,7 @@ same_source source other e f g =
 pub source_is_read : (texts : List (List ℕ)) (source : SourceLines) → IsSource texts source → (reading texts ≡ Ok source) × IsWhole source
 unfolding reading
 source_is_read texts source is =
-    let within : IsWithin (flat_map said is.entries) = subst (λ (es : List LineEntry). IsWithin es) is.in_order (source_within texts source is) in
+    let within : IsWithin (flat_map said is.entries) = subst (λ (es : List Entry). IsWithin es) is.in_order (source_within texts source is) in
     let again : TextsRead no_lines [] (lines_of_texts texts) is.entries = texts_again (lines_of_texts texts) is.entries no_lines [] nothing_said refl is.each is.continued within in
     let same : again.total ≡ source = same_source again.total source
     (again.is.rules ∙ ap (flat_map rules_in) (sym is.in_order) ∙ sym is.rules)

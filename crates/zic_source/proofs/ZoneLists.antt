@@ -10,7 +10,8 @@ use Rattle.zic_source.specs.Zone.{zone_lines}
 use Rattle.zic_lines.specs.declared.zone_line.ZoneLine.{ZoneLine}
 use Rattle.zic_source.specs.Source.{ZoneLines, SourceLines, lines_of_zone}
 use Rattle.zic_lines.specs.Entry.{has_until}
-use Rattle.zic_lines.specs.Entry.{LineEntry, RuleEntry, ZoneEntry, ContinuationEntry, LinkEntry}
+use Rattle.zic_lines.specs.declared.entry.Entry.{Entry}
+use Rattle.zic_lines.specs.declared.entry.Entry.TheVariants as entries
 use Rattle.zic_source.specs.Source.{entries_of_zone}
 use Rattle.zic_source.specs.Reading.{continued, last_until, open_line}
 
@@ -33,46 +34,46 @@ continued-flat_map f line more one zone (other ∷ zones) =
 pub continued_lines : (line : ZoneLine) (zone : ZoneLines) (zones : List ZoneLines) → flat_map lines_of_zone (continued (zone ∷ zones) line) ≡ flat_map lines_of_zone (zone ∷ zones) ++ line ∷ []
 continued_lines line zone zones = continued-flat_map lines_of_zone line (line ∷ []) (λ z. refl) zone zones
 
-pub continued_entries : (line : ZoneLine) (zone : ZoneLines) (zones : List ZoneLines) → flat_map entries_of_zone (continued (zone ∷ zones) line) ≡ flat_map entries_of_zone (zone ∷ zones) ++ ContinuationEntry line ∷ []
-continued_entries line zone zones = continued-flat_map entries_of_zone line (ContinuationEntry line ∷ [])
-    (λ z. ap (λ (rest : List LineEntry). ZoneEntry z.name z.first ∷ rest) (map-append ContinuationEntry z.continuations (line ∷ []))) zone zones
+pub continued_entries : (line : ZoneLine) (zone : ZoneLines) (zones : List ZoneLines) → flat_map entries_of_zone (continued (zone ∷ zones) line) ≡ flat_map entries_of_zone (zone ∷ zones) ++ entries.Continuation line ∷ []
+continued_entries line zone zones = continued-flat_map entries_of_zone line (entries.Continuation line ∷ [])
+    (λ z. ap (λ (rest : List Entry). entries.Zone z.name z.first ∷ rest) (map-append entries.Continuation z.continuations (line ∷ []))) zone zones
 
 -- ---- zones are what their lines say
 
 -- the continuation lines that a list begins with
-abbrev front_lines : List LineEntry → List ZoneLine
+abbrev front_lines : List Entry → List ZoneLine
 front_lines [] = []
-front_lines (RuleEntry rule ∷ entries) = []
-front_lines (ZoneEntry name line ∷ entries) = []
-front_lines (ContinuationEntry line ∷ entries) = line ∷ front_lines entries
-front_lines (LinkEntry link ∷ entries) = []
+front_lines (entries.Rule rule ∷ entries) = []
+front_lines (entries.Zone name line ∷ entries) = []
+front_lines (entries.Continuation line ∷ entries) = line ∷ front_lines entries
+front_lines (entries.Link link ∷ entries) = []
 
 -- the zones of some lines: one at each Zone line
-abbrev zones_of : List LineEntry → List ZoneLines
+abbrev zones_of : List Entry → List ZoneLines
 zones_of [] = []
-zones_of (RuleEntry rule ∷ entries) = zones_of entries
-zones_of (ZoneEntry name line ∷ entries) = record { name = name; first = line; continuations = front_lines entries } ∷ zones_of entries
-zones_of (ContinuationEntry line ∷ entries) = zones_of entries
-zones_of (LinkEntry link ∷ entries) = zones_of entries
+zones_of (entries.Rule rule ∷ entries) = zones_of entries
+zones_of (entries.Zone name line ∷ entries) = record { name = name; first = line; continuations = front_lines entries } ∷ zones_of entries
+zones_of (entries.Continuation line ∷ entries) = zones_of entries
+zones_of (entries.Link link ∷ entries) = zones_of entries
 
 front_of_zones : (zones : List ZoneLines) → front_lines (flat_map entries_of_zone zones) ≡ []
 front_of_zones [] = refl
 front_of_zones (zone ∷ zones) = refl
 
-front-append : (lines : List ZoneLine) (entries : List LineEntry) → front_lines (map ContinuationEntry lines ++ entries) ≡ lines ++ front_lines entries
+front-append : (lines : List ZoneLine) (entries : List Entry) → front_lines (map entries.Continuation lines ++ entries) ≡ lines ++ front_lines entries
 front-append [] entries = refl
 front-append (line ∷ lines) entries = ap (λ (rest : List ZoneLine). line ∷ rest) (front-append lines entries)
 
-zones-append : (lines : List ZoneLine) (entries : List LineEntry) → zones_of (map ContinuationEntry lines ++ entries) ≡ zones_of entries
+zones-append : (lines : List ZoneLine) (entries : List Entry) → zones_of (map entries.Continuation lines ++ entries) ≡ zones_of entries
 zones-append [] entries = refl
 zones-append (line ∷ lines) entries = zones-append lines entries
 
 zones_back : (zones : List ZoneLines) → zones_of (flat_map entries_of_zone zones) ≡ zones
 zones_back [] = refl
 zones_back (zone ∷ zones) =
-    let rest : List LineEntry = flat_map entries_of_zone zones in
-    let front : front_lines (map ContinuationEntry zone.continuations ++ rest) ≡ zone.continuations = front-append zone.continuations rest ∙ ap (λ (ls : List ZoneLine). zone.continuations ++ ls) (front_of_zones zones) ∙ append-nil zone.continuations in
-    ap (λ (ls : List ZoneLine). record { name = zone.name; first = zone.first; continuations = ls } ∷ zones_of (map ContinuationEntry zone.continuations ++ rest)) front
+    let rest : List Entry = flat_map entries_of_zone zones in
+    let front : front_lines (map entries.Continuation zone.continuations ++ rest) ≡ zone.continuations = front-append zone.continuations rest ∙ ap (λ (ls : List ZoneLine). zone.continuations ++ ls) (front_of_zones zones) ∙ append-nil zone.continuations in
+    ap (λ (ls : List ZoneLine). record { name = zone.name; first = zone.first; continuations = ls } ∷ zones_of (map entries.Continuation zone.continuations ++ rest)) front
     ∙ ap (λ (zs : List ZoneLines). zone ∷ zs) (zones-append zone.continuations rest ∙ zones_back zones)
 
 -- zones of which the lines say the same are the same

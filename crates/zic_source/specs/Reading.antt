@@ -10,7 +10,8 @@ use Rattle.zic_lines.specs.declared.zone_line.ZoneLine.{ZoneLine}
 use Rattle.zic_lines.specs.declared.link.Link.{Link}
 use Rattle.zic_source.specs.Source.{ZoneLines, SourceLines, no_lines, set_size, zone_lines_of}
 use Rattle.zic_lines.specs.Entry.{has_until}
-use Rattle.zic_lines.specs.Entry.{LineEntry, RuleEntry, ZoneEntry, ContinuationEntry, LinkEntry}
+use Rattle.zic_lines.specs.declared.entry.Entry.{Entry}
+use Rattle.zic_lines.specs.declared.entry.Entry.TheVariants as entries
 use Rattle.zic_lines.specs.Line.{PlacedLine, lines_of_texts}
 use Rattle.zic_source.specs.Links.{is_named}
 use Rattle.zic_lines.specs.Field.{fields}
@@ -64,12 +65,12 @@ with_link place source link =
     else Ok (record source { links = source.links ++ link ∷ [] }))
 
 -- the source with what one line more says
-unfoldable pub with_entry : Place → SourceLines → Option LineEntry → Result SourceLines Fault
+unfoldable pub with_entry : Place → SourceLines → Option Entry → Result SourceLines Fault
 with_entry place source None = Ok source
-with_entry place source (Some (RuleEntry rule)) = with_rule place source rule
-with_entry place source (Some (ZoneEntry name line)) = with_zone place source name line
-with_entry place source (Some (ContinuationEntry line)) = with_continuation place source line
-with_entry place source (Some (LinkEntry link)) = with_link place source link
+with_entry place source (Some (entries.Rule rule)) = with_rule place source rule
+with_entry place source (Some (entries.Zone name line)) = with_zone place source name line
+with_entry place source (Some (entries.Continuation line)) = with_continuation place source line
+with_entry place source (Some (entries.Link link)) = with_link place source link
 
 -- the last of some lines, where it has an UNTIL
 abbrev pub last_until : List ZoneLine → Option ZoneLine

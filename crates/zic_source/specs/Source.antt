@@ -3,7 +3,8 @@ use Rattle.std.specs.Prelude.{map, ℕ, List, [], ◌∷◌, Option, slice_get, 
 use Rattle.zic_lines.specs.declared.rule.Rule.{Rule}
 use Rattle.zic_lines.specs.declared.zone_line.ZoneLine.{ZoneLine}
 use Rattle.zic_lines.specs.declared.link.Link.{Link}
-use Rattle.zic_lines.specs.Entry.{LineEntry, ZoneEntry, ContinuationEntry}
+use Rattle.zic_lines.specs.declared.entry.Entry.{Entry}
+use Rattle.zic_lines.specs.declared.entry.Entry.TheVariants as entries
 
 -- a zone: its name, what its Zone line says, and what each continuation line says
 pub record ZoneLines : Type 0 where
@@ -38,5 +39,5 @@ abbrev pub zone_at : SourceLines → ℕ → Option ZoneLines
 zone_at source number = slice_get source.zones number
 
 -- what the lines of a zone say: its Zone line, and each continuation line
-abbrev pub entries_of_zone : ZoneLines → List LineEntry
-entries_of_zone zone = ZoneEntry zone.name zone.first ∷ map ContinuationEntry zone.continuations
+abbrev pub entries_of_zone : ZoneLines → List Entry
+entries_of_zone zone = entries.Zone zone.name zone.first ∷ map entries.Continuation zone.continuations

@@ -22,7 +22,7 @@ pub enum ClockForm {
 }
 
 /// A time of day in seconds, and the clock by which it is meant.
-#[derive(Clone, Copy, Debug)]
+#[derive(Clone, Copy, Debug, PartialEq, Eq)]
 pub struct ClockTime {
     pub seconds: i32,
     pub form: ClockForm,
