@@ -1,11 +1,12 @@
 -- Which day of the month ON of a Rule line or the DAY of an UNTIL names: zic(8), FILES; which numbers may stand there is own choice.
 use Rattle.std.specs.Prelude.{ℕ, Bool, true, false, ◌&&◌, List, [], ◌∷◌, drop, Option, Some, None, option_map, if◌then◌else◌, nat_le, ◌==◌, codes}
 use Rattle.std.specs.List.{slice_split}
+use Rattle.zic_base.specs.Option.{◌>>=◌}
 use Rattle.zic_calendar.specs.Calendar.{month_length}
 use Rattle.zic_calendar.specs.declared.day_form.On.{On}
 use Rattle.zic_calendar.specs.declared.day_form.On.TheVariants.{Day, Last, After, Before}
 use Rattle.zic_words.specs.Word.{begins_word, only_word}
-use Rattle.zic_words.specs.Time.{number, ◌>>=◌}
+use Rattle.zic_words.specs.Time.{number}
 
 -- the weekdays in order
 abbrev pub weekday_words : List (List ℕ)

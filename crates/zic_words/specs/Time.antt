@@ -1,13 +1,10 @@
 -- Times and offsets: zic(8), FILES; digits and limits are own choice.
-use Rattle.std.specs.Prelude.{◌≡◌, ℕ, ◌+◌, ◌-◌, ◌*◌, ◌/◌, ◌%◌, ◌^◌, ◌≤◌, ◌⊎◌, Bool, false, ◌&&◌, List, [], ◌∷◌, length, drop, fold, ℤ, pos, neg_ℤ, Option, Some, None, option_map, option_and_then, if◌then◌else◌, nat_lt, nat_le, ◌==◌}
+use Rattle.std.specs.Prelude.{◌≡◌, ℕ, ◌+◌, ◌-◌, ◌*◌, ◌/◌, ◌%◌, ◌^◌, ◌≤◌, ◌⊎◌, Bool, false, ◌&&◌, List, [], ◌∷◌, length, drop, fold, ℤ, pos, neg_ℤ, Option, Some, None, option_map, if◌then◌else◌, nat_lt, nat_le, ◌==◌}
 use Rattle.std.specs.List.{slice_split, list_all}
 use Rattle.std.specs.Char.{is_ascii_digit}
+use Rattle.zic_base.specs.Option.{◌>>=◌}
+use Rattle.zic_words.specs.declared.time.TheConstants.{MOST_DIGITS, GREATEST_OFFSET}
 use Rattle.zic_words.specs.Dash.{is_dash}
-
--- `x ← o` goes on with what o has, and stops where it has nothing
-infixl 10 ◌>>=◌
-abbrev pub ◌>>=◌ : {A B : Type 0} → Option A → (A → Option B) → Option B
-o >>= f = option_and_then f o
 
 -- the number that decimal digits spell
 abbrev pub decimal_value : List ℕ → ℕ
@@ -25,7 +22,7 @@ sixtieths text = do
 
 -- one to nine decimals of a second, in billionths
 unfoldable pub decimals : List ℕ → Option ℕ
-decimals text = option_map (λ n. n * 10 ^ (9 - length text)) (number 9 text)
+decimals text = option_map (λ n. n * 10 ^ (MOST_DIGITS - length text)) (number MOST_DIGITS text)
 
 -- seconds, with decimals where there is a point, in billionths
 unfoldable pub seconds_from : List (List ℕ) → Option ℕ
@@ -40,13 +37,13 @@ seconds_from (whole ∷ fraction ∷ more ∷ parts) = None
 -- hours, or hours and minutes, or hours, minutes and seconds, in billionths of a second
 unfoldable pub magnitude_from : List (List ℕ) → Option ℕ
 magnitude_from [] = None
-magnitude_from (hours ∷ []) = option_map (λ h. 10 ^ 9 * (3600 * h)) (number 9 hours)
+magnitude_from (hours ∷ []) = option_map (λ h. 10 ^ 9 * (3600 * h)) (number MOST_DIGITS hours)
 magnitude_from (hours ∷ minutes ∷ []) = do
-  h ← number 9 hours
+  h ← number MOST_DIGITS hours
   m ← sixtieths minutes
   Some (10 ^ 9 * (3600 * h + 60 * m))
 magnitude_from (hours ∷ minutes ∷ seconds ∷ []) = do
-  h ← number 9 hours
+  h ← number MOST_DIGITS hours
   m ← sixtieths minutes
   s ← seconds_from (slice_split (λ byte. byte == 46) seconds)
   Some (10 ^ 9 * (3600 * h + 60 * m) + s)
@@ -83,4 +80,4 @@ signed_seconds limit text = if is_negative text then option_map (λ s. neg_ℤ (
 
 -- STDOFF in seconds, positive east, at most 24 hours either way; `-` is 0
 unfoldable pub offset_of : List ℕ → Option ℤ
-offset_of field = if is_dash field then Some (pos 0) else signed_seconds 86400 field
+offset_of field = if is_dash field then Some (pos 0) else signed_seconds GREATEST_OFFSET field

@@ -7,8 +7,8 @@ ghost use Rattle.zic_words.specs.Clock.{clock_suffix, clock_time_of};
 use crate::dash::is_dash;
 use crate::time::signed_seconds;
 
-/// The greatest AT either way, in seconds: 300 hours.
-const LATEST: u32 = 1_080_000;
+/// The greatest time of day either way, in seconds: 300 hours.
+pub const LATEST_TIME: u32 = 1_080_000;
 
 /// The clock by which a time of day is meant.
 #[derive(Clone, Copy, Debug, PartialEq, Eq)]
@@ -62,8 +62,8 @@ pub fn clock_time(field: &[u8]) -> Option<ClockTime>
 
 /// A time without a suffix, by this clock.
 fn time_by(form: ClockForm, text: &[u8]) -> Option<ClockTime>
-    ensures { result ≡ option_map (λ s. record { seconds = s; form = form }) (signed_seconds 1_080_000 text.now) }
+    ensures { result ≡ option_map (λ s. record { seconds = s; form = form }) (signed_seconds LATEST_TIME text.now) }
 {
-    let seconds = signed_seconds(text, LATEST)?;
+    let seconds = signed_seconds(LATEST_TIME, text)?;
     Some(ClockTime { seconds, form })
 }

@@ -42,7 +42,7 @@ fn weekday(field: &[u8]) -> Option<u8>
 fn day_within(longest: u8, field: &[u8]) -> Option<u8>
     ensures { result ≡ day_within longest field.now }
 {
-    let n = number(field, 2)?;
+    let n = number(2, field)?;
     if 1 <= n && n <= u32::from(longest) {
         Some(n as u8)
     } else {

@@ -17,7 +17,7 @@ mod time;
 mod word;
 mod year;
 
-pub use clock::{ClockForm, ClockTime, clock_time};
+pub use clock::{ClockForm, ClockTime, LATEST_TIME, clock_time};
 pub use dash::is_dash;
 pub use day_form::parse_day_form;
 pub use keyword::{Keyword, parse_keyword};
@@ -27,8 +27,8 @@ pub use name::{LONGEST_NAME, Name};
 pub use saving::{Saving, save};
 pub use set_name::SetName;
 pub use split::split_once;
-pub use time::offset;
-pub use year::{ends_before, is_one_leap_year, last_year, parse_year};
+pub use time::{GREATEST_OFFSET, MOST_DIGITS, offset};
+pub use year::{FIRST_YEAR, LAST_YEAR, ends_before, is_one_leap_year, last_year, parse_year};
 
 #[cfg(test)]
 mod tests;

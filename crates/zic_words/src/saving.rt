@@ -4,7 +4,7 @@ ghost use Rattle.std.specs.Prelude.{◌≡◌};
 ghost use Rattle.zic_words.specs.Saving.{daylight_suffix, saving_of};
 
 use crate::dash::is_dash;
-use crate::time::{DAY, signed_seconds};
+use crate::time::{GREATEST_OFFSET, signed_seconds};
 
 /// What is added to standard time.
 #[derive(Clone, Copy, Debug, PartialEq, Eq)]
@@ -40,11 +40,11 @@ pub fn save(field: &[u8]) -> Option<Saving>
     match field {
         [text @ .., last] => match daylight_suffix(*last) {
             Some(daylight) => {
-                let seconds = signed_seconds(text, DAY)?;
+                let seconds = signed_seconds(GREATEST_OFFSET, text)?;
                 Some(Saving { seconds, daylight })
             }
             None => {
-                let seconds = signed_seconds(field, DAY)?;
+                let seconds = signed_seconds(GREATEST_OFFSET, field)?;
                 let daylight = seconds != 0;
                 Some(Saving { seconds, daylight })
             }

@@ -9,10 +9,10 @@ use crate::split::split_once;
 use std::cmp::Ordering;
 
 /// How many digits years, hours and decimals of a second may have.
-pub(crate) const MOST_DIGITS: usize = 9;
+pub const MOST_DIGITS: usize = 9;
 
-/// The greatest STDOFF and SAVE either way, in seconds.
-pub(crate) const DAY: u32 = 86400;
+/// The greatest STDOFF, SAVE and amount in RULES either way, in seconds: 24 hours.
+pub const GREATEST_OFFSET: u32 = 86_400;
 
 /// Billionths in a second.
 const BILLION: u32 = 1_000_000_000;
@@ -27,8 +27,8 @@ struct Time {
 
 /// The number that the text spells in decimal digits: at least one, and at most so many.
 #[tactic(auto, unfolding(crate::specs::Time::number))]
-pub(crate) fn number(text: &[u8], most: usize) -> Option<u32>
-    requires { most ≤ 9 }
+pub(crate) fn number(most: usize, text: &[u8]) -> Option<u32>
+    requires { most ≤ MOST_DIGITS }
     ensures value { result ≡ number most text.now }
     ensures digits { IfSome result (λ n. n < 10 ^ length text.now) }
     ensures length { IfSome result (λ _. length text.now ≤ most) }
@@ -52,7 +52,7 @@ fn sixtieths(text: &[u8]) -> Option<u64>
     ensures value { result ≡ sixtieths text.now }
     ensures fits { IfSome result (λ n. n < 60) }
 {
-    let n = number(text, 2)?;
+    let n = number(2, text)?;
     if n < 60 { Some(u64::from(n)) } else { None }
 }
 
@@ -62,7 +62,7 @@ fn decimals(text: &[u8]) -> Option<u32>
     ensures value { result ≡ decimals text.now }
     ensures fits { IfSome result (λ n. n < 10 ^ 9) }
 {
-    let n = number(text, MOST_DIGITS)?;
+    let n = number(MOST_DIGITS, text)?;
     Some(n * 10u32.pow((MOST_DIGITS - text.len()) as u32))
 }
 
@@ -102,7 +102,7 @@ fn magnitude(text: &[u8]) -> Option<Time>
     ensures billionths { IfSome result (λ time. time.billionths < 10 ^ 9) }
 {
     let (hours, minutes) = split_once(text, b':');
-    let hours = 3600 * u64::from(number(hours, MOST_DIGITS)?);
+    let hours = 3600 * u64::from(number(MOST_DIGITS, hours)?);
     let Some(minutes) = minutes else {
         return Some(Time {
             seconds: hours,
@@ -150,7 +150,7 @@ fn nearest_second(time: Time) -> u64
 
 /// A time without its sign in whole seconds, where it is within the limit.
 #[tactic(auto, unfolding(crate::specs::Time::whole_seconds))]
-fn whole_seconds(text: &[u8], limit: u32) -> Option<u32>
+fn whole_seconds(limit: u32, text: &[u8]) -> Option<u32>
     ensures value { result ≡ whole_seconds limit text.now }
     ensures fits { IfSome result (λ s. s ≤ limit) }
 {
@@ -165,17 +165,17 @@ fn whole_seconds(text: &[u8], limit: u32) -> Option<u32>
 
 /// A time in whole seconds, below 0 behind a `-`, within the limit either way.
 #[tactic(auto, unfolding(crate::specs::Time::signed_seconds))]
-pub(crate) fn signed_seconds(text: &[u8], limit: u32) -> Option<i32>
-    requires { limit ≤ 1_080_000 }
+pub(crate) fn signed_seconds(limit: u32, text: &[u8]) -> Option<i32>
+    requires { limit < 2 ^ 31 }
     ensures { result ≡ signed_seconds limit text.now }
 {
     match text {
         [b'-', text @ ..] => {
-            let seconds = whole_seconds(text, limit)?;
+            let seconds = whole_seconds(limit, text)?;
             Some(-(seconds as i32))
         }
         _ => {
-            let seconds = whole_seconds(text, limit)?;
+            let seconds = whole_seconds(limit, text)?;
             Some(seconds as i32)
         }
     }
@@ -189,5 +189,5 @@ pub fn offset(field: &[u8]) -> Option<i32>
     if is_dash(field) {
         return Some(0);
     }
-    signed_seconds(field, DAY)
+    signed_seconds(GREATEST_OFFSET, field)
 }

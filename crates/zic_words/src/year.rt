@@ -8,17 +8,21 @@ use crate::time::{MOST_DIGITS, number};
 use crate::word::begins_word;
 use zic_calendar::is_leap_year;
 
-/// The greatest year.
-const LAST_YEAR: u32 = 9000;
+/// The least year that a line may name.
+pub const FIRST_YEAR: u16 = 1;
+
+/// The greatest year that a line may name.
+pub const LAST_YEAR: u16 = 9000;
 
 /// A year: one to nine digits, 1 to 9000.
 #[tactic(auto, unfolding(crate::specs::Year::year_of))]
 pub fn parse_year(field: &[u8]) -> Option<u16>
     ensures value { result ≡ year_of field.now }
-    ensures high { IfSome result (λ year. year ≤ 9000) }
+    ensures low { IfSome result (λ year. FIRST_YEAR ≤ year) }
+    ensures high { IfSome result (λ year. year ≤ LAST_YEAR) }
 {
-    let n = number(field, MOST_DIGITS)?;
-    if 1 <= n && n <= LAST_YEAR {
+    let n = number(MOST_DIGITS, field)?;
+    if u32::from(FIRST_YEAR) <= n && n <= u32::from(LAST_YEAR) {
         Some(n as u16)
     } else {
         None
