@@ -6,3 +6,4 @@ pub mod Digits
 pub mod Times
 pub mod DayForms
 pub mod ClockTimes
+pub mod Ranges

@@ -1,10 +1,11 @@
 -- Which day of the month ON of a Rule line or the DAY of an UNTIL names: zic(8), FILES; which numbers may stand there is own choice.
-use Rattle.std.specs.Prelude.{ℕ, Bool, true, false, ◌&&◌, List, [], ◌∷◌, drop, Option, Some, None, option_map, if◌then◌else◌, nat_le, ◌==◌, codes}
+use Rattle.std.specs.Prelude.{◌≡◌, ℕ, ℤ, Bool, true, false, ◌&&◌, List, [], ◌∷◌, drop, Option, Some, None, option_map, if◌then◌else◌, nat_le, ◌==◌, codes}
 use Rattle.std.specs.List.{slice_split}
 use Rattle.zic_base.specs.Option.{◌>>=◌}
-use Rattle.zic_calendar.specs.Calendar.{month_length}
+use Rattle.zic_calendar.specs.Calendar.{is_leap_year, month_length}
 use Rattle.zic_calendar.specs.declared.day_form.On.{On}
 use Rattle.zic_calendar.specs.declared.day_form.On.TheVariants.{Day, Last, After, Before}
+use Rattle.zic_calendar.specs.DayForm.{FormFits}
 use Rattle.zic_words.specs.Word.{begins_word, only_word}
 use Rattle.zic_words.specs.Time.{number}
 
@@ -60,3 +61,7 @@ day_form_of one_leap_year month field =
     (or_else (option_map (λ both. After both.0 both.1) (weekday_and_day 62 (month_length false month) field))
     (or_else (option_map (λ both. Before both.0 both.1) (weekday_and_day 60 (month_length true month) field))
     (option_map Day (day_within (month_length one_leap_year month) field))))
+
+-- The form fits the month in each year that is meant: in each leap year, or in every year.
+abbrev pub FitsEachYear : Bool → ℕ → On → Type 0
+FitsEachYear one_leap_year month form = (year : ℤ) → (one_leap_year ≡ true → is_leap_year year ≡ true) → FormFits year month form

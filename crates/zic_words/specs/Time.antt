@@ -1,5 +1,5 @@
 -- Times and offsets: zic(8), FILES; digits and limits are own choice.
-use Rattle.std.specs.Prelude.{◌≡◌, ℕ, ◌+◌, ◌-◌, ◌*◌, ◌/◌, ◌%◌, ◌^◌, ◌≤◌, ◌⊎◌, Bool, false, ◌&&◌, List, [], ◌∷◌, length, drop, fold, ℤ, pos, neg_ℤ, Option, Some, None, option_map, if◌then◌else◌, nat_lt, nat_le, ◌==◌}
+use Rattle.std.specs.Prelude.{◌≡◌, ℕ, ◌+◌, ◌-◌, ◌*◌, ◌/◌, ◌%◌, ◌^◌, ◌≤◌, ◌⊎◌, Bool, false, ◌&&◌, List, [], ◌∷◌, length, drop, fold, ℤ, pos, neg_ℤ, unsigned_abs, Option, Some, None, option_map, if◌then◌else◌, nat_lt, nat_le, ◌==◌}
 use Rattle.std.specs.List.{slice_split, list_all}
 use Rattle.std.specs.Char.{is_ascii_digit}
 use Rattle.zic_base.specs.Option.{◌>>=◌}
@@ -68,6 +68,10 @@ unfoldable pub whole_seconds : ℕ → List ℕ → Option ℕ
 whole_seconds limit text = do
   time ← magnitude text
   if nat_le (rounded time) limit then Some (rounded time) else None
+
+-- at most this many seconds either way
+abbrev pub IsWithin : ℕ → ℤ → Type 0
+IsWithin limit seconds = unsigned_abs seconds ≤ limit
 
 -- a field that begins with `-`
 abbrev pub is_negative : List ℕ → Bool

@@ -1,7 +1,7 @@
 //! The time of day of AT and of an UNTIL.
 
-ghost use Rattle.std.specs.Prelude.{◌≡◌, option_map};
-ghost use Rattle.zic_words.specs.Time.{signed_seconds};
+ghost use Rattle.std.specs.Prelude.{◌≡◌, IfSome, option_map};
+ghost use Rattle.zic_words.specs.Time.{signed_seconds, IsWithin};
 ghost use Rattle.zic_words.specs.Clock.{clock_suffix, clock_time_of};
 
 use crate::dash::is_dash;
@@ -43,7 +43,8 @@ fn clock_suffix(byte: u8) -> Option<ClockForm>
 /// AT in seconds, within 300 hours either way, and its clock.
 #[tactic(auto, unfolding(crate::specs::Clock::clock_time_of))]
 pub fn clock_time(field: &[u8]) -> Option<ClockTime>
-    ensures { result ≡ clock_time_of field.now }
+    ensures value { result ≡ clock_time_of field.now }
+    ensures within { IfSome result (λ time. IsWithin LATEST_TIME time.seconds) }
 {
     if is_dash(field) {
         return Some(ClockTime {
@@ -62,7 +63,8 @@ pub fn clock_time(field: &[u8]) -> Option<ClockTime>
 
 /// A time without a suffix, by this clock.
 fn time_by(form: ClockForm, text: &[u8]) -> Option<ClockTime>
-    ensures { result ≡ option_map (λ s. record { seconds = s; form = form }) (signed_seconds LATEST_TIME text.now) }
+    ensures value { result ≡ option_map (λ s. record { seconds = s; form = form }) (signed_seconds LATEST_TIME text.now) }
+    ensures within { IfSome result (λ time. IsWithin LATEST_TIME time.seconds) }
 {
     let seconds = signed_seconds(LATEST_TIME, text)?;
     Some(ClockTime { seconds, form })

@@ -2,7 +2,7 @@
 
 ghost use Rattle.std.specs.Prelude.{◌≡◌, ◌+◌, ◌*◌, ◌^◌, ◌<◌, ◌≤◌, List, IfSome, length, option_map, pos, ◌==◌};
 ghost use Rattle.std.specs.List.{slice_split};
-ghost use Rattle.zic_words.specs.Time.{number, sixtieths, decimals, seconds_from, magnitude, whole_seconds, signed_seconds, offset_of, rounded, IsNearestSecond};
+ghost use Rattle.zic_words.specs.Time.{number, sixtieths, decimals, seconds_from, magnitude, whole_seconds, signed_seconds, offset_of, rounded, IsNearestSecond, IsWithin};
 
 use crate::dash::is_dash;
 use crate::split::split_once;
@@ -167,7 +167,8 @@ fn whole_seconds(limit: u32, text: &[u8]) -> Option<u32>
 #[tactic(auto, unfolding(crate::specs::Time::signed_seconds))]
 pub(crate) fn signed_seconds(limit: u32, text: &[u8]) -> Option<i32>
     requires { limit < 2 ^ 31 }
-    ensures { result ≡ signed_seconds limit text.now }
+    ensures value { result ≡ signed_seconds limit text.now }
+    ensures within { IfSome result (λ s. IsWithin limit s) }
 {
     match text {
         [b'-', text @ ..] => {
@@ -184,7 +185,8 @@ pub(crate) fn signed_seconds(limit: u32, text: &[u8]) -> Option<i32>
 /// STDOFF in seconds, positive east, at most 24 hours either way.
 #[tactic(auto, unfolding(crate::specs::Time::offset_of))]
 pub fn offset(field: &[u8]) -> Option<i32>
-    ensures { result ≡ offset_of field.now }
+    ensures value { result ≡ offset_of field.now }
+    ensures within { IfSome result (λ s. IsWithin GREATEST_OFFSET s) }
 {
     if is_dash(field) {
         return Some(0);

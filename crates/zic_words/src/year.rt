@@ -1,8 +1,8 @@
 //! Years of Rule lines and of an UNTIL.
 
-ghost use Rattle.std.specs.Prelude.{◌≡◌, ◌≤◌, IfSome};
+ghost use Rattle.std.specs.Prelude.{◌≡◌, ◌⊎◌, IfSome};
 ghost use Rattle.zic_words.specs.Year as spec;
-ghost use Rattle.zic_words.specs.Year.{year_of, last_year_of, is_only, is_maximum};
+ghost use Rattle.zic_words.specs.Year.{year_of, last_year_of, is_only, is_maximum, IsYear};
 
 use crate::time::{MOST_DIGITS, number};
 use crate::word::begins_word;
@@ -18,8 +18,7 @@ pub const LAST_YEAR: u16 = 9000;
 #[tactic(auto, unfolding(crate::specs::Year::year_of))]
 pub fn parse_year(field: &[u8]) -> Option<u16>
     ensures value { result ≡ year_of field.now }
-    ensures low { IfSome result (λ year. FIRST_YEAR ≤ year) }
-    ensures high { IfSome result (λ year. year ≤ LAST_YEAR) }
+    ensures within { IfSome result IsYear }
 {
     let n = number(MOST_DIGITS, field)?;
     if u32::from(FIRST_YEAR) <= n && n <= u32::from(LAST_YEAR) {
@@ -44,7 +43,8 @@ fn is_maximum(field: &[u8]) -> bool
 /// TO: the year FROM, no last year, or a year.
 #[tactic(auto, unfolding(crate::specs::Year::last_year_of))]
 pub fn last_year(first: u16, field: &[u8]) -> Option<Option<u16>>
-    ensures { result ≡ last_year_of first field.now }
+    ensures value { result ≡ last_year_of first field.now }
+    ensures within { IfSome result (λ last. IfSome last (λ year. (year ≡ first) ⊎ IsYear year)) }
 {
     if is_only(field) {
         return Some(Some(first));
