@@ -1,6 +1,5 @@
 pub mod Words
-pub mod OnlyPlaces
-pub mod FirstLetters
+pub mod OnlyWords
 pub mod Splits
 pub mod Digits
 pub mod Times

@@ -1,9 +1,10 @@
 -- In what range the values lie that fields say.
-use Rattle.std.proofs.Common.{subst, ◌≡◌, ◌≤◌, ◌<◌, ℕ, zero, suc, ◌+◌, Bool, true, false, cond, nat_le, List, length, drop, Option, Some, None, refl, sym, ap, arith}
+use Rattle.std.proofs.Common.{nat_eq, subst, ◌≡◌, ◌≤◌, ◌<◌, ℕ, zero, suc, ◌+◌, Bool, true, false, cond, nat_le, List, length, drop, Option, Some, None, refl, sym, ap, arith}
 use Rattle.std.specs.Prelude.{ℤ, pos, negsuc, neg_ℤ, unsigned_abs, option_map, option_and_then, IfSome, ◌&&◌, ◌==◌, codes}
 use Rattle.std.specs.Int.{IsInRange}
 use Rattle.std.proofs.lemmas.Bool.{leb-true, and_parts}
-use Rattle.std.specs.List.{slice_split}
+use Rattle.std.specs.List.{slice_split, starts_with}
+use Rattle.std.specs.Str.{str_to_ascii_lowercase}
 use Rattle.std.proofs.lemmas.Option.{IfSome_then}
 use Rattle.zic_calendar.specs.Weekday.{IsWeekday}
 use Rattle.zic_calendar.specs.Calendar.{is_leap_year, month_length}
@@ -19,9 +20,9 @@ use Rattle.zic_words.specs.Clock.{clock_time_of, time_by, clock_suffix, last_byt
 use Rattle.zic_words.specs.Saving.{saving_of, saving_by, daylight_suffix}
 use Rattle.zic_words.specs.Year.{year_of, last_year_of, is_only, is_maximum, IsYear}
 use Rattle.zic_words.specs.Month.{month_of, month_words, IsMonth}
-use Rattle.zic_words.specs.Word.{only_word, begins_word}
+use Rattle.zic_words.specs.Word.{only_word}
 use Rattle.zic_words.specs.DayForm.{day_form_of, day_within, last_weekday, weekday_of, weekday_words, weekday_and_day, both_parts, behind, or_else, FitsEachYear}
-use Rattle.zic_words.proofs.FirstLetters.{place_within}
+use Rattle.zic_words.proofs.OnlyWords.{place_within}
 
 -- ---- what holds of a value that may be missing
 
@@ -123,7 +124,7 @@ weekday_within field = IfSome_then (only_word weekday_words field) (place_within
 
 last_within : (field : List ℕ) → IfSome (last_weekday field) IsWeekday
 unfolding last_weekday
-last_within field = either (begins_word field (codes "last")) (weekday_of (drop 4 field)) None IsWeekday (weekday_within (drop 4 field)) tt
+last_within field = either (starts_with nat_eq (str_to_ascii_lowercase field) (codes "last")) (weekday_of (drop 4 field)) None IsWeekday (weekday_within (drop 4 field)) tt
 
 days_within : (longest : ℕ) (field : List ℕ) → IfSome (day_within longest field) (IsInRange 1 longest)
 unfolding day_within

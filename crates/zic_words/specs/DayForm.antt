@@ -1,17 +1,18 @@
 -- Which day of the month ON of a Rule line or the DAY of an UNTIL names: zic(8), FILES; which numbers may stand there is own choice.
-use Rattle.std.specs.Prelude.{◌≡◌, ℕ, ℤ, Bool, true, false, ◌&&◌, List, [], ◌∷◌, drop, Option, Some, None, option_map, if◌then◌else◌, nat_le, ◌==◌, codes}
-use Rattle.std.specs.List.{slice_split}
+use Rattle.std.specs.Prelude.{◌≡◌, ℕ, ℤ, Bool, true, false, ◌&&◌, List, [], ◌∷◌, drop, Option, Some, None, option_map, if◌then◌else◌, nat_le, nat_eq, ◌==◌, codes}
+use Rattle.std.specs.List.{slice_split, starts_with}
+use Rattle.std.specs.Str.{str_to_ascii_lowercase}
 use Rattle.zic_base.specs.Option.{◌>>=◌}
 use Rattle.zic_calendar.specs.Calendar.{is_leap_year, month_length}
 use Rattle.zic_calendar.specs.declared.day_form.On.{On}
 use Rattle.zic_calendar.specs.declared.day_form.On.TheVariants.{Day, Last, After, Before}
 use Rattle.zic_calendar.specs.DayForm.{FormFits}
-use Rattle.zic_words.specs.Word.{begins_word, only_word}
+use Rattle.zic_words.specs.Word.{only_word}
 use Rattle.zic_words.specs.Time.{number}
 
--- the weekdays in order
+-- the weekdays in order, in lower case
 abbrev pub weekday_words : List (List ℕ)
-weekday_words = codes "Sunday" ∷ codes "Monday" ∷ codes "Tuesday" ∷ codes "Wednesday" ∷ codes "Thursday" ∷ codes "Friday" ∷ codes "Saturday" ∷ []
+weekday_words = codes "sunday" ∷ codes "monday" ∷ codes "tuesday" ∷ codes "wednesday" ∷ codes "thursday" ∷ codes "friday" ∷ codes "saturday" ∷ []
 
 -- a weekday, 0 (Sunday) to 6, from its name or a prefix of it that no other weekday has
 unfoldable pub weekday_of : List ℕ → Option ℕ
@@ -25,7 +26,7 @@ day_within longest field = do
 
 -- the weekday behind `last`, which is in any ASCII case and never cut
 unfoldable pub last_weekday : List ℕ → Option ℕ
-last_weekday field = if begins_word field (codes "last") then weekday_of (drop 4 field) else None
+last_weekday field = if starts_with nat_eq (str_to_ascii_lowercase field) (codes "last") then weekday_of (drop 4 field) else None
 
 -- two parts, where there are two
 abbrev pub both_parts : List (List ℕ) → Option (List ℕ × List ℕ)

@@ -1,7 +1,6 @@
 pub mod Dash
 pub mod Parts
 pub mod Word
-pub mod FirstLetter
 pub mod Keyword
 pub mod Name
 pub mod Time
