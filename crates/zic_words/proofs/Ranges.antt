@@ -3,7 +3,7 @@ use Rattle.std.proofs.Common.{nat_eq, subst, ◌≡◌, ◌≤◌, ◌<◌, ℕ,
 use Rattle.std.specs.Prelude.{ℤ, pos, negsuc, neg_ℤ, unsigned_abs, option_map, option_and_then, IfSome, ◌&&◌, ◌==◌, codes}
 use Rattle.std.specs.Int.{IsInRange}
 use Rattle.std.proofs.lemmas.Bool.{leb-true, and_parts}
-use Rattle.std.specs.List.{slice_split, starts_with}
+use Rattle.std.specs.List.{starts_with}
 use Rattle.std.specs.Str.{str_to_ascii_lowercase}
 use Rattle.std.proofs.lemmas.Option.{IfSome_then}
 use Rattle.zic_calendar.specs.Weekday.{IsWeekday}
@@ -14,14 +14,15 @@ use Rattle.zic_words.specs.declared.clock.ClockForm.{ClockForm}
 use Rattle.zic_words.specs.declared.clock.TheConstants.{LATEST_TIME}
 use Rattle.zic_words.specs.declared.time.TheConstants.{MOST_DIGITS, GREATEST_OFFSET}
 use Rattle.zic_words.specs.declared.year.TheConstants.{FIRST_YEAR, LAST_YEAR}
+use Rattle.zic_words.specs.Parts.{split_at_most_once}
 use Rattle.zic_words.specs.Dash.{is_dash}
-use Rattle.zic_words.specs.Time.{number, magnitude, rounded, whole_seconds, is_negative, signed_seconds, offset_of, IsWithin}
+use Rattle.zic_words.specs.Time.{number, magnitude, nearest_second, whole_seconds, is_negative, signed_seconds, offset_of, IsWithin}
 use Rattle.zic_words.specs.Clock.{clock_time_of, time_by, clock_suffix, last_byte, without_last}
 use Rattle.zic_words.specs.Saving.{saving_of, saving_by, daylight_suffix}
 use Rattle.zic_words.specs.Year.{year_of, last_year_of, is_only, is_maximum, IsYear}
 use Rattle.zic_words.specs.Month.{month_of, month_words, IsMonth}
 use Rattle.zic_words.specs.Word.{only_word}
-use Rattle.zic_words.specs.DayForm.{day_form_of, day_within, last_weekday, weekday_of, weekday_words, weekday_and_day, both_parts, behind, or_else, FitsEachYear}
+use Rattle.zic_words.specs.DayForm.{day_form_of, day_within, last_weekday, weekday_of, weekday_words, weekday_and_day, behind, or_else, FitsEachYear}
 use Rattle.zic_words.proofs.OnlyWords.{place_within}
 
 -- ---- what holds of a value that may be missing
@@ -55,8 +56,8 @@ first_of (Some x) other P if_one if_other = if_one
 whole_within : (limit : ℕ) (text : List ℕ) → IfSome (whole_seconds limit text) (λ s. s ≤ limit)
 unfolding whole_seconds
 whole_within limit text =
-    bound (λ time. cond (nat_le (rounded time) limit) (Some (rounded time)) None) (magnitude text) (λ time. Unit {0}) (λ s. s ≤ limit) (any (magnitude text))
-    (λ time _. passed (nat_le (rounded time) limit) (rounded time) (λ s. s ≤ limit) (λ e. leb-true (rounded time) limit e))
+    bound (λ time. cond (nat_le (nearest_second time) limit) (Some (nearest_second time)) None) (magnitude text) (λ time. Unit {0}) (λ s. s ≤ limit) (any (magnitude text))
+    (λ time _. passed (nat_le (nearest_second time) limit) (nearest_second time) (λ s. s ≤ limit) (λ e. leb-true (nearest_second time) limit e))
 
 negative : (limit n : ℕ) → n ≤ limit → IsWithin limit (neg_ℤ (pos n))
 negative limit zero le = le
@@ -140,9 +141,10 @@ day_by longest weekday text is_weekday =
 weekday_and_day_within : (sign longest : ℕ) (field : List ℕ) → IfSome (weekday_and_day sign longest field) (IsDayBy longest)
 unfolding weekday_and_day
 weekday_and_day_within sign longest field =
-    bound _ (both_parts (slice_split (λ byte. byte == sign) field)) (λ parts. Unit {0}) (IsDayBy longest) (any (both_parts (slice_split (λ byte. byte == sign) field)))
-    (λ parts _. bound _ (behind 61 parts.1) (λ text. Unit {0}) (IsDayBy longest) (any (behind 61 parts.1))
-    (λ text _. bound _ (weekday_of parts.0) IsWeekday (IsDayBy longest) (weekday_within parts.0) (λ weekday is_weekday. day_by longest weekday text is_weekday)))
+    bound _ (split_at_most_once field sign) (λ parts. Unit {0}) (IsDayBy longest) (any (split_at_most_once field sign))
+    (λ parts _. bound _ parts.1 (λ rest. Unit {0}) (IsDayBy longest) (any parts.1)
+    (λ rest _. bound _ (behind 61 rest) (λ text. Unit {0}) (IsDayBy longest) (any (behind 61 rest))
+    (λ text _. bound _ (weekday_of parts.0) IsWeekday (IsDayBy longest) (weekday_within parts.0) (λ weekday is_weekday. day_by longest weekday text is_weekday))))
 
 common_shorter : (is_leap february : Bool) (days : ℕ) → cond february 28 days ≤ cond february (cond is_leap 29 28) days
 common_shorter true true days = omega arith

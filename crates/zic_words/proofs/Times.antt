@@ -7,17 +7,10 @@ use Rattle.std.specs.List.{list_all, join_with_byte}
 use Rattle.std.specs.Char.{is_ascii_digit}
 use Rattle.std.proofs.lemmas.Bool.{ne_eqb, and_parts}
 use Rattle.std.proofs.lemmas.List.Sums.{AllPass-from_list_all}
-use Rattle.std.proofs.lemmas.List.Splits.{length-slice_split, slice_split_none, join_with_byte-slice_split}
+use Rattle.std.proofs.lemmas.List.Splits.{slice_split_none, join_with_byte-slice_split}
 use Rattle.zic_words.specs.Parts.{other_parts}
+use Rattle.zic_words.proofs.Splits.{first_part}
 use Rattle.zic_words.specs.Time.{number, sixtieths, decimal_value, magnitude_from, seconds_from, whole_seconds, signed_seconds}
-
--- there is always a first part
-some_part : {X : Type 0} (parts : List X) (n : ℕ) → length parts ≡ n + 1 → (first : X) × (others : List X) × (parts ≡ first ∷ others)
-some_part [] n e = absurd (omega arith)
-some_part (first ∷ others) n e = (first, others, refl)
-
-pub first_part : (p : ℕ → Bool) (text : List ℕ) → (first : List ℕ) × (others : List (List ℕ)) × (slice_split p text ≡ first ∷ others)
-first_part p text = some_part (slice_split p text) _ (length-slice_split p text)
 
 pub three_in_seconds : (p : ℕ → Bool) (parts : List (List ℕ)) (whole fraction : List ℕ) (more : Option (Bor (List ℕ))) (rest : Bor (List ℕ)) → more ≡ Some rest → parts ≡ whole ∷ fraction ∷ other_parts p more → None ≡ seconds_from parts
 unfolding seconds_from

@@ -11,3 +11,4 @@ pub mod Clock
 pub mod Saving
 pub mod Letter
 pub mod SetName
+pub mod Laws

@@ -1,5 +1,5 @@
 -- Times and offsets: zic(8), FILES; digits and limits are own choice.
-use Rattle.std.specs.Prelude.{◌≡◌, ℕ, ◌+◌, ◌-◌, ◌*◌, ◌/◌, ◌%◌, ◌^◌, ◌≤◌, ◌⊎◌, Bool, false, ◌&&◌, List, [], ◌∷◌, length, drop, fold, ℤ, pos, neg_ℤ, unsigned_abs, Option, Some, None, option_map, if◌then◌else◌, nat_lt, nat_le, ◌==◌}
+use Rattle.std.specs.Prelude.{◌≡◌, ℕ, ◌+◌, ◌-◌, ◌*◌, ◌/◌, ◌%◌, ◌^◌, ◌≤◌, ◌⊎◌, Bool, false, not, ◌&&◌, ◌||◌, List, [], ◌∷◌, length, drop, fold, ℤ, pos, neg_ℤ, unsigned_abs, Option, Some, None, option_map, if◌then◌else◌, nat_lt, nat_le, ◌==◌}
 use Rattle.std.specs.List.{slice_split, list_all}
 use Rattle.std.specs.Char.{is_ascii_digit}
 use Rattle.zic_base.specs.Option.{◌>>=◌}
@@ -59,15 +59,20 @@ pub record IsNearestSecond (n s : ℕ) : Type 0 where
   pub above : 10 ^ 9 * (2 * s) ≤ 2 * n + 10 ^ 9
   pub even : (2 * n ≡ 10 ^ 9 * (2 * s + 1)) ⊎ (10 ^ 9 * (2 * s) ≡ 2 * n + 10 ^ 9) → s % 2 ≡ 0
 
--- so many billionths rounded to the nearest second, ties to even
-abbrev pub rounded : ℕ → ℕ
-rounded n = if 2 * (n % 10 ^ 9) == 10 ^ 9 then n / 10 ^ 9 + n / 10 ^ 9 % 2 else (if nat_lt (2 * (n % 10 ^ 9)) (10 ^ 9) then n / 10 ^ 9 else n / 10 ^ 9 + 1)
+-- the test of it
+abbrev pub is_nearest_second : ℕ → ℕ → Bool
+is_nearest_second n s = nat_le (2 * n) (10 ^ 9 * (2 * s + 1)) && nat_le (10 ^ 9 * (2 * s)) (2 * n + 10 ^ 9)
+    && (not (2 * n == 10 ^ 9 * (2 * s + 1) || 10 ^ 9 * (2 * s) == 2 * n + 10 ^ 9) || s % 2 == 0)
+
+-- the nearest of the second below and the second above
+unfoldable pub nearest_second : ℕ → ℕ
+nearest_second n = if is_nearest_second n (n / 10 ^ 9) then n / 10 ^ 9 else n / 10 ^ 9 + 1
 
 -- A time without its sign in whole seconds. Rounding comes first, and then the limit.
 unfoldable pub whole_seconds : ℕ → List ℕ → Option ℕ
 whole_seconds limit text = do
   time ← magnitude text
-  if nat_le (rounded time) limit then Some (rounded time) else None
+  if nat_le (nearest_second time) limit then Some (nearest_second time) else None
 
 -- at most this many seconds either way
 abbrev pub IsWithin : ℕ → ℤ → Type 0

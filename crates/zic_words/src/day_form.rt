@@ -1,13 +1,12 @@
 //! Which day of the month a rule names.
 
 ghost use Rattle.std.specs.Prelude.{◌≡◌, ◌≤◌, ◌<◌, ◌==◌, IfSome, map, option_map};
-ghost use Rattle.std.specs.List.{slice_split};
 ghost use Rattle.std.specs.Int.{IsInRange};
 ghost use Rattle.zic_calendar.specs.Weekday.{IsWeekday};
 ghost use Rattle.zic_calendar.specs.Calendar.{month_length};
-ghost use Rattle.zic_words.specs.DayForm.{weekday_of, day_within, last_weekday, both_parts, weekday_and_day, day_form_of, FitsEachYear};
+ghost use Rattle.zic_words.specs.DayForm.{weekday_of, day_within, last_weekday, weekday_and_day, day_form_of, FitsEachYear};
 
-use crate::split::split_once;
+use crate::split::split_at_most_once;
 use crate::time::number;
 use crate::word::only_word;
 use zic_calendar::{On, days_in_month};
@@ -57,21 +56,6 @@ fn last_weekday(field: &[u8]) -> Option<u8>
     weekday(&field[4..])
 }
 
-/// The parts before and behind the separator, where it stands in the bytes once.
-fn both_parts(bytes: &[u8], separator: u8) -> Option<(&[u8], &[u8])>
-    ensures { option_map (λ both. (both.0.now, both.1.now)) result ≡ both_parts (slice_split (λ byte. byte == separator) bytes.now) }
-{
-    let (part, rest) = split_once(bytes, separator);
-    let Some(rest) = rest else {
-        return None;
-    };
-    let (other, more) = split_once(rest, separator);
-    match more {
-        None => Some((part, other)),
-        Some(_) => None,
-    }
-}
-
 /// A weekday, this sign and `=`, and a day of the month up to the longest.
 #[tactic(auto, unfolding(crate::specs::DayForm::weekday_and_day))]
 fn weekday_and_day(sign: u8, longest: u8, field: &[u8]) -> Option<(u8, u8)>
@@ -79,9 +63,9 @@ fn weekday_and_day(sign: u8, longest: u8, field: &[u8]) -> Option<(u8, u8)>
     ensures weekday { IfSome result (λ both. IsWeekday both.0) }
     ensures day { IfSome result (λ both. IsInRange 1 longest both.1) }
 {
-    let (name, bound) = both_parts(field, sign)?;
+    let (name, bound) = split_at_most_once(field, sign)?;
     match bound {
-        [b'=', text @ ..] => {
+        Some([b'=', text @ ..]) => {
             let weekday = weekday(name)?;
             let day = day_within(longest, text)?;
             Some((weekday, day))

@@ -2,7 +2,7 @@
 
 ghost use Rattle.std.specs.Prelude.{◌≡◌, ◌+◌, ◌*◌, ◌^◌, ◌<◌, ◌≤◌, List, IfSome, length, option_map, pos, ◌==◌};
 ghost use Rattle.std.specs.List.{slice_split};
-ghost use Rattle.zic_words.specs.Time.{number, sixtieths, decimals, seconds_from, magnitude, whole_seconds, signed_seconds, offset_of, rounded, IsNearestSecond, IsWithin};
+ghost use Rattle.zic_words.specs.Time.{number, sixtieths, decimals, seconds_from, magnitude, whole_seconds, signed_seconds, offset_of, IsNearestSecond, IsWithin};
 
 use crate::dash::is_dash;
 use crate::split::split_once;
@@ -137,8 +137,7 @@ fn magnitude(text: &[u8]) -> Option<Time>
 fn nearest_second(time: Time) -> u64
     requires seconds { time.seconds < 10 ^ 13 }
     requires billionths { time.billionths < 10 ^ 9 }
-    ensures value { result ≡ rounded (10 ^ 9 * time.seconds + time.billionths) }
-    ensures nearest { IsNearestSecond (10 ^ 9 * time.seconds + time.billionths) result }
+    ensures { IsNearestSecond (10 ^ 9 * time.seconds + time.billionths) result }
 {
     let whole = time.seconds;
     match (2 * time.billionths).cmp(&BILLION) {
@@ -149,7 +148,7 @@ fn nearest_second(time: Time) -> u64
 }
 
 /// A time without its sign in whole seconds, where it is within the limit.
-#[tactic(auto, unfolding(crate::specs::Time::whole_seconds))]
+#[tactic(auto, using(crate::proofs::Seconds::nearest_is), unfolding(crate::specs::Time::whole_seconds))]
 fn whole_seconds(limit: u32, text: &[u8]) -> Option<u32>
     ensures value { result ≡ whole_seconds limit text.now }
     ensures fits { IfSome result (λ s. s ≤ limit) }
