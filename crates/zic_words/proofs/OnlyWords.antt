@@ -46,7 +46,7 @@ module _ (letter : ℕ) (front : List ℕ) (words : List (Bor (List ℕ))) (i : 
       let within : i < length (read words) = omega (arith, lt, length-map {B = List ℕ} words (λ word. word.now)) in
       let word = get_or (read words) i [] in
       let test : starts_with nat_eq word (letter ∷ str_to_ascii_lowercase front) ≡ b =
-          ap (λ (w : List ℕ). starts_with nat_eq w (letter ∷ str_to_ascii_lowercase front)) (get_or-map (λ (w : Bor (List ℕ)). w.now) words i d [] lt) ∙ sym e in
+      ap (λ (w : List ℕ). starts_with nat_eq w (letter ∷ str_to_ascii_lowercase front)) (get_or-map (λ (w : Bor (List ℕ)). w.now) words i d [] lt) ∙ sym e in
       ap (λ (ws : List (List ℕ)). filter (λ word. starts_with nat_eq word.1 (letter ∷ str_to_ascii_lowercase front)) (enumerate_from i ws)) (drop_more (read words) i [] within)
       ∙ ap (λ (c : Bool). cond c ((i, word) ∷ left letter front (read words) (i + 1)) (left letter front (read words) (i + 1))) test
 

@@ -1,6 +1,6 @@
 -- In what range the values lie that fields say.
-use Rattle.std.proofs.Common.{nat_eq, subst, ◌≡◌, ◌≤◌, ◌<◌, ℕ, zero, suc, ◌+◌, Bool, true, false, cond, nat_le, List, length, drop, Option, Some, None, refl, sym, ap, arith}
-use Rattle.std.specs.Prelude.{ℤ, pos, negsuc, neg_ℤ, unsigned_abs, option_map, option_and_then, IfSome, ◌&&◌, ◌==◌, codes}
+use Rattle.std.proofs.Common.{nat_eq, subst, ◌≡◌, ◌≤◌, ℕ, zero, suc, ◌+◌, Bool, true, false, cond, nat_le, List, drop, Option, Some, None, refl, sym, arith}
+use Rattle.std.specs.Prelude.{pos, neg_ℤ, option_map, option_and_then, IfSome, ◌&&◌, ◌==◌, codes}
 use Rattle.std.specs.Int.{IsInRange}
 use Rattle.std.proofs.lemmas.Bool.{leb-true, and_parts}
 use Rattle.std.specs.List.{starts_with}

@@ -1,5 +1,5 @@
 -- The nearest second to a time is one and the computed one.
-use Rattle.std.proofs.Common.{◌≡◌, ℕ, ◌+◌, ◌*◌, ◌/◌, ◌%◌, ◌^◌, ◌<◌, ◌≤◌, Bool, true, false, cond, nat_le, ◌⊎◌, inl, inr, List, Option, Some, None, refl, sym, ap, ◌∙◌, arith}
+use Rattle.std.proofs.Common.{◌≡◌, ℕ, ◌+◌, ◌*◌, ◌/◌, ◌^◌, ◌<◌, ◌≤◌, Bool, true, false, cond, nat_le, inl, inr, List, Some, None, refl, sym, ap, ◌∙◌, arith}
 use Rattle.std.specs.Prelude.{option_and_then}
 use Rattle.std.proofs.lemmas.Bool.{cases_lt, le-leb}
 use Rattle.std.proofs.lemmas.Bool.Decides.{nat_tests}
@@ -21,10 +21,10 @@ same : (n s t : ℕ) → IsNearestSecond n s → IsNearestSecond n t → s ≡ t
 same n s t is other = elim (cases_lt s t) [
   | inl lt ↦ absurd (not_below n s t lt is other)
   | inr le ↦ elim (cases_lt t s) [
-      | inl lt ↦ absurd (not_below n t s lt other is)
-      | inr ge ↦ omega arith
-    ]
+    | inl lt ↦ absurd (not_below n t s lt other is)
+    | inr ge ↦ omega arith
   ]
+]
 
 -- the second above is the nearest where the second below is not
 above : (n : ℕ) → is_nearest_second n (n / 10 ^ 9) ≡ false → IsNearestSecond n (n / 10 ^ 9 + 1)

@@ -34,5 +34,5 @@ three_parts bytes separator part other more rest is e =
     let separates = λ (byte : ℕ). eqb byte separator in
     let first = first_part separates rest.now in
     let all : slice_split separates bytes ≡ part ∷ other ∷ first.0 ∷ first.1 =
-        e ∙ ap (λ (o : Option (Bor (List ℕ))). part ∷ other ∷ other_parts separates o) is ∙ ap (λ (ps : List (List ℕ)). part ∷ other ∷ ps) first.2 in
+    e ∙ ap (λ (o : Option (Bor (List ℕ))). part ∷ other ∷ other_parts separates o) is ∙ ap (λ (ps : List (List ℕ)). part ∷ other ∷ ps) first.2 in
     sym (ap one_or_two all)

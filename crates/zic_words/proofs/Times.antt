@@ -1,5 +1,5 @@
 -- Times, part by part.
-use Rattle.std.proofs.Common.{eqb, nat_le, nat_lt, true, false, cond, ◌≡◌, ℕ, ◌+◌, ◌*◌, ◌^◌, Bool, List, [], ◌∷◌, length, Option, Some, None, sym, ap, ◌∙◌, arith, refl}
+use Rattle.std.proofs.Common.{eqb, nat_le, nat_lt, true, false, cond, ◌≡◌, ℕ, ◌+◌, ◌*◌, ◌^◌, Bool, List, [], ◌∷◌, length, Option, Some, None, sym, ap, ◌∙◌, refl}
 use Rattle.std.specs.List.{slice_split}
 use Rattle.std.specs.Borrow.{Bor}
 use Rattle.std.specs.Prelude.{option_and_then, ◌&&◌}
@@ -10,14 +10,7 @@ use Rattle.std.proofs.lemmas.List.Sums.{AllPass-from_list_all}
 use Rattle.std.proofs.lemmas.List.Splits.{slice_split_none, join_with_byte-slice_split}
 use Rattle.zic_words.specs.Parts.{other_parts}
 use Rattle.zic_words.proofs.Splits.{first_part}
-use Rattle.zic_words.specs.Time.{number, sixtieths, decimal_value, magnitude_from, seconds_from, whole_seconds, signed_seconds}
-
-pub three_in_seconds : (p : ℕ → Bool) (parts : List (List ℕ)) (whole fraction : List ℕ) (more : Option (Bor (List ℕ))) (rest : Bor (List ℕ)) → more ≡ Some rest → parts ≡ whole ∷ fraction ∷ other_parts p more → None ≡ seconds_from parts
-unfolding seconds_from
-three_in_seconds p parts whole fraction more rest is e =
-    let first = first_part p rest.now in
-    let all : parts ≡ whole ∷ fraction ∷ first.0 ∷ first.1 = e ∙ ap (λ (o : Option (Bor (List ℕ))). whole ∷ fraction ∷ other_parts p o) is ∙ ap (λ (ps : List (List ℕ)). whole ∷ fraction ∷ ps) first.2 in
-    sym (ap seconds_from all)
+use Rattle.zic_words.specs.Time.{number, sixtieths, decimal_value, magnitude_from, whole_seconds, signed_seconds}
 
 pub four_in_time : (p : ℕ → Bool) (parts : List (List ℕ)) (hours minutes seconds : List ℕ) (more : Option (Bor (List ℕ))) (rest : Bor (List ℕ)) → more ≡ Some rest → parts ≡ hours ∷ minutes ∷ seconds ∷ other_parts p more → None ≡ magnitude_from parts
 unfolding magnitude_from

@@ -4,6 +4,7 @@ use Rattle.std.specs.List.{slice_split, list_all}
 use Rattle.std.specs.Char.{is_ascii_digit}
 use Rattle.zic_base.specs.Option.{◌>>=◌}
 use Rattle.zic_words.specs.declared.time.TheConstants.{MOST_DIGITS, GREATEST_OFFSET}
+use Rattle.zic_words.specs.Parts.{split_at_most_once}
 use Rattle.zic_words.specs.Dash.{is_dash}
 
 -- the number that decimal digits spell
@@ -24,15 +25,18 @@ sixtieths text = do
 unfoldable pub decimals : List ℕ → Option ℕ
 decimals text = option_map (λ n. n * 10 ^ (MOST_DIGITS - length text)) (number MOST_DIGITS text)
 
+-- no decimals, or these
+abbrev pub fraction_of : Option (List ℕ) → Option ℕ
+fraction_of None = Some 0
+fraction_of (Some text) = decimals text
+
 -- seconds, with decimals where there is a point, in billionths
-unfoldable pub seconds_from : List (List ℕ) → Option ℕ
-seconds_from [] = None
-seconds_from (whole ∷ []) = option_map (λ s. 10 ^ 9 * s) (sixtieths whole)
-seconds_from (whole ∷ fraction ∷ []) = do
-  s ← sixtieths whole
-  f ← decimals fraction
+unfoldable pub seconds_of : List ℕ → Option ℕ
+seconds_of text = do
+  parts ← split_at_most_once text 46
+  s ← sixtieths parts.0
+  f ← fraction_of parts.1
   Some (10 ^ 9 * s + f)
-seconds_from (whole ∷ fraction ∷ more ∷ parts) = None
 
 -- hours, or hours and minutes, or hours, minutes and seconds, in billionths of a second
 unfoldable pub magnitude_from : List (List ℕ) → Option ℕ
@@ -45,7 +49,7 @@ magnitude_from (hours ∷ minutes ∷ []) = do
 magnitude_from (hours ∷ minutes ∷ seconds ∷ []) = do
   h ← number MOST_DIGITS hours
   m ← sixtieths minutes
-  s ← seconds_from (slice_split (λ byte. byte == 46) seconds)
+  s ← seconds_of seconds
   Some (10 ^ 9 * (3600 * h + 60 * m) + s)
 magnitude_from (hours ∷ minutes ∷ seconds ∷ more ∷ parts) = None
 

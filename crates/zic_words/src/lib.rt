@@ -1,5 +1,7 @@
 //! Words of time zone source text: what single fields say. Times, years, months, days, names and letters.
 //!
+//! Memory is taken only by `Name::parse` and `SetName::parse`, where the field is a name, and by copies of names.
+//!
 //! The input format is that of zic(8); `docs/DEFINITIONS.md` lists where each rule is stated.
 #![tactic(auto)]
 

@@ -111,6 +111,9 @@ fn words_and_parts(rt: HostRuntime) {
         (&b"GMT"[..], Some(&b"BST"[..]))
     );
     assert_eq!(rt; split_once(b"CET", b'/'), (&b"CET"[..], None));
+    let both = Some((&b"GMT"[..], Some(&b"BST"[..])));
+    assert_eq!(rt; split_at_most_once(b"GMT/BST", b'/'), both);
+    assert_eq!(rt; split_at_most_once(b"GMT/BST/", b'/'), None);
 }
 
 #[test]

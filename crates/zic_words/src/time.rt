@@ -1,11 +1,10 @@
 //! Times and offsets.
 
 ghost use Rattle.std.specs.Prelude.{◌≡◌, ◌+◌, ◌*◌, ◌^◌, ◌<◌, ◌≤◌, List, IfSome, length, option_map, pos, ◌==◌};
-ghost use Rattle.std.specs.List.{slice_split};
-ghost use Rattle.zic_words.specs.Time.{number, sixtieths, decimals, seconds_from, magnitude, whole_seconds, signed_seconds, offset_of, IsNearestSecond, IsWithin};
+ghost use Rattle.zic_words.specs.Time.{number, sixtieths, decimals, seconds_of, magnitude, whole_seconds, signed_seconds, offset_of, IsNearestSecond, IsWithin};
 
 use crate::dash::is_dash;
-use crate::split::split_once;
+use crate::split::{split_at_most_once, split_once};
 use std::cmp::Ordering;
 
 /// How many digits years, hours and decimals of a second may have.
@@ -67,31 +66,22 @@ fn decimals(text: &[u8]) -> Option<u32>
 }
 
 /// Seconds below 60, with decimals where there is a point.
-#[tactic(auto, unfolding(crate::specs::Time::seconds_from))]
+#[tactic(auto, unfolding(crate::specs::Time::seconds_of))]
 fn seconds(text: &[u8]) -> Option<Time>
-    ensures value { option_map (λ time. 10 ^ 9 * time.seconds + time.billionths) result ≡ seconds_from (slice_split (λ byte. byte == 46) text.now) }
+    ensures value { option_map (λ time. 10 ^ 9 * time.seconds + time.billionths) result ≡ seconds_of text.now }
     ensures seconds { IfSome result (λ time. time.seconds < 60) }
     ensures billionths { IfSome result (λ time. time.billionths < 10 ^ 9) }
 {
-    let (whole, fraction) = split_once(text, b'.');
+    let (whole, fraction) = split_at_most_once(text, b'.')?;
     let seconds = sixtieths(whole)?;
-    let Some(fraction) = fraction else {
-        return Some(Time {
-            seconds,
-            billionths: 0,
-        });
+    let billionths = match fraction {
+        Some(fraction) => decimals(fraction)?,
+        None => 0,
     };
-    let (fraction, more) = split_once(fraction, b'.');
-    match more {
-        None => {
-            let billionths = decimals(fraction)?;
-            Some(Time {
-                seconds,
-                billionths,
-            })
-        }
-        Some(_) => None,
-    }
+    Some(Time {
+        seconds,
+        billionths,
+    })
 }
 
 /// Hours, or hours and minutes, or hours, minutes and seconds, without a sign.

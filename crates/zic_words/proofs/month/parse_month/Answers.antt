@@ -1,4 +1,4 @@
-use Rattle.std.proofs.Common.{ap, ℕ, ◌+◌, ◌∙◌, Option}
+use Rattle.std.proofs.Common.{ap, ◌+◌, ◌∙◌}
 use Rattle.std.specs.Prelude.{option_map}
 use Rattle.zic_words.specs.Month.{month_of}
 use Rattle.zic_words.proofs.month.parse_month.Goals as goal

@@ -1,5 +1,5 @@
-use Rattle.std.proofs.Common.{◌∙◌, ◌-◌, length, take, drop, ℕ, List, Option, sym, ap, ◌+◌, refl}
-use Rattle.zic_words.proofs.OnlyWords.{only_with, left, read, all_left, first_found, second_found, passed_over, all_passed, no_word}
+use Rattle.std.proofs.Common.{◌∙◌, ◌-◌, length, take, drop, ℕ, Option, sym, ap, ◌+◌, refl}
+use Rattle.zic_words.proofs.OnlyWords.{only_with, left, read, all_left, first_found, second_found, passed_over, no_word}
 use Rattle.zic_words.proofs.word.only_word.Goals as goal
 use Rattle.zic_words.proofs.word.only_word.Goals.{then-begins_with_letter+else-is_some, else-begins_with_letter}
 
@@ -22,11 +22,11 @@ loop-place-preserved c =
       | then-begins_with_letter+else-is_some w ↦
           record {
             value = ap rest w.found-is ∙ first_found _ _ words place _ _ c.loop-place-test.true c.loop-place.found (sym w.if-is_some.ensures) w.if-begins_with_letter.ensures c.loop-place.invariant.value;
-            within = rw w.found-is c.loop-place-test.true
+            within = rw w.found-is c.loop-place-test.true;
           }
       | else-begins_with_letter w ↦
           record {
             value = ap rest w.found-is ∙ passed_over _ _ words place _ _ c.loop-place-test.true c.loop-place.found w.if-begins_with_letter.ensures c.loop-place.invariant.value;
-            within = rw w.found-is c.loop-place.invariant.within
+            within = rw w.found-is c.loop-place.invariant.within;
           }
     ]
