@@ -4,7 +4,8 @@ use Rattle.std.proofs.lemmas.Bool.{eqb-true, ne_eqb, and_parts, and_left, or_fro
 use Rattle.std.proofs.lemmas.List.{append-nil}
 use Rattle.std.proofs.lemmas.List.Elements.{All-head}
 use Rattle.zic_footer.specs.Grammar.{is_letter, is_digit, SpellsNumber, SpellsClock, SpellsOffset}
-use Rattle.zic_footer.specs.Reading.{◌>>=◌, number_at, part_at, clock_at, west_at, east_at, offset_at}
+use Rattle.zic_base.specs.Option.{◌>>=◌}
+use Rattle.zic_footer.specs.code.Reading.{number_at, part_at, clock_at, west_at, east_at, offset_at}
 use Rattle.zic_footer.proofs.Steps.{bind_some, branch, some_is, NotFirst}
 use Rattle.zic_footer.proofs.NumberLemmas.{number_again, number_takes, BeginsWithNumber}
 

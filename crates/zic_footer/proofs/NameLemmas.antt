@@ -1,13 +1,15 @@
 -- A name that is read is the name that is spelled, and what is spelled is read.
 use Rattle.std.proofs.Common.{◌≡◌, ℕ, ◌≤◌, eqb, leb, ◌&&◌, ◌||◌, Bool, true, false, Some, None, List, [], ◌∷◌, ◌++◌, length, take, drop, All, refl, sym, ap, subst, ◌∙◌, append_assoc, arith, inl, inr}
+use Rattle.std.specs.Char.{is_ascii_alphanumeric}
 use Rattle.std.specs.List.{prefix_len, take_while}
-use Rattle.std.proofs.lemmas.Bool.{eqb-true, ne_eqb, and_parts, or_cases, or_left, leb-true, le-leb, cond_both}
+use Rattle.std.proofs.lemmas.Bool.{eqb-true, ne_eqb, and_parts, or_cases, or_left, or_right, leb-true, le-leb, cond_both}
 use Rattle.std.proofs.lemmas.List.{take_at, drop_at, take-append-drop}
 use Rattle.std.proofs.lemmas.List.Folds.{length-prefix_len}
 use Rattle.std.proofs.lemmas.List.Sums.{take_while-cons}
 use Rattle.std.proofs.lemmas.List.Elements.{All-head, All-tail, All-cons, All-nil, All-weaker}
-use Rattle.zic_footer.specs.Grammar.{is_letter, is_digit, is_quoted_byte, SpellsName}
-use Rattle.zic_footer.specs.Reading.{plain_name_at, closed_name, quoted_name_at, name_at}
+use Rattle.zic_base.specs.Byte.{is_abbreviation_byte}
+use Rattle.zic_footer.specs.Grammar.{is_letter, is_digit, SpellsName}
+use Rattle.zic_footer.specs.code.Reading.{plain_name_at, closed_name, quoted_name_at, name_at}
 use Rattle.zic_footer.proofs.Steps.{guard_some, branch, NotFirst}
 
 -- ---- the longest front that passes a test
@@ -29,9 +31,16 @@ front_passes p (b ∷ text) =
 
 -- ---- names
 
-pub quoted_from_letter : (b : ℕ) → is_letter b ≡ true → is_quoted_byte b ≡ true
-quoted_from_letter b letter =
-    or_left (is_letter b || is_digit b || eqb b 43) (eqb b 45) (or_left (is_letter b || is_digit b) (eqb b 43) (or_left (is_letter b) (is_digit b) letter))
+pub letter_in_abbreviation : (b : ℕ) → is_letter b ≡ true → is_abbreviation_byte b ≡ true
+letter_in_abbreviation b letter =
+    let upper = leb 65 b && leb b 90 in
+    let lower = leb 97 b && leb b 122 in
+    let digit = leb 48 b && leb b 57 in
+    let of_letter : is_ascii_alphanumeric b ≡ true = elim (or_cases upper lower letter) [
+      | inl is_upper ↦ or_left (digit || upper) lower (or_right digit upper is_upper)
+      | inr is_lower ↦ or_right (digit || upper) lower is_lower
+    ] in
+    or_left (is_ascii_alphanumeric b || eqb b 43) (eqb b 45) (or_left (is_ascii_alphanumeric b) (eqb b 43) of_letter)
 
 -- a letter is no `<`
 letter_no_bracket : (b : ℕ) → is_letter b ≡ true → eqb b 60 ≡ false
@@ -46,10 +55,10 @@ unfolding plain_name_at
 plain_again name rest long letters ends =
     rw (prefix_len_front is_letter name rest letters ends, le-leb 3 (length name) long, take_at name rest (length name) refl, drop_at name rest (length name) refl) refl
 
-quoted_again : (name rest : List ℕ) → 3 ≤ length name → All (λ b. is_quoted_byte b ≡ true) name → quoted_name_at (name ++ 62 ∷ rest) ≡ Some (name, rest)
+quoted_again : (name rest : List ℕ) → 3 ≤ length name → All (λ b. is_abbreviation_byte b ≡ true) name → quoted_name_at (name ++ 62 ∷ rest) ≡ Some (name, rest)
 unfolding quoted_name_at
 quoted_again name rest long quoted =
-    rw (prefix_len_front is_quoted_byte name (62 ∷ rest) quoted refl, le-leb 3 (length name) long, take_at name (62 ∷ rest) (length name) refl, drop_at name (62 ∷ rest) (length name) refl) refl
+    rw (prefix_len_front is_abbreviation_byte name (62 ∷ rest) quoted refl, le-leb 3 (length name) long, take_at name (62 ∷ rest) (length name) refl, drop_at name (62 ∷ rest) (length name) refl) refl
 
 name_plain : (name rest : List ℕ) → 3 ≤ length name → All (λ b. is_letter b ≡ true) name → name_at (name ++ rest) ≡ plain_name_at (name ++ rest)
 unfolding name_at
@@ -99,7 +108,7 @@ closed_takes name (b ∷ back) x e =
 quoted_takes : (text name rest : List ℕ) → quoted_name_at text ≡ Some (name, rest) → BeginsWithName (60 ∷ text) name rest
 unfolding quoted_name_at
 quoted_takes text name rest e =
-    let n = prefix_len is_quoted_byte text in
+    let n = prefix_len is_abbreviation_byte text in
     elim (branch (leb 3 n) (closed_name (take n text) (drop n text)) None (Some (name, rest)) e) [
       | inr short ↦ absurd (let f = short.1 in cc)
       | inl long ↦ (
@@ -109,7 +118,7 @@ quoted_takes text name rest e =
           (record {
             front = 60 ∷ (take n text ++ 62 ∷ []);
             parts = ap (λ (x : List ℕ). 60 ∷ x) (whole ∙ sym (append_assoc (take n text) (62 ∷ []) rest));
-            spells = record { long = long_front is_quoted_byte text long.0; form = inr (refl, front_passes is_quoted_byte text) };
+            spells = record { long = long_front is_abbreviation_byte text long.0; form = inr (refl, front_passes is_abbreviation_byte text) };
           }))
     ]
 
@@ -127,10 +136,10 @@ name_takes (b ∷ text) name rest e =
       | inr plain ↦ plain_takes (b ∷ text) name rest plain.1
     ]
 
--- a name has three quoted bytes or more
-pub name_bytes : (text name : List ℕ) → SpellsName text name → All (λ b. is_quoted_byte b ≡ true) name
+-- a name has letters, digits, `+` and `-`
+pub name_bytes : (text name : List ℕ) → SpellsName text name → All (λ b. is_abbreviation_byte b ≡ true) name
 name_bytes text name spells =
     elim spells.form [
-      | inl plain ↦ All-weaker (λ b. is_letter b ≡ true) (λ b. is_quoted_byte b ≡ true) quoted_from_letter name plain.1
+      | inl plain ↦ All-weaker (λ b. is_letter b ≡ true) (λ b. is_abbreviation_byte b ≡ true) letter_in_abbreviation name plain.1
       | inr quoted ↦ quoted.1
     ]

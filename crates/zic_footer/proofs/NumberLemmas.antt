@@ -3,7 +3,7 @@ use Rattle.std.proofs.Common.{◌≡◌, ℕ, ◌+◌, ◌-◌, ◌*◌, ◌≤�
 use Rattle.std.proofs.lemmas.Bool.{leb-true, le-leb}
 use Rattle.std.proofs.lemmas.List.Elements.{All-head, All-tail, All-cons, All-nil}
 use Rattle.zic_footer.specs.Grammar.{is_digit, decimal, SpellsNumber}
-use Rattle.zic_footer.specs.Reading.{digits_at, number_at}
+use Rattle.zic_footer.specs.code.Reading.{digits_at, number_at}
 use Rattle.zic_footer.proofs.Steps.{bind_some, guard_some, branch, some_is, NotFirst}
 
 abbrev AreDigits : List ℕ → Type 0

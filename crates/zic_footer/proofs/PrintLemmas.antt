@@ -6,7 +6,8 @@ use Rattle.std.proofs.lemmas.List.{append-nil}
 use Rattle.std.proofs.lemmas.List.Sums.{AllPass-from_list_all}
 use Rattle.std.proofs.lemmas.List.Elements.{All-cons, All-nil}
 use Rattle.zic_footer.specs.Footer.{TzString}
-use Rattle.zic_footer.specs.Grammar.{is_letter, is_digit, is_quoted_byte, SpellsName, SpellsNumber, SpellsClock, SpellsOffset, Spells, IsTzString}
+use Rattle.zic_base.specs.Byte.{is_abbreviation_byte}
+use Rattle.zic_footer.specs.Grammar.{is_letter, is_digit, SpellsName, SpellsNumber, SpellsClock, SpellsOffset, Spells, IsTzString}
 use Rattle.zic_footer.specs.Printing.{printed_name, two_digits, printed_hours, printed_clock, printed_offset, printed}
 
 digit_of : (n : ℕ) → n < 10 → is_digit (48 + n) ≡ true
@@ -65,7 +66,7 @@ offset_spell (pos (suc n)) limit =
 offset_spell (negsuc n) limit =
     record { clock = printed_clock (suc n / 3600) (suc n / 60 % 60) (suc n % 60); seconds = suc n; spells_clock = seconds_spell (suc n) limit; form = inl (refl, refl) }
 
-name_spell : (name : List ℕ) → 3 ≤ length name → All (λ b. is_quoted_byte b ≡ true) name → SpellsName (printed_name name) name
+name_spell : (name : List ℕ) → 3 ≤ length name → All (λ b. is_abbreviation_byte b ≡ true) name → SpellsName (printed_name name) name
 name_spell name long quoted =
     elim (cases_Bool (list_all is_letter name)) [
       | inl letters ↦ rw letters (record { long = long; form = inl (refl, AllPass-from_list_all is_letter name letters) })

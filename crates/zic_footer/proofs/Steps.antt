@@ -1,6 +1,6 @@
 -- Steps of a reading, and what stands at the start of a text.
 use Rattle.std.proofs.Common.{◌≡◌, ℕ, Bool, true, false, cond, Option, Some, None, List, [], ◌∷◌, refl, ◌⊎◌, inl, inr}
-use Rattle.zic_footer.specs.Reading.{◌>>=◌}
+use Rattle.zic_base.specs.Option.{◌>>=◌}
 
 -- a step that gave a value
 pub bind_some : {A B : Type 0} (o : Option A) (f : A → Option B) (y : B) → (o >>= f) ≡ Some y → (x : A) × (o ≡ Some x) × (f x ≡ Some y)

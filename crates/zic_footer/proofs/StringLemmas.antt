@@ -4,7 +4,8 @@ use Rattle.std.proofs.lemmas.Bool.{eqb-true}
 use Rattle.std.proofs.lemmas.List.{append-nil, nil_from_length}
 use Rattle.zic_footer.specs.Footer.{TzString, constant}
 use Rattle.zic_footer.specs.Grammar.{is_letter, Spells, IsTzString}
-use Rattle.zic_footer.specs.Reading.{◌>>=◌, name_at, offset_at, string_of}
+use Rattle.zic_base.specs.Option.{◌>>=◌}
+use Rattle.zic_footer.specs.code.Reading.{name_at, offset_at, string_of}
 use Rattle.zic_footer.proofs.Steps.{bind_some, guard_some, some_is, NotFirst}
 use Rattle.zic_footer.proofs.ClockLemmas.{offset_again, offset_takes, offset_first, offset_limit}
 use Rattle.zic_footer.proofs.NameLemmas.{name_again, name_takes, name_bytes}

@@ -1,5 +1,7 @@
 -- The grammar of POSIX TZ strings: POSIX.1, TZ; RFC 9636, 3.3.1. Until daylight parts are read, of strings without one.
 use Rattle.std.specs.Prelude.{◌≡◌, ℕ, ◌+◌, ◌-◌, ◌*◌, ◌<◌, ◌≤◌, ℤ, pos, neg_ℤ, Bool, ◌||◌, ◌&&◌, nat_le, ◌==◌, None, List, [], ◌∷◌, ◌++◌, ◌⊎◌, length, fold, unsigned_abs, IsTrue, All}
+use Rattle.zic_base.specs.Byte.{is_abbreviation_byte}
+use Rattle.zic_footer.specs.declared.parsing.TheConstants.{SHORTEST_NAME, MOST_HOURS, MOST_MINUTES_OR_SECONDS}
 use Rattle.zic_footer.specs.Footer.{TzString, version_of}
 
 -- an ASCII letter
@@ -10,15 +12,11 @@ is_letter b = (nat_le 65 b && nat_le b 90) || (nat_le 97 b && nat_le b 122)
 abbrev pub is_digit : ℕ → Bool
 is_digit b = nat_le 48 b && nat_le b 57
 
--- what may stand between `<` and `>`: a letter, a digit, `+` or `-`. POSIX TZ
-abbrev pub is_quoted_byte : ℕ → Bool
-is_quoted_byte b = is_letter b || is_digit b || (b == 43) || (b == 45)
-
--- a name: three letters or more, or three or more quoted bytes between `<` and `>`. POSIX TZ
+-- a name: three letters or more, or three or more letters, digits, `+` and `-` between `<` and `>`. POSIX TZ
 pub record SpellsName (text name : List ℕ) : Type 0 where
-  pub long : 3 ≤ length name
+  pub long : SHORTEST_NAME ≤ length name
   pub form : ((text ≡ name) × All (λ b. IsTrue (is_letter b)) name)
-      ⊎ ((text ≡ 60 ∷ (name ++ 62 ∷ [])) × All (λ b. IsTrue (is_quoted_byte b)) name)
+      ⊎ ((text ≡ 60 ∷ (name ++ 62 ∷ [])) × All (λ b. IsTrue (is_abbreviation_byte b)) name)
 
 -- the number that decimal digits stand for
 abbrev pub decimal : List ℕ → ℕ
@@ -38,10 +36,10 @@ pub record SpellsClock (text : List ℕ) (seconds : ℕ) : Type 0 where
   pub h : ℕ
   pub m : ℕ
   pub s : ℕ
-  pub spells_hours : SpellsNumber 24 hours h
+  pub spells_hours : SpellsNumber MOST_HOURS hours h
   pub form : ((text ≡ hours) × (m ≡ 0) × (s ≡ 0))
-      ⊎ ((minutes : List ℕ) × (text ≡ hours ++ 58 ∷ minutes) × SpellsNumber 59 minutes m × (s ≡ 0))
-      ⊎ ((minutes secs : List ℕ) × (text ≡ hours ++ 58 ∷ (minutes ++ 58 ∷ secs)) × SpellsNumber 59 minutes m × SpellsNumber 59 secs s)
+      ⊎ ((minutes : List ℕ) × (text ≡ hours ++ 58 ∷ minutes) × SpellsNumber MOST_MINUTES_OR_SECONDS minutes m × (s ≡ 0))
+      ⊎ ((minutes secs : List ℕ) × (text ≡ hours ++ 58 ∷ (minutes ++ 58 ∷ secs)) × SpellsNumber MOST_MINUTES_OR_SECONDS minutes m × SpellsNumber MOST_MINUTES_OR_SECONDS secs s)
   pub value : seconds ≡ h * 3600 + m * 60 + s
 
 -- an offset counts west of Greenwich, and has a `-` where it is east. POSIX TZ
@@ -62,11 +60,15 @@ pub record Spells (version : ℕ) (text : List ℕ) (f : TzString) : Type 0 wher
   pub spells_offset : SpellsOffset offset f.offset
   pub no_daylight : f.dst ≡ None
 
--- what some text spells: three or more quoted bytes, an offset within 24:59:59
+-- the text is the string's in each version
+abbrev pub SpellsInEach : List ℕ → TzString → Type 0
+SpellsInEach text f = (version : ℕ) → Spells version text f
+
+-- what some text spells: a name of three or more letters, digits, `+` and `-`, an offset within 24:59:59
 pub record IsTzString (f : TzString) : Type 0 where
-  pub std_length : 3 ≤ length f.std
-  pub std_bytes : All (λ b. IsTrue (is_quoted_byte b)) f.std
-  pub offset : unsigned_abs f.offset < 90000
+  pub std_length : SHORTEST_NAME ≤ length f.std
+  pub std_bytes : All (λ b. IsTrue (is_abbreviation_byte b)) f.std
+  pub offset : unsigned_abs f.offset < (MOST_HOURS + 1) * 3600
   pub no_daylight : f.dst ≡ None
 
 -- a text spells at most one string

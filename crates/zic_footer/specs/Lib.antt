@@ -4,10 +4,9 @@ pub mod Making
 pub mod Meaning
 pub mod Parsing
 pub mod Printing
-pub mod Reading
+pub mod code
 pub use Rattle.zic_rules.specs.State
 pub use Rattle.zic_rules.specs.Zone
 pub use Rattle.zic_rules.specs.Tail
 pub use Rattle.zic_rules.specs.Fault
 pub use Rattle.zic_source.specs.Source
-pub use Rattle.zic_lines.specs.Stop

@@ -2,13 +2,11 @@
 use Rattle.std.specs.Prelude.{◌≡◌, ℤ, pos, ◌-ℤ◌, true, false}
 use Rattle.zic_base.specs.declared.place.Place.{Place}
 use Rattle.zic_base.specs.declared.fault.Kind.TheVariants.{PermanentDaylight}
-use Rattle.zic_base.specs.declared.fault.Stop.{Stop}
-use Rattle.zic_base.specs.declared.fault.Stop.TheVariants as stop
+use Rattle.zic_base.specs.declared.fault.Fault.{Fault}
+use Rattle.zic_base.specs.Fault.{fault_at}
 use Rattle.zic_footer.specs.Footer.{TzString, constant}
 use Rattle.zic_footer.specs.Meaning.{Means}
 use Rattle.zic_rules.specs.State.{Shown}
-use Rattle.zic_rules.specs.declared.states.Tail.{Tail}
-use Rattle.zic_rules.specs.declared.states.Tail.TheVariants.{Constant}
 use Rattle.zic_rules.specs.Zone.{Zone, IsAfterChanges, Shows, end_of}
 
 -- the footer of a zone with fewer than two continuing rules: the state just before the explicit end, for ever, if it is standard. Own choice
@@ -28,15 +26,6 @@ pub record IsPermanentDaylight (zone : Zone) : Type 0 where
   pub shows : Shows zone (end_of zone -ℤ pos 1) state
   pub daylight : state.daylight ≡ true
 
--- why a zone gets no footer, at this place; of want of memory nothing is said
-abbrev pub StopsFooter : Zone → Place → Stop → Type 0
-StopsFooter zone place stop.Memory = Unit {0}
-StopsFooter zone place (stop.Fault fault) = (fault ≡ record { place = place; kind = PermanentDaylight }) × IsPermanentDaylight zone
-
--- a tail of one standard state makes the string of that state
-abbrev pub Makes : Tail → TzString → Type 0
-Makes (Constant state) f = (state.daylight ≡ false) × (f ≡ constant state.name.now state.offset)
-
--- a tail of one state of daylight saving time
-abbrev pub IsDaylight : Tail → Type 0
-IsDaylight (Constant state) = state.daylight ≡ true
+-- why a zone, whose Zone line stands at this place, gets no footer
+abbrev pub IsFaultOfFooter : Zone → Place → Fault → Type 0
+IsFaultOfFooter zone place fault = (fault ≡ fault_at place PermanentDaylight) × IsPermanentDaylight zone

@@ -1,12 +1,16 @@
--- What a parser of POSIX TZ strings answers.
-use Rattle.std.specs.Prelude.{◌≡◌, Result, Ok, Err}
-use Rattle.zic_footer.specs.declared.footer.Footer.{Footer}
+-- What a parser of POSIX TZ strings refuses, and where it may want memory.
+use Rattle.std.specs.Prelude.{◌<◌, Option, Some, None, List, ℕ, length}
+use Rattle.zic_base.specs.declared.limit.TheConstants.{LONGEST_ABBREVIATION}
 use Rattle.zic_footer.specs.declared.parsing.ParseStop.{ParseStop}
 use Rattle.zic_footer.specs.declared.parsing.ParseStop.TheVariants as stop
 use Rattle.zic_footer.specs.Footer.{TzString}
+use Rattle.zic_footer.specs.Grammar.{SpellsInEach}
 
--- this string, unless memory was wanting
-abbrev pub ParsesTo : TzString → Result Footer ParseStop → Type 0
-ParsesTo f (Ok g) = g ≡ f
-ParsesTo f (Err stop.Memory) = Unit {0}
-ParsesTo f (Err stop.BadFooter) = ⊥
+-- that the parser refuses the text, and nothing where it is want of memory
+abbrev pub refusal_of : ParseStop → Option (Unit {0})
+refusal_of stop.BadFooter = Some tt
+refusal_of stop.Memory = None
+
+-- the text is in the grammar, and its name is longer than those that are kept without memory
+abbrev pub NeedsMemory : List ℕ → Type 0
+NeedsMemory text = (f : TzString) × SpellsInEach text f × (LONGEST_ABBREVIATION < length f.std)

@@ -1,46 +1,17 @@
 //! A footer, and what it says.
 
-ghost use Rattle.std.specs.Prelude.{◌≡◌, IfOk};
+ghost use Rattle.std.specs.Prelude.{◌≡◌, ℤ};
 ghost use Rattle.zic_footer.specs.Footer.{constant, version_of};
 ghost use Rattle.zic_footer.specs.Grammar.{IsTzString};
 ghost use Rattle.zic_footer.specs.Meaning.{Means};
 ghost use Rattle.zic_rules.specs.State.{shown};
 
-use std::alloc::{AllocError, Global};
 use std::marker::Model;
+use zic_base::{LONGEST_ABBREVIATION, ShortText};
 use zic_rules::State;
 
-/// The abbreviation of local time in a footer; clauses see its octets.
-#[derive(Debug, Drop)]
-pub struct Abbr {
-    octets: Vec<u8>,
-}
-
-impl Model for Abbr {
-    ghost use Rattle.std.specs.Prelude.{List, ℕ};
-
-    ghost Value = { List ℕ };
-
-    ghost view = { λ a. a.octets.items };
-}
-
-impl Abbr {
-    /// A copy of these octets.
-    pub(crate) fn from_slice(alloc: Global, octets: &[u8]) -> Result<Abbr, AllocError>
-        ensures { IfOk result (λ a. a ≡ octets.now) }
-    {
-        Ok(Abbr {
-            octets: Vec::from_slice(alloc, octets)?,
-        })
-    }
-
-    /// The octets, without the `<` and `>` of a footer's text.
-    pub fn octets(&self) -> &[u8]
-        ensures { result.now ≡ self.now }
-    {
-        &self.octets
-    }
-}
+/// The abbreviation of local time in a footer, without the `<` and `>` of its text; clauses see its octets.
+pub type Abbr = ShortText<LONGEST_ABBREVIATION>;
 
 /// The day of a year on which daylight saving time starts or stops.
 #[derive(Clone, Copy, Debug, PartialEq, Eq)]
@@ -120,15 +91,14 @@ impl Footer {
         self.offset
     }
 
-    /// What the footer says at an instant.
-    pub fn state(&self, t: i64) -> State<'_>
-        ensures { Means self.now t (shown result) }
+    /// What the footer says at every instant.
+    pub fn state(&self) -> State<'_>
+        ensures { (t : ℤ) → Means self.now t (shown result) }
     {
-        let _instant = t;
         State {
             offset: self.offset,
             daylight: false,
-            name: &self.std.octets,
+            name: self.std.octets(),
         }
     }
 

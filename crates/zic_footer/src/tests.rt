@@ -1,16 +1,12 @@
 //! Footers of worked examples.
 
-ghost use Rattle.std.specs.Prelude.{◌≡◌, ◌⊎◌};
-
 use super::*;
 use std::alloc::Global;
 use std::test::Fail;
 
 /// The printed text of what a text spells.
-fn canonical(alloc: Global, text: &[u8], version: u8) -> Result<Vec<u8>, ParseStop>
-    requires { (version ≡ 2) ⊎ (version ≡ 3) }
-{
-    let footer = parse(alloc, text, version)?;
+fn canonical(alloc: Global, text: &[u8]) -> Result<Vec<u8>, ParseStop> {
+    let footer = parse(alloc, text)?;
     Ok(print(alloc, &footer)?)
 }
 
@@ -32,10 +28,8 @@ fn parses_and_prints(rt: HostRuntime) -> Result<(), Fail> {
         ("UTC-0", "UTC0"),
     ];
     for (text, want) in rows {
-        let v2 = canonical(rt.alloc(), text.as_bytes(), 2)?;
-        let v3 = canonical(rt.alloc(), text.as_bytes(), 3)?;
-        assert_eq!(rt; v2.as_slice(), want.as_bytes(), "{text} in version 2");
-        assert_eq!(rt; v3.as_slice(), want.as_bytes(), "{text} in version 3");
+        let printed = canonical(rt.alloc(), text.as_bytes())?;
+        assert_eq!(rt; printed.as_slice(), want.as_bytes(), "{text}");
     }
     Ok(())
 }
@@ -63,10 +57,8 @@ fn refuses_other_texts(rt: HostRuntime) {
         "E1T5",
     ];
     for text in rows {
-        let v2 = canonical(rt.alloc(), text.as_bytes(), 2).err();
-        let v3 = canonical(rt.alloc(), text.as_bytes(), 3).err();
-        assert_eq!(rt; v2, Some(ParseStop::BadFooter), "{text:?} in version 2");
-        assert_eq!(rt; v3, Some(ParseStop::BadFooter), "{text:?} in version 3");
+        let refused = canonical(rt.alloc(), text.as_bytes()).err();
+        assert_eq!(rt; refused, Some(ParseStop::BadFooter), "{text:?}");
     }
 }
 
@@ -74,14 +66,12 @@ fn refuses_other_texts(rt: HostRuntime) {
 fn shows_one_state(rt: HostRuntime) -> Result<(), Fail> {
     let rows = [("EST5", -18000, "EST"), ("<+0530>-5:30", 19800, "+0530")];
     for (text, offset, name) in rows {
-        let footer = parse(rt.alloc(), text.as_bytes(), 2)?;
+        let footer = parse(rt.alloc(), text.as_bytes())?;
         assert_eq!(rt; footer.version(), 2, "{text}");
-        for t in [i64::MIN, 0, i64::MAX] {
-            let state = footer.state(t);
-            assert_eq!(rt; state.offset, offset, "{text} at {t}");
-            assert!(rt; !state.daylight, "{text} at {t}");
-            assert_eq!(rt; state.name, name.as_bytes(), "{text} at {t}");
-        }
+        let state = footer.state();
+        assert_eq!(rt; state.offset, offset, "{text}");
+        assert!(rt; !state.daylight, "{text}");
+        assert_eq!(rt; state.name, name.as_bytes(), "{text}");
     }
     Ok(())
 }

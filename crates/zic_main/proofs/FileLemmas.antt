@@ -1,6 +1,6 @@
 -- What the file of a zone gives is what the zone shows.
 use Rattle.std.proofs.Common.{◌≡◌, ℕ, zero, suc, ◌<◌, ◌≤◌, ℤ, true, false, Option, Some, None, ◌⊎◌, List, [], ◌∷◌, ◌++◌, length, inl, inr, refl, sym, ap, subst, ◌∙◌, ◌↔◌, arith}
-use Rattle.std.specs.Prelude.{IfSome, IsSomeAnd, slice_get}
+use Rattle.std.specs.Prelude.{IfSome, IfNone, IsSomeAnd, slice_get}
 use Rattle.std.proofs.lemmas.List.{length-append, nil_from_length}
 use Rattle.std.proofs.lemmas.Option.{slice_get_cases}
 use Rattle.zic_source.specs.Source.{SourceLines, ZoneLines, zone_at}
@@ -15,11 +15,13 @@ use Rattle.zic_footer.proofs.StringLemmas.{spells_one}
 use Rattle.zic_table.specs.Content.{Content}
 use Rattle.zic_tzif.specs.Answer.{Gives}
 use Rattle.zic_tzif.specs.Reading.{IsFile}
+use Rattle.zic_base.specs.Fault.{fault_at, fault_of}
 use Rattle.zic_base.specs.declared.fault.Kind.TheVariants.{NoFooter}
 use Rattle.zic_lines.specs.declared.zone_line.ZoneLine.{ZoneLine}
 use Rattle.zic_base.specs.declared.fault.Stop.{Stop}
 use Rattle.zic_base.specs.declared.fault.Stop.TheVariants as stop
-use Rattle.zic_main.specs.File.{File, IsPlainSource, StopsForNow, StopsFile, StopsFiles, nth_zone, AreOctetsOf, IsFileOf, IsImage, ReadsAs}
+use Rattle.zic_main.specs.File.{File, IsPlainSource, IsRefusedForNow, IsFaultless, IsFaultOfZone, IsFaultOfFiles, MayWantMemory, HaveFilesBefore, nth_zone, IsFileOf, IsImage, ReadsAs}
+use Rattle.zic_main.specs.code.Octets.{AreOctetsOf}
 
 name_length : (text name : List ℕ) → SpellsName text name → 3 ≤ length text
 name_length text name s =
@@ -71,11 +73,12 @@ pub is_file_of : (source : SourceLines) (n : ℕ) (given name octets : List ℕ)
     → IfSome (zone_at source n) (λ lines. given ≡ lines.name) → name ≡ given → AreOctetsOf (nth_zone source n) octets → IsFile octets content
     → IsFileOf (nth_zone source n) (record { name = name; octets = octets; content = content })
 is_file_of source n given name octets content lt named same are file =
-    let one : are.0 ≡ content = are.2.read.says ∙ sym file.says in
+    let one : are.content ≡ content = are.reads.read.says ∙ sym file.says in
     record {
+      sound = are.sound;
       name = rw same (some_zone source n (λ lines. given ≡ lines.name) lt named);
-      image = subst (λ (k : Content). IsImage (nth_zone source n) octets k) one are.1;
-      reads = subst (λ (k : Content). ReadsAs (nth_zone source n) octets k) one are.2;
+      image = subst (λ (k : Content). IsImage (nth_zone source n) octets k) one are.image;
+      reads = subst (λ (k : Content). ReadsAs (nth_zone source n) octets k) one are.reads;
     }
 
 -- the files of the first zones
@@ -101,17 +104,27 @@ first_more source files last each is n file e =
     ]
 
 -- each of the first zones has a file
-pub first_has : (source : SourceLines) (files : List File) → AreFirst source files → (m : ℕ) → m < length files → (file : File) × IsFileOf (nth_zone source m) file
+first_has : (source : SourceLines) (files : List File) → AreFirst source files → HaveFilesBefore source (length files)
 first_has source files each m lt =
     elim (slice_get_cases files m).1 [
       | inl some ↦ (some.0, each m some.0 some.2)
       | inr past ↦ absurd (omega arith)
     ]
 
--- the first zone that gets no file stops all
-pub stops_all : (source : SourceLines) (files : List File) (n : ℕ) (e : Stop) → AreFirst source files → n ≤ length files → n < length source.zones → StopsFile (nth_zone source n) e → StopsFiles source e
-stops_all source files n stop.Memory each le lt h = tt
-stops_all source files n (stop.Fault fault) each le lt h = inr (n, lt, h, λ m below. first_has source files each m (omega arith))
+-- the first zone that has a fault
+pub fault_of_first : (source : SourceLines) (files : List File) (n : ℕ) (e : Stop) → AreFirst source files → n ≤ length files → n < length source.zones
+    → IfSome (fault_of e) (IsFaultOfZone (nth_zone source n)) → IfSome (fault_of e) (IsFaultOfFiles source)
+fault_of_first source files n stop.Memory each le lt h = tt
+fault_of_first source files n (stop.Fault fault) each le lt h = inr (n, lt, h, λ m below. first_has source files each m (omega arith))
+
+-- or that wants memory
+pub memory_of_first : (source : SourceLines) (files : List File) (n : ℕ) → IsPlainSource source → AreFirst source files → n ≤ length files → n < length source.zones → IsFaultless (nth_zone source n) → MayWantMemory source
+memory_of_first source files n plain each le lt faultless =
+    record { plain = plain; number = n; is_zone = lt; faultless = faultless; before = λ m below. first_has source files each m (omega arith) }
+
+pub if_none_weaker : {F : Type 0} (o : Option F) (P Q : Type 0) → (P → Q) → IfNone o P → IfNone o Q
+if_none_weaker None P Q f p = f p
+if_none_weaker (Some x) P Q f p = tt
 
 -- each zone of such a source is plain
 pub plain_zone : (source : SourceLines) (n : ℕ) → IsPlainSource source → n < length source.zones → IsPlainZone (nth_zone source n)
@@ -148,7 +161,7 @@ some_place (Some z) line h = ap (λ (l : ZoneLine). l.place) (sym h)
 
 -- not so: more zones, a link, or a line that is not plain
 pub stops_for_now : (source : SourceLines) (line : ZoneLine) → 0 < length source.zones → IsFirst source 0 line → ((length source.zones ≡ 1) → (length source.links ≡ 0) → (is_plain line ≡ true) → ⊥)
-    → StopsForNow source (record { place = line.place; kind = NoFooter })
+    → IsRefusedForNow source (fault_at line.place NoFooter)
 stops_for_now source line some first other = record {
   other = λ plain. let m = plain_means source line plain some first in other m.0 m.1 m.2;
   kind = refl;

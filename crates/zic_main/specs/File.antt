@@ -1,15 +1,13 @@
 -- The files of a source.
 use Rattle.std.specs.Prelude.{◌≡◌, ◌<◌, ℕ, ℤ, true, ◌↔◌, List, [], ◌∷◌, length, slice_get, Some, ◌⊎◌, IsSomeAnd}
 use Rattle.zic_base.specs.declared.fault.Fault.{Fault}
-use Rattle.zic_base.specs.declared.fault.Stop.{Stop}
-use Rattle.zic_base.specs.declared.fault.Stop.TheVariants as stop
 use Rattle.zic_base.specs.declared.fault.Kind.TheVariants.{NoFooter}
 use Rattle.zic_source.specs.Source.{SourceLines, ZoneLines, zone_at}
-use Rattle.zic_rules.specs.Fault.{StopsZone, IsSound}
+use Rattle.zic_rules.specs.Fault.{IsFaultOfStates, IsSound}
 use Rattle.zic_rules.specs.State.{Shown}
 use Rattle.zic_rules.specs.Zone.{Zone, Shows, lines_of, is_plain}
 use Rattle.zic_footer.specs.Footer.{TzString}
-use Rattle.zic_footer.specs.Making.{IsMade, StopsFooter}
+use Rattle.zic_footer.specs.Making.{IsMade, IsFaultOfFooter}
 use Rattle.zic_table.specs.Content.{Content}
 use Rattle.zic_table.specs.Image.{IsContentOf}
 use Rattle.zic_tzif.specs.Answer.{Gives}
@@ -40,16 +38,9 @@ pub record ReadsAs (zone : Zone) (octets : List ℕ) (content : Content) : Type 
   pub read : IsFile octets content
   pub gives : (t : ℤ) (state : Shown) → Gives content t state ↔ Shows zone t state
 
--- the octets of a zone's file: its image, read as the zone
-abbrev pub AreOctetsOf : Zone → List ℕ → Type 0
-AreOctetsOf zone octets = (content : Content) × IsImage zone octets content × ReadsAs zone octets content
-
--- the octets are a file
-abbrev pub IsSomeFile : List ℕ → Type 0
-IsSomeFile octets = (content : Content) × IsFile octets content
-
--- the file of a zone: its name, its image, and what a reader makes of that
+-- the file of a zone whose states have no fault: its name, its image, and what a reader makes of that
 pub record IsFileOf (zone : Zone) (file : File) : Type 0 where
+  pub sound : IsSound zone
   pub name : IsSomeAnd (lines_of zone) (λ lines. file.name ≡ lines.name)
   pub image : IsImage zone file.octets file.content
   pub reads : ReadsAs zone file.octets file.content
@@ -68,26 +59,40 @@ pub record AreFilesOf (source : SourceLines) (files : List File) : Type 0 where
   pub count : length files ≡ length source.zones
   pub each : (n : ℕ) (file : File) → slice_get files n ≡ Some file → IsFileOf (nth_zone source n) file
 
--- why one zone gets no file: a fault of its states, or else of its footer
-abbrev pub StopsFile : Zone → Stop → Type 0
-StopsFile zone stop.Memory = Unit {0}
-StopsFile zone (stop.Fault fault) =
-    StopsZone zone (stop.Fault fault)
-    ⊎ (IsSound zone × IsSomeAnd (lines_of zone) (λ lines. StopsFooter zone lines.first.place (stop.Fault fault)))
+-- Neither the zone's states nor its footer have a fault.
+pub record IsFaultless (zone : Zone) : Type 0 where
+  pub sound : IsSound zone
+  pub footer : (f : TzString) × IsMade zone f
 
--- what stops the first zone in line order that has a fault
-abbrev pub StopsFirst : SourceLines → Fault → Type 0
-StopsFirst source fault =
-    (n : ℕ) × (n < length source.zones) × StopsFile (nth_zone source n) (stop.Fault fault)
-    × ((m : ℕ) → m < n → (file : File) × IsFileOf (nth_zone source m) file)
+-- the fault of one zone: of its states, or else of its footer
+abbrev pub IsFaultOfZone : Zone → Fault → Type 0
+IsFaultOfZone zone fault =
+    IsFaultOfStates zone fault
+    ⊎ (IsSound zone × IsSomeAnd (lines_of zone) (λ lines. IsFaultOfFooter zone lines.first.place fault))
+
+-- each zone before the one of this number has a file
+abbrev pub HaveFilesBefore : SourceLines → ℕ → Type 0
+HaveFilesBefore source n = (m : ℕ) → m < n → (file : File) × IsFileOf (nth_zone source m) file
+
+-- the fault of the first zone in line order that has one
+abbrev pub IsFaultOfFirst : SourceLines → Fault → Type 0
+IsFaultOfFirst source fault =
+    (n : ℕ) × (n < length source.zones) × IsFaultOfZone (nth_zone source n) fault × HaveFilesBefore source n
 
 -- for now: NoFooter at the first Zone line of any other source
-pub record StopsForNow (source : SourceLines) (fault : Fault) : Type 0 where
+pub record IsRefusedForNow (source : SourceLines) (fault : Fault) : Type 0 where
   pub other : IsPlainSource source → ⊥
   pub kind : fault.kind ≡ NoFooter
   pub place : IsSomeAnd (zone_at source 0) (λ lines. fault.place ≡ lines.first.place)
 
--- why a source gets no files; of want of memory nothing is said
-abbrev pub StopsFiles : SourceLines → Stop → Type 0
-StopsFiles source stop.Memory = Unit {0}
-StopsFiles source (stop.Fault fault) = StopsForNow source fault ⊎ StopsFirst source fault
+-- why a source gets no files
+abbrev pub IsFaultOfFiles : SourceLines → Fault → Type 0
+IsFaultOfFiles source fault = IsRefusedForNow source fault ⊎ IsFaultOfFirst source fault
+
+-- Where memory may be wanting: at a zone without a fault, before which each zone has a file, of a source that is compiled for now.
+pub record MayWantMemory (source : SourceLines) : Type 0 where
+  pub plain : IsPlainSource source
+  pub number : ℕ
+  pub is_zone : number < length source.zones
+  pub faultless : IsFaultless (nth_zone source number)
+  pub before : HaveFilesBefore source number

@@ -1,2 +1,3 @@
+pub mod code
 pub mod File
 pub mod Text

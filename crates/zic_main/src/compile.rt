@@ -1,16 +1,19 @@
 //! The files of a source.
 
-ghost use Rattle.std.specs.Prelude.{◌<◌, length, map, IfOk, IfErr};
+ghost use Rattle.std.specs.Prelude.{◌<◌, length, map, IfOk};
 ghost use Rattle.std.specs.Option.{MatchOption};
-ghost use Rattle.zic_base.specs.declared.fault.Kind.TheVariants.{NoFooter};
+ghost use Rattle.zic_base.specs.Fault.{fault_at, fault_of};
+ghost use Rattle.zic_base.specs.Memory.{IfRefusal, OnWantOfMemory};
 ghost use Rattle.zic_rules.specs.Zone.{IsPlainZone};
-ghost use Rattle.zic_tzif.specs.Reading.{IsFile};
-ghost use Rattle.zic_main.specs.File.{file_of, nth_zone, AreFilesOf, AreOctetsOf, IsFileOf, IsSomeFile, StopsFile, StopsFiles, StopsForNow, IsPlainSource};
+ghost use Rattle.zic_tzif.specs.Reading.{IsFile, IsSomeFile};
+ghost use Rattle.zic_main.specs.File.{file_of, nth_zone, AreFilesOf, IsFileOf, IsFaultless, IsFaultOfZone, IsFaultOfFiles, IsRefusedForNow, IsPlainSource, MayWantMemory};
+ghost use Rattle.zic_main.specs.code.Octets.{AreOctetsOf};
 
 use std::alloc::{AllocError, Global};
+use zic_base::{Kind, Place, Stop};
 use zic_footer::make;
 use zic_rules::{is_plain, timeline};
-use zic_source::{Fault, Kind, Place, Source, Stop};
+use zic_source::Source;
 use zic_table::table;
 use zic_tzif::{ReadStop, Zone, read, write};
 
@@ -27,14 +30,14 @@ pub struct Compiled {
 /// The files of all zones, in line order, or the first fault.
 ///
 /// For now only a source without a zone is compiled, or one with one zone, of one plain line, and no link; any other
-/// is NoFooter at its first Zone line.
+/// is NoFooter at its first Zone line. Memory is wanted only at a zone without a fault.
 pub fn compile(alloc: Global, source: &Source) -> Result<Vec<Compiled>, Stop>
     ensures ok { IfOk result (λ files. AreFilesOf source.now (map file_of files.items)) }
-    ensures err { IfErr result (StopsFiles source.now) }
+    ensures err { IfRefusal fault_of result (IsFaultOfFiles source.now) }
+    ensures memory { OnWantOfMemory fault_of result (MayWantMemory source.now) }
 {
     if let Some(place) = refused_for_now(source) {
-        let kind = Kind::NoFooter;
-        return Err(Stop::Fault(Fault { place, kind }));
+        return Err(Stop::at(place, Kind::NoFooter));
     }
     compile_zones(alloc, source)
 }
@@ -42,7 +45,7 @@ pub fn compile(alloc: Global, source: &Source) -> Result<Vec<Compiled>, Stop>
 /// The first Zone line of a source that isn't compiled yet.
 fn refused_for_now(source: &Source) -> Option<Place>
     ensures { MatchOption result (IsPlainSource source.now)
-        (λ place. StopsForNow source.now (record { place = place; kind = NoFooter })) }
+        (λ place. IsRefusedForNow source.now (fault_at place Kind.NoFooter)) }
 {
     if source.zones() == 0 {
         return None;
@@ -58,7 +61,8 @@ fn refused_for_now(source: &Source) -> Option<Place>
 fn compile_zones(alloc: Global, source: &Source) -> Result<Vec<Compiled>, Stop>
     requires { IsPlainSource source.now }
     ensures ok { IfOk result (λ files. AreFilesOf source.now (map file_of files.items)) }
-    ensures err { IfErr result (StopsFiles source.now) }
+    ensures err { IfRefusal fault_of result (IsFaultOfFiles source.now) }
+    ensures memory { OnWantOfMemory fault_of result (MayWantMemory source.now) }
 {
     let mut files = Vec::new(alloc);
     for zone in 0..source.zones() {
@@ -73,7 +77,8 @@ fn compile_zone(alloc: Global, source: &Source, zone: usize) -> Result<Compiled,
     requires zone { zone < length source.now.zones }
     requires plain { IsPlainZone (nth_zone source.now zone) }
     ensures ok { IfOk result (λ file. IsFileOf (nth_zone source.now zone) (file_of file)) }
-    ensures err { IfErr result (StopsFile (nth_zone source.now zone)) }
+    ensures err { IfRefusal fault_of result (IsFaultOfZone (nth_zone source.now zone)) }
+    ensures memory { OnWantOfMemory fault_of result (IsFaultless (nth_zone source.now zone)) }
 {
     let octets = zone_octets(alloc, source, zone)?;
     let name = Vec::from_slice(alloc, source.zone_name(zone))?;
@@ -86,12 +91,13 @@ fn zone_octets(alloc: Global, source: &Source, zone: usize) -> Result<Vec<u8>, S
     requires zone { zone < length source.now.zones }
     requires plain { IsPlainZone (nth_zone source.now zone) }
     ensures ok { IfOk result (λ octets. AreOctetsOf (nth_zone source.now zone) octets.items) }
-    ensures err { IfErr result (StopsFile (nth_zone source.now zone)) }
+    ensures err { IfRefusal fault_of result (IsFaultOfZone (nth_zone source.now zone)) }
+    ensures memory { OnWantOfMemory fault_of result (IsFaultless (nth_zone source.now zone)) }
 {
     let place = source.line(zone, 0).place;
-    let states = timeline(alloc, source, zone)?;
+    let states = timeline(source, zone)?;
     let footer = make(alloc, place, &states)?;
-    let table = table(alloc, place, &states, &footer)?;
+    let table = table(alloc, &states, &footer)?;
     let octets = write(alloc, &table)?;
     Ok(octets)
 }

@@ -2,7 +2,7 @@
 
 use std::alloc::{AllocError, Global};
 use thiserror::Error;
-use zic_source::{Kind, Stop};
+use zic_base::{Kind, Stop};
 use zic_tzif::Reason;
 
 /// Why a command gives up.

@@ -10,11 +10,12 @@ use crate::failure::{Failure, cannot_read};
 use crate::input::{InputStop, read_up_to};
 use std::alloc::{AllocError, Global};
 use std::io::{Read, Write};
+use zic_base::LONGEST_FILE;
 use zic_rules::State;
 use zic_tzif::{Answer, ReadStop, read};
 
 /// One octet more than a file may have.
-const MORE_THAN_A_FILE: u64 = 1_048_577;
+pub const MORE_THAN_A_FILE: u64 = LONGEST_FILE as u64 + 1;
 
 /// Writes the UT offset, daylight flag and abbreviation that the file gives at an instant, as `-05:00:00 0 EST`,
 /// or `unspecified`. `path` is what a failure calls the file.
@@ -26,7 +27,7 @@ pub fn show<R: Read + Drop, W: Write>(
     writer: &mut W,
 ) -> Result<(), Failure>
     ensures { OnOk result (IfSome (R.remaining reader)
-        (λ octets. (line : List ℕ) × IsShowing (take 1048577 octets) instant line × Appends (W.contents writer.old) (W.contents writer.new) line)) }
+        (λ octets. (line : List ℕ) × IsShowing (take MORE_THAN_A_FILE octets) instant line × Appends (W.contents writer.old) (W.contents writer.new) line)) }
 {
     let octets = match read_up_to(alloc, reader, MORE_THAN_A_FILE) {
         Ok(octets) => octets,

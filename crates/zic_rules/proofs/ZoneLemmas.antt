@@ -8,6 +8,7 @@ use Rattle.zic_source.specs.Source.{SourceLines, ZoneLines, zone_at, lines_of_zo
 use Rattle.zic_rules.specs.State.{Shown}
 use Rattle.zic_rules.specs.Change.{AreChanges}
 use Rattle.zic_rules.specs.Zone.{Zone, lines_of, line_state, abbreviation_of, IsChange, Shows}
+use Rattle.zic_rules.specs.declared.states.checks.TheConstants.{FARTHEST_OFFSET}
 use Rattle.zic_rules.specs.Fault.{is_abbreviation, IsSound, HasLeast, IsLimited}
 
 some_weaker : {A : Type 0} (o : Option A) (P Q : A → Type 0) → ((x : A) → P x → Q x) → IsSomeAnd o P → IsSomeAnd o Q
@@ -36,26 +37,26 @@ first_found source n line lt h =
       | inr past ↦ absurd (omega arith)
     ]
 
-pub sound : (source : SourceLines) (n : ℕ) (line : ZoneLine) → IsFirst source n line → unsigned_abs line.offset ≤ 86400 → is_abbreviation (abbreviation_of line.format) ≡ true → IsSound (record { source = source; number = n })
+pub sound : (source : SourceLines) (n : ℕ) (line : ZoneLine) → IsFirst source n line → unsigned_abs line.offset ≤ FARTHEST_OFFSET → is_abbreviation (abbreviation_of line.format) ≡ true → IsSound (record { source = source; number = n })
 sound source n line first fits good = record {
-  offset = some_weaker (zone_at source n) (λ z. z.first ≡ line) (λ z. unsigned_abs z.first.offset ≤ 86400) (λ z e. subst (λ (l : ZoneLine). unsigned_abs l.offset ≤ 86400) (sym e) fits) first;
+  offset = some_weaker (zone_at source n) (λ z. z.first ≡ line) (λ z. unsigned_abs z.first.offset ≤ FARTHEST_OFFSET) (λ z e. subst (λ (l : ZoneLine). unsigned_abs l.offset ≤ FARTHEST_OFFSET) (sym e) fits) first;
   abbreviation = λ t state shows.
       let both = some_both (zone_at source n) (λ z. z.first ≡ line) (λ z. state ≡ line_state z.first) first shows in
       let e : state.name ≡ abbreviation_of line.format = ap (λ (s : Shown). s.name) both.2 ∙ ap (λ (l : ZoneLine). abbreviation_of l.format) both.1 in
       ap is_abbreviation e ∙ good;
 }
 
-pub out_of_range : (source : SourceLines) (n : ℕ) (line : ZoneLine) → IsFirst source n line → 86400 < unsigned_abs line.offset → HasLeast (record { source = source; number = n }) OffsetRange × IsSomeAnd (zone_at source n) (λ z. line.place ≡ z.first.place)
+pub out_of_range : (source : SourceLines) (n : ℕ) (line : ZoneLine) → IsFirst source n line → FARTHEST_OFFSET < unsigned_abs line.offset → HasLeast (record { source = source; number = n }) OffsetRange × IsSomeAnd (zone_at source n) (λ z. line.place ≡ z.first.place)
 out_of_range source n line first past = (
-  some_weaker (zone_at source n) (λ z. z.first ≡ line) (λ z. 86400 < unsigned_abs z.first.offset) (λ z e. subst (λ (l : ZoneLine). 86400 < unsigned_abs l.offset) (sym e) past) first,
+  some_weaker (zone_at source n) (λ z. z.first ≡ line) (λ z. FARTHEST_OFFSET < unsigned_abs z.first.offset) (λ z e. subst (λ (l : ZoneLine). FARTHEST_OFFSET < unsigned_abs l.offset) (sym e) past) first,
   some_weaker (zone_at source n) (λ z. z.first ≡ line) (λ z. line.place ≡ z.first.place) (λ z e. ap (λ (l : ZoneLine). l.place) (sym e)) first,
 )
 
-pub bad_abbreviation : (source : SourceLines) (n : ℕ) (line : ZoneLine) → IsFirst source n line → unsigned_abs line.offset ≤ 86400 → is_abbreviation (abbreviation_of line.format) ≡ false → HasLeast (record { source = source; number = n }) BadAbbreviation × IsSomeAnd (zone_at source n) (λ z. line.place ≡ z.first.place)
+pub bad_abbreviation : (source : SourceLines) (n : ℕ) (line : ZoneLine) → IsFirst source n line → unsigned_abs line.offset ≤ FARTHEST_OFFSET → is_abbreviation (abbreviation_of line.format) ≡ false → HasLeast (record { source = source; number = n }) BadAbbreviation × IsSomeAnd (zone_at source n) (λ z. line.place ≡ z.first.place)
 bad_abbreviation source n line first fits bad =
     let shows : Shows (record { source = source; number = n }) (pos 0) (line_state line) = some_weaker (zone_at source n) (λ z. z.first ≡ line) (λ z. line_state line ≡ line_state z.first) (λ z e. ap line_state (sym e)) first in (
       (
-        some_weaker (zone_at source n) (λ z. z.first ≡ line) (λ z. unsigned_abs z.first.offset ≤ 86400) (λ z e. subst (λ (l : ZoneLine). unsigned_abs l.offset ≤ 86400) (sym e) fits) first,
+        some_weaker (zone_at source n) (λ z. z.first ≡ line) (λ z. unsigned_abs z.first.offset ≤ FARTHEST_OFFSET) (λ z e. subst (λ (l : ZoneLine). unsigned_abs l.offset ≤ FARTHEST_OFFSET) (sym e) fits) first,
         record { t = pos 0; state = line_state line; shows = shows; breaks = bad },
       ),
       some_weaker (zone_at source n) (λ z. z.first ≡ line) (λ z. line.place ≡ z.first.place) (λ z e. ap (λ (l : ZoneLine). l.place) (sym e)) first,
@@ -64,8 +65,8 @@ bad_abbreviation source n line first fits bad =
 pub limited : (source : SourceLines) (n : ℕ) (line : ZoneLine) → IsFirst source n line → IsSound (record { source = source; number = n }) → IsLimited (line_state line)
 limited source n line first sound =
     let shows : Shows (record { source = source; number = n }) (pos 0) (line_state line) = some_weaker (zone_at source n) (λ z. z.first ≡ line) (λ z. line_state line ≡ line_state z.first) (λ z e. ap line_state (sym e)) first in
-    let both = some_both (zone_at source n) (λ z. z.first ≡ line) (λ z. unsigned_abs z.first.offset ≤ 86400) first sound.offset in
-    record { offset = subst (λ (l : ZoneLine). unsigned_abs l.offset ≤ 86400) both.1 both.2; name = sound.abbreviation (pos 0) (line_state line) shows }
+    let both = some_both (zone_at source n) (λ z. z.first ≡ line) (λ z. unsigned_abs z.first.offset ≤ FARTHEST_OFFSET) first sound.offset in
+    record { offset = subst (λ (l : ZoneLine). unsigned_abs l.offset ≤ FARTHEST_OFFSET) both.1 both.2; name = sound.abbreviation (pos 0) (line_state line) shows }
 
 pub shows_first : (source : SourceLines) (n : ℕ) (line : ZoneLine) → IsFirst source n line → (t : ℤ) → Shows (record { source = source; number = n }) t (line_state line)
 shows_first source n line first t = some_weaker (zone_at source n) (λ z. z.first ≡ line) (λ z. line_state line ≡ line_state z.first) (λ z e. ap line_state (sym e)) first
@@ -75,7 +76,7 @@ first_some None line P h s = s
 first_some (Some x) line P h s = ZoneLine-of_some x.first line h
 
 pub limited_line : (source : SourceLines) (n : ℕ) (line : ZoneLine) → IfSome (zone_at source n) (λ z. slice_get (lines_of_zone z) 0 ≡ Some line) → IsSound (record { source = source; number = n }) → IsLimited (line_state line)
-limited_line source n line h s = limited source n line (first_some (zone_at source n) line (λ z. unsigned_abs z.first.offset ≤ 86400) h s.offset) s
+limited_line source n line h s = limited source n line (first_some (zone_at source n) line (λ z. unsigned_abs z.first.offset ≤ FARTHEST_OFFSET) h s.offset) s
 
 -- while the Zone line governs at every instant, nothing changes
 no_difference : (o : Option ZoneLines) (a b : Shown) → IsSomeAnd o (λ lines. a ≡ line_state lines.first) → IsSomeAnd o (λ lines. b ≡ line_state lines.first) → a ≡ b

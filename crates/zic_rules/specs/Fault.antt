@@ -1,30 +1,28 @@
 -- What is wrong with a zone whose source was read.
-use Rattle.std.specs.Prelude.{◌≡◌, ℕ, ℤ, ◌<◌, ◌≤◌, Bool, true, false, ◌&&◌, ◌||◌, nat_le, ◌==◌, List, length, IsSomeAnd, unsigned_abs}
+use Rattle.std.specs.Prelude.{◌≡◌, ℕ, ℤ, ◌<◌, ◌≤◌, Bool, true, false, ◌&&◌, nat_le, List, length, IsSomeAnd, unsigned_abs}
 use Rattle.std.specs.List.{list_all}
+use Rattle.zic_base.specs.Byte.{is_abbreviation_byte}
+use Rattle.zic_base.specs.declared.fault.Fault.{Fault}
 use Rattle.zic_base.specs.declared.fault.Kind.{Kind}
 use Rattle.zic_base.specs.declared.fault.Kind.TheVariants.{OffsetRange, BadAbbreviation}
-use Rattle.zic_base.specs.declared.fault.Stop.{Stop}
-use Rattle.zic_base.specs.declared.fault.Stop.TheVariants as stop
+use Rattle.zic_base.specs.declared.limit.TheConstants.{SHORTEST_ABBREVIATION, LONGEST_ABBREVIATION}
+use Rattle.zic_rules.specs.declared.states.checks.TheConstants.{FARTHEST_OFFSET}
 use Rattle.zic_rules.specs.State.{Shown}
 use Rattle.zic_rules.specs.Zone.{Zone, lines_of, Shows}
 
--- an ASCII letter, a digit, `+` or `-`
-abbrev pub is_abbreviation_byte : ℕ → Bool
-is_abbreviation_byte b =
-    (nat_le 65 b && nat_le b 90) || (nat_le 97 b && nat_le b 122) || (nat_le 48 b && nat_le b 57) || (b == 43) || (b == 45)
-
--- An abbreviation has 3 to 16 of these. RFC 9636, 3.2, recommends 3 to 6; up to 16 is an own choice.
+-- An abbreviation has 3 to 16 ASCII letters, digits, `+` and `-`. RFC 9636, 3.2, recommends 3 to 6; up to 16 is an own choice.
 abbrev pub is_abbreviation : List ℕ → Bool
-is_abbreviation name = nat_le 3 (length name) && nat_le (length name) 16 && list_all is_abbreviation_byte name
+is_abbreviation name =
+    nat_le SHORTEST_ABBREVIATION (length name) && nat_le (length name) LONGEST_ABBREVIATION && list_all is_abbreviation_byte name
 
 -- what every state of a zone without these faults is
 pub record IsLimited (state : Shown) : Type 0 where
-  pub offset : unsigned_abs state.offset ≤ 86400
+  pub offset : unsigned_abs state.offset ≤ FARTHEST_OFFSET
   pub name : is_abbreviation state.name ≡ true
 
 -- the standard offset passes 24:00:00 either way
 abbrev pub HasOffsetOutOfRange : Zone → Type 0
-HasOffsetOutOfRange zone = IsSomeAnd (lines_of zone) (λ lines. 86400 < unsigned_abs lines.first.offset)
+HasOffsetOutOfRange zone = IsSomeAnd (lines_of zone) (λ lines. FARTHEST_OFFSET < unsigned_abs lines.first.offset)
 
 -- at some instant the zone shows an abbreviation that breaks its limit
 pub record HasBadAbbreviation (zone : Zone) : Type 0 where
@@ -35,18 +33,17 @@ pub record HasBadAbbreviation (zone : Zone) : Type 0 where
 
 -- neither is so
 pub record IsSound (zone : Zone) : Type 0 where
-  pub offset : IsSomeAnd (lines_of zone) (λ lines. unsigned_abs lines.first.offset ≤ 86400)
+  pub offset : IsSomeAnd (lines_of zone) (λ lines. unsigned_abs lines.first.offset ≤ FARTHEST_OFFSET)
   pub abbreviation : (t : ℤ) (state : Shown) → Shows zone t state → is_abbreviation state.name ≡ true
 
 -- the least kind of fault that the zone has
 abbrev pub HasLeast : Zone → Kind → Type 0
 HasLeast zone OffsetRange = HasOffsetOutOfRange zone
 HasLeast zone BadAbbreviation =
-    IsSomeAnd (lines_of zone) (λ lines. unsigned_abs lines.first.offset ≤ 86400) × HasBadAbbreviation zone
+    IsSomeAnd (lines_of zone) (λ lines. unsigned_abs lines.first.offset ≤ FARTHEST_OFFSET) × HasBadAbbreviation zone
 HasLeast zone _ = ⊥
 
--- why a zone isn't compiled: its least kind of fault, at its Zone line; of want of memory nothing is said
-abbrev pub StopsZone : Zone → Stop → Type 0
-StopsZone zone stop.Memory = Unit {0}
-StopsZone zone (stop.Fault fault) =
+-- the fault of a zone's states: its least kind of fault, at its Zone line
+abbrev pub IsFaultOfStates : Zone → Fault → Type 0
+IsFaultOfStates zone fault =
     HasLeast zone fault.kind × IsSomeAnd (lines_of zone) (λ lines. fault.place ≡ lines.first.place)

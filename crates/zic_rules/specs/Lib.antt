@@ -4,4 +4,3 @@ pub mod State
 pub mod Tail
 pub mod Zone
 pub use Rattle.zic_source.specs.Source
-pub use Rattle.zic_lines.specs.Stop

@@ -1,6 +1,6 @@
 //! The states of a zone in the order of time.
 
-ghost use Rattle.std.specs.Prelude.{◌≡◌, ℤ, List, ◌<ℤ◌, length};
+ghost use Rattle.std.specs.Prelude.{◌≡◌, ℤ, List, length};
 ghost use Rattle.zic_rules.specs.Change.{Change, AreChanges};
 ghost use Rattle.zic_rules.specs.Fault.{IsLimited};
 ghost use Rattle.zic_rules.specs.State.{shown};
@@ -73,16 +73,6 @@ impl<'a> Timeline<'a> {
         ensures { (changes : List Change) × AreChanges self.now changes × (result ≡ length changes) }
     {
         0usize
-    }
-
-    /// The state at an instant before the explicit end.
-    pub fn state(&self, t: i64) -> State<'a>
-        requires { t <ℤ end_of self.now }
-        ensures shows { Shows self.now t (shown result) }
-        ensures limited { IsLimited (shown result) }
-    {
-        let _instant = t;
-        self.only_state()
     }
 
     /// What the zone shows from its last change before the explicit end on, or at every instant if there is none.

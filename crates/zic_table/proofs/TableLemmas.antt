@@ -7,38 +7,34 @@ use Rattle.std.proofs.lemmas.Slice.Eq.{bytes_eq-Decides}
 use Rattle.std.proofs.lemmas.Grind.{common_steps}
 use Rattle.std.proofs.lemmas.List.{append-nil, length-append}
 use Rattle.std.proofs.lemmas.List.Elements.{All-from_recursion}
-use Rattle.std.proofs.lemmas.Bool.{leb-true, lt-ltb}
+use Rattle.std.proofs.lemmas.Bool.{lt-ltb, and_parts, and_from}
 use Rattle.std.proofs.Math.Numerals.{one-add}
 use Rattle.std.proofs.lemmas.Int.{ints}
+use Rattle.zic_base.specs.Byte.{is_abbreviation_byte}
+use Rattle.zic_base.specs.declared.limit.TheConstants.{LONGEST_ABBREVIATION}
 use Rattle.zic_footer.specs.Footer.{TzString, version_of}
 use Rattle.zic_footer.specs.Grammar.{Spells, is_letter}
 use Rattle.zic_footer.specs.Making.{IsMade}
 use Rattle.zic_footer.specs.Printing.{printed, printed_name, printed_offset, printed_clock, printed_hours, two_digits}
 use Rattle.zic_rules.specs.Zone.{Zone, IsFirstState, end_of}
 use Rattle.zic_rules.proofs.ZoneLemmas.{no_change, shows_one}
-use Rattle.zic_rules.specs.Fault.{is_abbreviation, is_abbreviation_byte, IsLimited}
+use Rattle.zic_rules.specs.Fault.{is_abbreviation, IsLimited}
+use Rattle.zic_rules.proofs.AbbreviationLemmas.{abbreviation_bytes, abbreviation_length}
 use Rattle.zic_rules.specs.State.{Shown}
 use Rattle.zic_table.specs.Content.{IsLocalType, IsWritable}
 use Rattle.zic_table.specs.Image.{content_of}
 use Rattle.zic_table.specs.Designation.{is_designated}
 
-and_both : (a b : Bool) → (a && b) ≡ true → (a ≡ true) × (b ≡ true)
-and_both true b e = (refl, e)
-and_both false b e = absurd cc
-
-and_of : (a b : Bool) → a ≡ true → b ≡ true → (a && b) ≡ true
-and_of a b p q = rw (p, q) refl
-
 all_weaker : (p q : ℕ → Bool) → ((x : ℕ) → p x ≡ true → q x ≡ true) → (xs : List ℕ) → list_all p xs ≡ true → list_all q xs ≡ true
 all_weaker p q f [] e = refl
 all_weaker p q f (x ∷ xs) e =
-    let both = and_both (p x) (list_all p xs) e in
-    and_of (q x) (list_all q xs) (f x both.0) (all_weaker p q f xs both.1)
+    let both = and_parts (p x) (list_all p xs) e in
+    and_from (q x) (list_all q xs) (f x both.0) (all_weaker p q f xs both.1)
 
 before_first_at : (p : ℕ → Bool) (b : ℕ) (rest : List ℕ) → p b ≡ true → (xs : List ℕ) → list_all (λ x. not (p x)) xs ≡ true → before_first p (xs ++ b ∷ rest) ≡ xs
 before_first_at p b rest at [] e = rw at refl
 before_first_at p b rest at (x ∷ xs) e =
-    let both = and_both (not (p x)) (list_all (λ y. not (p y)) xs) e in
+    let both = and_parts (not (p x)) (list_all (λ y. not (p y)) xs) e in
     let more = before_first_at p b rest at xs both.1 in
     rw (both.0, one-add) (ap (λ (l : List ℕ). x ∷ l) more)
 
@@ -51,15 +47,6 @@ is_printable x e = grind (arith, common_steps)
 
 is_no_end : (x : ℕ) → is_abbreviation_byte x ≡ true → not (x == 0) ≡ true
 is_no_end x e = grind (arith, common_steps)
-
--- what an abbreviation is, part by part
-pub abbreviation_bytes : (name : List ℕ) → is_abbreviation name ≡ true → list_all is_abbreviation_byte name ≡ true
-abbreviation_bytes name e = (and_both (nat_le 3 (length name) && nat_le (length name) 16) (list_all is_abbreviation_byte name) e).1
-
-pub abbreviation_length : (name : List ℕ) → is_abbreviation name ≡ true → length name ≤ 16
-abbreviation_length name e =
-    let parts = (and_both (nat_le 3 (length name) && nat_le (length name) 16) (list_all is_abbreviation_byte name) e).0 in
-    leb-true _ _ (and_both (nat_le 3 (length name)) (nat_le (length name) 16) parts).1
 
 -- an abbreviation that is ended by NUL is the designation at its place
 pub designated : (name : List ℕ) → is_abbreviation name ≡ true → is_designated (name ++ 0 ∷ []) 0 ≡ true
@@ -105,7 +92,7 @@ clock_length h m s =
     (joined_length (58 ∷ two_digits m) _ 3 3 (omega arith) (chosen_length (s == 0) [] _ 3 (omega arith) (omega arith))))
 
 -- a footer's text is short
-pub printed_length : (f : TzString) → length f.std ≤ 16 → length (printed f) ≤ 1024
+pub printed_length : (f : TzString) → length f.std ≤ LONGEST_ABBREVIATION → length (printed f) ≤ 1024
 printed_length f short =
     let name : length (printed_name f.std) ≤ 18 = chosen_length (list_all is_letter f.std) _ _ 18 (omega arith) (omega (arith, length-append f.std (62 ∷ []))) in
     let offset : length (printed_offset f.offset) ≤ 9 =
@@ -122,5 +109,5 @@ made_name zone f first made shows =
 -- the content that `table` makes passes the checks of a reader
 pub writable_for : (zone : Zone) (f : TzString) (first : Shown) (text : List ℕ) → IsMade zone f → IsFirstState zone first → IsLimited first → text ≡ printed f → Spells 2 text f → IsWritable (record { version = 2; changes = []; types = record { offset = first.offset; daylight = first.daylight; place = 0 } ∷ []; names = first.name ++ 0 ∷ []; text = text })
 writable_for zone f first text made shows limited is_printed spells =
-    let short : length f.std ≤ 16 = rw (made_name zone f first made shows) (abbreviation_length first.name limited.name) in
+    let short : length f.std ≤ LONGEST_ABBREVIATION = rw (made_name zone f first made shows) (abbreviation_length first.name limited.name) in
     writable first text f limited (rw is_printed (printed_length f short)) spells

@@ -1,5 +1,6 @@
 -- What a TZif file says: RFC 9636, 3.
 use Rattle.std.specs.Prelude.{◌≡◌, ℕ, ◌≤◌, true, List, [], length, unsigned_abs, ◌⊎◌, All}
+use Rattle.zic_base.specs.declared.limit.TheConstants.{FARTHEST_FILE_OFFSET}
 use Rattle.zic_table.specs.declared.content.Change.{Change}
 use Rattle.zic_table.specs.declared.content.LocalType.{LocalType}
 use Rattle.zic_table.specs.Designation.{is_designated}
@@ -16,7 +17,7 @@ pub record Content : Type 0 where
 
 -- a type's offset is within 25:59:59 either way (own choice), and its place begins a designation
 pub record IsLocalType (names : List ℕ) (t : LocalType) : Type 0 where
-  pub offset : unsigned_abs t.offset ≤ 93599
+  pub offset : unsigned_abs t.offset ≤ FARTHEST_FILE_OFFSET
   pub designation : is_designated names t.place ≡ true
 
 -- What passes the checks of a reader when it is written; the limits on names and text keep the file below a reader's limit

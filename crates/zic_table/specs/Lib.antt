@@ -1,7 +1,6 @@
 pub mod Content
 pub mod Designation
 pub mod Image
-pub mod Stop
 pub use Rattle.zic_footer.specs.Footer
 pub use Rattle.zic_footer.specs.Grammar
 pub use Rattle.zic_footer.specs.Making

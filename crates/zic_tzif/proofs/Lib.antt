@@ -1,3 +1,4 @@
+pub mod AnswerLemmas
 pub mod ReadChecks
 pub mod ReadFiles
 pub mod ReadParts

@@ -6,29 +6,12 @@ use Rattle.std.proofs.lemmas.Bool.{lt-ltb, ltb-true, not-true, not-false, and_pa
 use Rattle.std.proofs.lemmas.Bool.Decides.{nat_tests}
 use Rattle.std.proofs.lemmas.Option.{cond_some}
 use Rattle.std.specs.Str.{bytes_eq}
+use Rattle.zic_base.specs.Check.{first_failed}
 use Rattle.zic_tzif.specs.declared.reason.Reason.{Reason}
 use Rattle.zic_tzif.specs.declared.reason.Reason.TheVariants as reason
 use Rattle.zic_tzif.specs.Header.{Counts, counts_at, block_length, second_header, second_counts, footer_place}
 use Rattle.zic_tzif.specs.Block.{behind_newline}
-use Rattle.zic_tzif.specs.Reading.{Check, first_failed, are_counts, second_checks, footer_checks}
-
--- one check, before others
-passed : (p : Bool) (r : Reason) (o both rest : Option Reason) → (o ≡ None → both ≡ rest) → cond p o (Some r) ≡ None → cond p both (Some r) ≡ rest
-passed true r o both rest h e = h e
-passed false r o both rest h e = absurd cc
-
-stopped : (p : Bool) (first : Reason) (o both : Option Reason) (r : Reason) → (o ≡ Some r → both ≡ Some r) → cond p o (Some first) ≡ Some r → cond p both (Some first) ≡ Some r
-stopped true first o both r h e = h e
-stopped false first o both r h e = e
-
--- of two lists of checks
-pub first_failed-append : (a b : List Check) → first_failed a ≡ None → first_failed (a ++ b) ≡ first_failed b
-first_failed-append [] b e = refl
-first_failed-append (c ∷ cs) b e = passed c.passes c.reason (first_failed cs) (first_failed (cs ++ b)) (first_failed b) (first_failed-append cs b) e
-
-pub first_failed_early : (a b : List Check) (r : Reason) → first_failed a ≡ Some r → first_failed (a ++ b) ≡ Some r
-first_failed_early [] b r e = absurd cc
-first_failed_early (c ∷ cs) b r e = stopped c.passes c.reason (first_failed cs) (first_failed (cs ++ b)) r (first_failed_early cs b r) e
+use Rattle.zic_tzif.specs.Reading.{are_counts, second_checks, footer_checks}
 
 -- whether two headers begin alike, by the answer of `!=`
 marks : (o : List ℕ) (header : ℕ) (m n : List ℕ) (same : Bool) → m ≡ take 5 (drop header o) → n ≡ take 5 o → bytes_eq m n ≡ same → bytes_eq (take 5 (drop header o)) (take 5 o) ≡ same
@@ -47,7 +30,7 @@ of_second a b c d =
 
 -- of the second header's checks
 pub second_outcome : (o : List ℕ) (header : ℕ) (c : Counts) (same counts leap there : Bool) → header ≡ second_header o → c ≡ counts_at o header
-    → bytes_eq (take 5 (drop header o)) (take 5 o) ≡ same → are_counts c ≡ counts → (c.leap_seconds == 0) ≡ leap → nat_le (header + 44 + block_length 8 c) (length o) ≡ there
+    → bytes_eq (take 5 (drop header o)) (take 5 o) ≡ same → are_counts c ≡ counts → (c.leap_seconds == 0) ≡ leap → nat_le (header + 44 + block_length c 8) (length o) ≡ there
     → first_failed (second_checks o) ≡ of_second same counts leap there
 second_outcome o header c same counts leap there h-is c-was e1 e2 e3 e4 =
     let c-is : c ≡ second_counts o = c-was ∙ ap (counts_at o) h-is in
@@ -55,7 +38,7 @@ second_outcome o header c same counts leap there h-is c-was e1 e2 e3 e4 =
     let f2 : are_counts (second_counts o) ≡ counts = ap are_counts (sym c-is) ∙ e2 in
     let f3 : ((second_counts o).leap_seconds == 0) ≡ leap = ap (λ (d : Counts). d.leap_seconds == 0) (sym c-is) ∙ e3 in
     let f4 : nat_le (footer_place o) (length o) ≡ there =
-    ap (λ (d : Counts). nat_le (second_header o + 44 + block_length 8 d) (length o)) (sym c-is) ∙ ap (λ n. nat_le (n + 44 + block_length 8 c) (length o)) (sym h-is) ∙ e4 in
+    ap (λ (d : Counts). nat_le (second_header o + 44 + block_length d 8) (length o)) (sym c-is) ∙ ap (λ n. nat_le (n + 44 + block_length c 8) (length o)) (sym h-is) ∙ e4 in
     ap (λ a. of_second a (are_counts (second_counts o)) ((second_counts o).leap_seconds == 0) (nat_le (footer_place o) (length o))) f1
     ∙ ap (λ b. of_second same b ((second_counts o).leap_seconds == 0) (nat_le (footer_place o) (length o))) f2
     ∙ ap (λ l. of_second same counts l (nat_le (footer_place o) (length o))) f3 ∙ ap (of_second same counts leap) f4

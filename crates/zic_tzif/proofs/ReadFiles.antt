@@ -1,28 +1,29 @@
 -- Whole files: the first failing check of all groups, and what a file that passes says.
-use Rattle.std.proofs.Common.{◌≡◌, ℕ, zero, suc, ◌+◌, Bool, true, false, cond, List, [], ◌∷◌, ◌++◌, length, map, drop, Option, Some, None, All, ◌⊎◌, inl, inr, refl, sym, ap, subst, ◌∙◌}
-use Rattle.std.specs.Prelude.{MatchOption, Result, Ok, Err, IfOk, IfErr}
+use Rattle.std.proofs.Common.{◌≡◌, ◌≢◌, ℕ, zero, suc, ◌+◌, ◌≤◌, Bool, true, false, cond, List, [], ◌∷◌, ◌++◌, length, map, drop, Option, Some, None, All, ◌⊎◌, inl, inr, refl, sym, ap, subst, ◌∙◌}
+use Rattle.std.specs.Prelude.{MatchOption, Result, Ok, Err, IfSome}
 use Rattle.std.specs.List.{list_all}
 use Rattle.std.proofs.lemmas.Bool.{and_parts, leb-true}
 use Rattle.std.proofs.lemmas.List.Elements.{All-nil, All-cons}
-use Rattle.zic_table.specs.declared.content.LocalType.{LocalType}
+use Rattle.zic_base.specs.Check.{Check, first_failed}
+use Rattle.zic_base.specs.Memory.{IfRefusal, NeverRefuses}
+use Rattle.zic_base.proofs.Checks.{first_failed-append, first_failed-front}
 use Rattle.zic_table.specs.Content.{Content, IsLocalType}
 use Rattle.zic_table.specs.Designation.{is_designated}
 use Rattle.zic_tzif.specs.declared.data_block.DataBlock.{DataBlock}
+use Rattle.zic_tzif.specs.declared.reading.Parts.{Parts}
 use Rattle.zic_footer.specs.declared.footer.Footer.{Footer}
 use Rattle.zic_tzif.specs.declared.zone.Zone.{Zone}
 use Rattle.zic_tzif.specs.declared.reason.ReadStop.{ReadStop}
-use Rattle.zic_tzif.specs.declared.reason.ReadStop.TheVariants as stop
 use Rattle.zic_tzif.specs.declared.reason.Reason.{Reason}
 use Rattle.zic_tzif.specs.declared.reason.Reason.TheVariants as reason
 use Rattle.zic_tzif.specs.Header.{footer_place}
 use Rattle.zic_tzif.specs.Block.{sixes, type_in, type_records, names_in, indicators_in, is_type_record, footer_text}
-use Rattle.zic_tzif.specs.Kept.{plain, IsFooterOf}
-use Rattle.zic_tzif.specs.Parts.{HasParts, StopsFooter}
-use Rattle.zic_tzif.specs.Reading.{Check, first_failed, first_checks, second_checks, block_checks, footer_checks, checks, content_in, IsFooterText, IsWhole, IsFile, IsFault, ReadsTo, StopsReading}
-use Rattle.zic_tzif.proofs.ReadChecks.{first_failed-append, first_failed_early}
+use Rattle.zic_tzif.specs.Reading.{first_checks, second_checks, block_checks, footer_checks, checks, content_in, IsFooterText, IsWhole, IsFile, IsSomeFile, IsFault, reason_of}
+use Rattle.zic_tzif.specs.code.Kept.{plain, IsFooterOf, IsKept}
+use Rattle.zic_tzif.specs.code.Parts.{HasParts, AreParts, content_of}
 
 -- the checks of the second data block, and the groups up to each
-abbrev pub third_checks : List ℕ → List Check
+abbrev pub third_checks : List ℕ → List (Check Reason)
 third_checks o = block_checks (names_in o) (type_records o) (indicators_in o)
 
 pub two_pass : (o : List ℕ) → first_failed (first_checks o) ≡ None → first_failed (second_checks o) ≡ None → first_failed (first_checks o ++ second_checks o) ≡ None
@@ -43,26 +44,27 @@ at_none None A B e a = a
 at_none (Some first) A B e a = absurd cc
 
 -- a failing check is the fault
-fault : (o : List ℕ) (r : Reason) → first_failed (checks o) ≡ Some r → IsFault o r
+pub fault : (o : List ℕ) (r : Reason) → first_failed (checks o) ≡ Some r → IsFault o r
 fault o r e = at_some (first_failed (checks o)) r _ e
 
-pub fails_first : (o : List ℕ) (r : Reason) → first_failed (first_checks o) ≡ Some r → IsFault o r
+-- the first check that fails, by its group
+pub fails_first : (o : List ℕ) (r : Reason) → first_failed (first_checks o) ≡ Some r → first_failed (checks o) ≡ Some r
 fails_first o r e =
-    fault o r (first_failed_early (first_checks o ++ second_checks o ++ third_checks o) (footer_checks o) r (first_failed_early (first_checks o ++ second_checks o) (third_checks o) r (first_failed_early (first_checks o) (second_checks o) r e)))
+    first_failed-front (first_checks o ++ second_checks o ++ third_checks o) (footer_checks o) r (first_failed-front (first_checks o ++ second_checks o) (third_checks o) r (first_failed-front (first_checks o) (second_checks o) r e))
 
-pub fails_second : (o : List ℕ) (r : Reason) → first_failed (first_checks o) ≡ None → first_failed (second_checks o) ≡ Some r → IsFault o r
+pub fails_second : (o : List ℕ) (r : Reason) → first_failed (first_checks o) ≡ None → first_failed (second_checks o) ≡ Some r → first_failed (checks o) ≡ Some r
 fails_second o r e1 e =
     let two = first_failed-append (first_checks o) (second_checks o) e1 ∙ e in
-    fault o r (first_failed_early (first_checks o ++ second_checks o ++ third_checks o) (footer_checks o) r (first_failed_early (first_checks o ++ second_checks o) (third_checks o) r two))
+    first_failed-front (first_checks o ++ second_checks o ++ third_checks o) (footer_checks o) r (first_failed-front (first_checks o ++ second_checks o) (third_checks o) r two)
 
-pub fails_third : (o : List ℕ) (r : Reason) → first_failed (first_checks o) ≡ None → first_failed (second_checks o) ≡ None → first_failed (third_checks o) ≡ Some r → IsFault o r
+pub fails_third : (o : List ℕ) (r : Reason) → first_failed (first_checks o) ≡ None → first_failed (second_checks o) ≡ None → first_failed (third_checks o) ≡ Some r → first_failed (checks o) ≡ Some r
 fails_third o r e1 e2 e =
     let three = first_failed-append (first_checks o ++ second_checks o) (third_checks o) (two_pass o e1 e2) ∙ e in
-    fault o r (first_failed_early (first_checks o ++ second_checks o ++ third_checks o) (footer_checks o) r three)
+    first_failed-front (first_checks o ++ second_checks o ++ third_checks o) (footer_checks o) r three
 
-pub fails_footer : (o : List ℕ) (r : Reason) → first_failed (first_checks o) ≡ None → first_failed (second_checks o) ≡ None → first_failed (third_checks o) ≡ None → first_failed (footer_checks o) ≡ Some r → IsFault o r
+pub fails_footer : (o : List ℕ) (r : Reason) → first_failed (first_checks o) ≡ None → first_failed (second_checks o) ≡ None → first_failed (third_checks o) ≡ None → first_failed (footer_checks o) ≡ Some r → first_failed (checks o) ≡ Some r
 fails_footer o r e1 e2 e3 e =
-    fault o r (first_failed-append (first_checks o ++ second_checks o ++ third_checks o) (footer_checks o) (three_pass o e1 e2 e3) ∙ e)
+    first_failed-append (first_checks o ++ second_checks o ++ third_checks o) (footer_checks o) (three_pass o e1 e2 e3) ∙ e
 
 -- behind those checks
 pub fails_later : (o : List ℕ) (r : Reason) → first_failed (checks o) ≡ None
@@ -99,30 +101,50 @@ pub length-types : (n : ℕ) (xs : List ℕ) → length (map type_in (sixes n xs
 length-types zero xs = refl
 length-types (suc n) xs = ap suc (length-types n (drop 6 xs))
 
-pub footer_stops : (o : List ℕ) (version : ℕ) (text : List ℕ) (e : ReadStop) → first_failed (checks o) ≡ None → version ≡ (content_in o).version → text ≡ footer_text o → StopsFooter version text e → StopsReading o e
-footer_stops o version text stop.Memory passes v-is t-is h = tt
-footer_stops o version text (stop.Bad r) passes v-is t-is h =
-    fails_later o r passes (inl (h.0, λ known. h.1 (subst (λ (t : List ℕ). IsFooterText version t) (sym t-is) (subst (λ v. IsFooterText v (footer_text o)) (sym v-is) known))))
+-- a text that the version's grammar doesn't have
+pub bad_footer : (o : List ℕ) (p : Parts) → first_failed (checks o) ≡ None → AreParts o p → ((version : ℕ) → IsFooterText version p.text.now → ⊥) → IsFault o reason.Footer
+bad_footer o p passes parts none =
+    fails_later o reason.Footer passes (inl (refl, λ known. none (content_in o).version (subst (λ (t : List ℕ). IsFooterText (content_in o).version t) (sym parts.text.is) known)))
+
+-- where the text ends, and the newline after it
+end_of : (o : List ℕ) (p : Parts) → AreParts o p → p.block.end + length p.text.now + 2 ≡ footer_place o + length (footer_text o) + 2
+end_of o p parts =
+    ap (λ n. n + length p.text.now + 2) parts.block.0.end ∙ ap (λ (t : List ℕ). footer_place o + length t + 2) parts.text.is
+
+known_text : (o : List ℕ) (p : Parts) → AreParts o p → ((version : ℕ) → IsFooterText version p.text.now) → IsFooterText (content_in o).version (footer_text o)
+known_text o p parts known = subst (λ (t : List ℕ). IsFooterText (content_in o).version t) parts.text.is (known (content_in o).version)
+
+pub trails : (o : List ℕ) (p : Parts) → first_failed (checks o) ≡ None → AreParts o p → ((version : ℕ) → IsFooterText version p.text.now) → (length o ≢ p.block.end + length p.text.now + 2) → IsFault o reason.TrailingBytes
+trails o p passes parts known longer =
+    fails_later o reason.TrailingBytes passes (inr (refl, known_text o p parts known, λ whole. longer (whole ∙ sym (end_of o p parts))))
 
 -- a text with a footer, or none for no text
-pub is_footer_text : (version : ℕ) (text : List ℕ) (footer : Option Footer) → IsFooterOf version text footer → IsFooterText version text
-is_footer_text version text footer h = elim h [ inl none ↦ inl none.1 | inr some ↦ inr (some.0, some.2) ]
+pub is_footer_text : (text : List ℕ) (footer : Option Footer) → ((version : ℕ) → IsFooterOf version text footer) → (version : ℕ) → IsFooterText version text
+is_footer_text text footer h version = elim (h version) [ inl none ↦ inl none.1 | inr some ↦ inr (some.0, some.2) ]
 
-pub trails : (o : List ℕ) (version : ℕ) (text : List ℕ) (end : ℕ) → first_failed (checks o) ≡ None → version ≡ (content_in o).version → text ≡ footer_text o → end ≡ footer_place o → IsFooterText version text → (length o ≡ end + length text + 2 → ⊥) → IsFault o reason.TrailingBytes
-trails o version text end passes v-is t-is e-is known longer =
-    let there = subst (λ v. IsFooterText v (footer_text o)) v-is (subst (λ (t : List ℕ). IsFooterText version t) t-is known) in
-    let same : end + length text + 2 ≡ footer_place o + length (footer_text o) + 2 = ap (λ n. n + length text + 2) e-is ∙ ap (λ (t : List ℕ). footer_place o + length t + 2) t-is in
-    fails_later o reason.TrailingBytes passes (inr (refl, there, λ whole. longer (whole ∙ sym same)))
+-- what the parts say, the octets do
+content_is : (o : List ℕ) (p : Parts) → AreParts o p → content_of p ≡ content_in o
+content_is o p parts =
+    ap (λ v. plain v (map type_in (sixes p.block.types p.block.records.now)) p.block.names.now p.text.now) parts.version
+    ∙ ap (λ (records : List (List ℕ)). plain (content_in o).version (map type_in records) p.block.names.now p.text.now) parts.block.0.records
+    ∙ ap (λ (n : List ℕ). plain (content_in o).version (map type_in (type_records o)) n p.text.now) parts.block.0.names
+    ∙ ap (plain (content_in o).version (map type_in (type_records o)) (names_in o)) parts.text.is
 
 -- what passes all of this is a file
-pub is_file : (o : List ℕ) (content : Content) (version : ℕ) (types : List LocalType) (names text : List ℕ) (end : ℕ) → content ≡ plain version types names text → version ≡ (content_in o).version
-    → types ≡ map type_in (type_records o) → names ≡ names_in o → text ≡ footer_text o → end ≡ footer_place o → first_failed (checks o) ≡ None → IsFooterText version text → length o ≡ end + length text + 2 → IsFile o content
-is_file o content version types names text end c-is v-is ts-is n-is t-is e-is passes known whole = record {
+pub is_file : (o : List ℕ) (p : Parts) → first_failed (checks o) ≡ None → AreParts o p → ((version : ℕ) → IsFooterText version p.text.now) → length o ≡ p.block.end + length p.text.now + 2 → IsFile o (content_of p)
+is_file o p passes parts known whole = record {
   passes = passes;
-  footer = subst (λ (k : Content). IsFooterText k.version k.text) (sym c-is) known;
-  whole = whole ∙ ap (λ n. n + length text + 2) e-is ∙ ap (λ (t : List ℕ). footer_place o + length t + 2) t-is;
-  says = c-is ∙ ap (λ v. plain v types names text) v-is ∙ ap (λ (ts : List LocalType). plain (content_in o).version ts names text) ts-is
-      ∙ ap (λ (n : List ℕ). plain (content_in o).version (map type_in (type_records o)) n text) n-is ∙ ap (plain (content_in o).version (map type_in (type_records o)) (names_in o)) t-is;
+  footer = known p.version;
+  whole = whole ∙ end_of o p parts;
+  says = content_is o p parts;
+}
+
+-- what is kept of it
+pub kept : (o : List ℕ) (p : Parts) (footer : Option Footer) → AreParts o p → ((version : ℕ) → IsFooterOf version p.text.now footer) → IsKept (content_of p) footer
+kept o p footer parts is = record {
+  footer_is = is p.version;
+  some_type = subst (λ n. 1 ≤ n) (sym (length-types p.block.types p.block.records.now)) parts.block.1;
+  types = types_kept p.block.names.now (sixes p.block.types p.block.records.now) p.block.indicators.now parts.types;
 }
 
 -- the laws
@@ -152,8 +174,11 @@ one_reason (Some first) Known Whole a b h k = h ∙ sym k
 pub fault_is_one : (o : List ℕ) (a b : Reason) → IsFault o a → IsFault o b → a ≡ b
 fault_is_one o a b h k = one_reason (first_failed (checks o)) (IsFooterText (content_in o).version (footer_text o)) (IsWhole o) a b h k
 
--- what is a file is read, unless memory was wanting
-pub reads_to : (o : List ℕ) (content : Content) (r : Result Zone ReadStop) → IfOk r (IsFile o) → IfErr r (StopsReading o) → IsFile o content → ReadsTo content r
-reads_to o content (Ok zone) ok err file = ok.says ∙ sym file.says
-reads_to o content (Err stop.Memory) ok err file = tt
-reads_to o content (Err (stop.Bad r)) ok err file = file_has_no_fault o content r file err
+no_reason : (o : List ℕ) (r : Option Reason) → IfSome r (IsFault o) → IsSomeFile o → IfSome r (λ _. ⊥)
+no_reason o None err file = tt
+no_reason o (Some r) err file = file_has_no_fault o file.0 r file.1 err
+
+-- what is refused is no file
+pub never : (o : List ℕ) (result : Result Zone ReadStop) → IfRefusal reason_of result (IsFault o) → IsSomeFile o → NeverRefuses reason_of result
+never o (Ok zone) err file = tt
+never o (Err stop) err file = no_reason o (reason_of stop) err file

@@ -7,6 +7,7 @@ use Rattle.std.specs.Int.{w32, cast_unsigned}
 use Rattle.std.specs.List.{flat_map}
 use Rattle.byteorder.specs.Endian.{big_bytes, big_number, twos_complement}
 use Rattle.byteorder.specs.Numbers.{big_from-bytes}
+use Rattle.zic_base.specs.declared.limit.TheConstants.{FARTHEST_FILE_OFFSET}
 use Rattle.zic_table.specs.declared.content.Change.{Change}
 use Rattle.zic_table.specs.declared.content.LocalType.{LocalType}
 use Rattle.zic_tzif.specs.Block.{type_in, sixes}
@@ -26,7 +27,7 @@ high n k fits sum =
     cond-false (ltb n (2 ^ 31)) (pos n) (pos n -ℤ pos (2 ^ 32)) (le-ltb n (2 ^ 31) fits) ∙ less
 
 -- an offset's four octets are the offset
-pub offset_again : (z : ℤ) (rest : List ℕ) → unsigned_abs z ≤ 93599 → twos_complement 4 (big_number 4 (big_bytes 4 (cast_unsigned w32 z) ++ rest)) ≡ z
+pub offset_again : (z : ℤ) (rest : List ℕ) → unsigned_abs z ≤ FARTHEST_FILE_OFFSET → twos_complement 4 (big_number 4 (big_bytes 4 (cast_unsigned w32 z) ++ rest)) ≡ z
 offset_again (pos n) rest fits = ap (twos_complement 4) (number_again n rest (omega arith)) ∙ low n (omega arith)
 offset_again (negsuc n) rest fits = ap (twos_complement 4) (number_again (2 ^ 32 - suc n) rest (omega arith)) ∙ high (2 ^ 32 - suc n) n (omega arith) (omega arith)
 
@@ -35,7 +36,7 @@ flag_again true = refl
 flag_again false = refl
 
 -- a type's six octets are the type
-pub type_again : (t : LocalType) → unsigned_abs t.offset ≤ 93599 → type_in (type_octets t) ≡ t
+pub type_again : (t : LocalType) → unsigned_abs t.offset ≤ FARTHEST_FILE_OFFSET → type_in (type_octets t) ≡ t
 type_again t fits =
     ap₂ (λ (o : ℤ) (d : Bool). record { offset = o; daylight = d; place = t.place }) (offset_again t.offset ((if t.daylight then 1 else 0) ∷ t.place ∷ []) fits) (flag_again t.daylight)
 

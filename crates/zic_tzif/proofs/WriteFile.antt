@@ -7,6 +7,8 @@ use Rattle.std.proofs.lemmas.List.Folds.{list_any-append}
 use Rattle.std.proofs.lemmas.List.Sums.{list_all-from_AllPass, position_or_len_is}
 use Rattle.std.specs.List.{list_all, list_any, before_first, position_or_len}
 use Rattle.std.specs.Str.{bytes_eq}
+use Rattle.zic_base.specs.Check.{first_failed}
+use Rattle.zic_base.specs.declared.limit.TheConstants.{FARTHEST_FILE_OFFSET, LONGEST_FILE}
 use Rattle.zic_table.specs.declared.content.Change.{Change}
 use Rattle.zic_table.specs.declared.content.LocalType.{LocalType}
 use Rattle.zic_table.specs.Content.{Content, IsLocalType, IsWritable}
@@ -15,7 +17,7 @@ use Rattle.zic_tzif.specs.declared.reason.Reason.{Reason}
 use Rattle.zic_tzif.specs.declared.reason.Reason.TheVariants as reason
 use Rattle.zic_tzif.specs.Header.{Counts, counts_at, second_header, second_block, second_counts, footer_place}
 use Rattle.zic_tzif.specs.Block.{type_in, type_records, names_in, indicators_in, behind_newline, footer_text, is_type_record}
-use Rattle.zic_tzif.specs.Reading.{first_failed, checks, content_in, IsWhole, IsFile}
+use Rattle.zic_tzif.specs.Reading.{checks, content_in, IsWhole, IsFile}
 use Rattle.zic_tzif.specs.Writing.{type_octets, written, WrittenIsFile}
 use Rattle.zic_tzif.proofs.WriteText.{IsOneLine, one_line}
 use Rattle.zic_tzif.proofs.WriteBlock.{offset_again, type_again}
@@ -48,10 +50,10 @@ flag_fits : (b : Bool) → nat_le (if b then 1 else 0) 1 ≡ true
 flag_fits true = refl
 flag_fits false = refl
 
-is_record : (t : LocalType) → unsigned_abs t.offset ≤ 93599 → is_type_record (type_octets t) ≡ true
+is_record : (t : LocalType) → unsigned_abs t.offset ≤ FARTHEST_FILE_OFFSET → is_type_record (type_octets t) ≡ true
 is_record t small =
     let again = offset_again t.offset ((if t.daylight then 1 else 0) ∷ t.place ∷ []) small in
-    and_from (nat_le (if t.daylight then 1 else 0) 1) (nat_le (unsigned_abs (type_in (type_octets t)).offset) 93599) (flag_fits t.daylight) (ap (λ z. nat_le (unsigned_abs z) 93599) again ∙ le-leb (unsigned_abs t.offset) 93599 small)
+    and_from (nat_le (if t.daylight then 1 else 0) 1) (nat_le (unsigned_abs (type_in (type_octets t)).offset) FARTHEST_FILE_OFFSET) (flag_fits t.daylight) (ap (λ z. nat_le (unsigned_abs z) FARTHEST_FILE_OFFSET) again ∙ le-leb (unsigned_abs t.offset) FARTHEST_FILE_OFFSET small)
 
 each_is_record : (names : List ℕ) (types : List LocalType) → All (IsLocalType names) types → list_all is_type_record (map type_octets types) ≡ true
 each_is_record names types each =
@@ -95,8 +97,8 @@ from_parts content version types names text v c t n x =
     ∙ ap (λ (a : List ℕ). record { version = version; changes = []; types = types; names = names; text = a }) x
 
 module _ (octets : List ℕ) (content : Content) (laid : IsLaid octets content) (fits : IsWritable content) where
-  small : nat_le (length octets) 1048576 ≡ true
-  small = le-leb (length octets) 1048576 (omega (arith, laid.size, fits.types_fit, fits.names_fit, fits.text_fits))
+  small : nat_le (length octets) LONGEST_FILE ≡ true
+  small = le-leb (length octets) LONGEST_FILE (omega (arith, laid.size, fits.types_fit, fits.names_fit, fits.text_fits))
 
   header_there : nat_le 44 (length octets) ≡ true
   header_there = le-leb 44 (length octets) (omega (arith, laid.size))

@@ -94,8 +94,8 @@ module _ (octets : List ℕ) (content : Content) (laid : IsLaid octets content) 
 
   pub footer_at : footer_place octets ≡ 95 + length content.types * 6 + length content.names
   footer_at =
-      let whole : 95 + block_length 8 (counts_of content) ≡ 95 + length content.types * 6 + length content.names = omega arith in
-      ap (λ (n : ℕ). n + 44 + block_length 8 (second_counts octets)) laid.second ∙ ap (λ (c : Counts). 95 + block_length 8 c) second_counts_are ∙ whole
+      let whole : 95 + block_length (counts_of content) 8 ≡ 95 + length content.types * 6 + length content.names = omega arith in
+      ap (λ (n : ℕ). n + 44 + block_length (second_counts octets) 8) laid.second ∙ ap (λ (c : Counts). 95 + block_length c 8) second_counts_are ∙ whole
 
   -- ---- what stands there
 

@@ -2,7 +2,8 @@
 use Rattle.std.proofs.Common.{◌≡◌, ◌≢◌, ℕ, ℤ, inl, inr, true, Bool, List, [], ◌∷◌, ◌++◌, IsTrue, All, sym, subst}
 use Rattle.std.proofs.lemmas.List.Elements.{All-append, All-cons, All-nil, All-weaker}
 use Rattle.zic_footer.specs.Footer.{TzString}
-use Rattle.zic_footer.specs.Grammar.{is_letter, is_digit, is_quoted_byte, SpellsName, SpellsNumber, SpellsClock, SpellsOffset, Spells}
+use Rattle.zic_base.specs.Byte.{is_abbreviation_byte}
+use Rattle.zic_footer.specs.Grammar.{is_letter, is_digit, SpellsName, SpellsNumber, SpellsClock, SpellsOffset, Spells}
 
 -- no byte of a text is a newline
 abbrev pub IsOneLine : List ℕ → Type 0
@@ -31,7 +32,7 @@ one_line_name text name spelled =
       | inl plain ↦ moved text name plain.0 (not_newline is_letter (λ e. cc) name plain.1)
       | inr quoted ↦
           moved text (60 ∷ (name ++ 62 ∷ [])) quoted.0
-          (beside 60 (λ e. cc) (name ++ 62 ∷ []) (joined name (62 ∷ []) (not_newline is_quoted_byte (λ e. cc) name quoted.1) (beside 62 (λ e. cc) [] none)))
+          (beside 60 (λ e. cc) (name ++ 62 ∷ []) (joined name (62 ∷ []) (not_newline is_abbreviation_byte (λ e. cc) name quoted.1) (beside 62 (λ e. cc) [] none)))
     ]
 
 one_line_number : (most : ℕ) (text : List ℕ) (n : ℕ) → SpellsNumber most text n → IsOneLine text

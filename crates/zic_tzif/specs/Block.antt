@@ -2,6 +2,7 @@
 use Rattle.std.specs.Prelude.{ℕ, zero, suc, ◌+◌, Bool, ◌&&◌, nat_le, ◌==◌, List, [], ◌∷◌, take, drop, slice_index, unsigned_abs}
 use Rattle.std.specs.List.{before_first}
 use Rattle.byteorder.specs.Endian.{big_number, twos_complement}
+use Rattle.zic_base.specs.declared.limit.TheConstants.{FARTHEST_FILE_OFFSET}
 use Rattle.zic_table.specs.declared.content.LocalType.{LocalType}
 use Rattle.zic_tzif.specs.Header.{second_counts, types_place, names_place, indicators_place, footer_place}
 
@@ -38,4 +39,4 @@ footer_text octets = before_first (λ b. b == 10) (behind_newline octets)
 
 -- a flag of 0 or 1, and an offset within 25:59:59 either way (own choice)
 abbrev pub is_type_record : List ℕ → Bool
-is_type_record octets = nat_le (slice_index octets 4) 1 && nat_le (unsigned_abs (type_in octets).offset) 93599
+is_type_record octets = nat_le (slice_index octets 4) 1 && nat_le (unsigned_abs (type_in octets).offset) FARTHEST_FILE_OFFSET

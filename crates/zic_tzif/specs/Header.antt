@@ -19,13 +19,13 @@ counts_at octets place = record {
 }
 
 -- how many octets a data block without leap seconds has, where a time has this many
-abbrev pub block_length : ℕ → Counts → ℕ
-block_length width c =
+abbrev pub block_length : Counts → ℕ → ℕ
+block_length c width =
     c.transitions * (width + 1) + c.types * 6 + c.characters + c.standard_indicators + c.ut_indicators
 
 -- where the second header begins, and where its data block does
 abbrev pub second_header : List ℕ → ℕ
-second_header octets = 44 + block_length 4 (counts_at octets 0)
+second_header octets = 44 + block_length (counts_at octets 0) 4
 
 abbrev pub second_block : List ℕ → ℕ
 second_block octets = second_header octets + 44
@@ -44,4 +44,4 @@ abbrev pub indicators_place : List ℕ → ℕ
 indicators_place octets = names_place octets + (second_counts octets).characters
 
 abbrev pub footer_place : List ℕ → ℕ
-footer_place octets = second_block octets + block_length 8 (second_counts octets)
+footer_place octets = second_block octets + block_length (second_counts octets) 8

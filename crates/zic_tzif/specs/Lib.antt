@@ -1,9 +1,8 @@
 pub mod Answer
 pub mod Block
+pub mod code
 pub mod Header
-pub mod Kept
 pub mod Laws
-pub mod Parts
 pub mod Reading
 pub mod Writing
 pub use Rattle.zic_footer.specs.Footer

@@ -1,12 +1,13 @@
 -- Which octets are a TZif file, and what it says: RFC 9636, 3. The order of the checks is an own choice.
-use Rattle.std.specs.Prelude.{◌≡◌, ℕ, ◌+◌, ◌-◌, Bool, ◌&&◌, ◌||◌, nat_lt, nat_le, ◌==◌, List, [], ◌∷◌, ◌++◌, map, length, take, drop, slice_index, Option, Some, None, Result, Ok, Err, MatchOption, if◌then◌else◌, ◌⊎◌}
+use Rattle.std.specs.Prelude.{◌≡◌, ℕ, ◌+◌, ◌-◌, Bool, ◌&&◌, ◌||◌, nat_lt, nat_le, ◌==◌, List, [], ◌∷◌, ◌++◌, map, length, take, drop, slice_index, Option, Some, None, MatchOption, ◌⊎◌}
 use Rattle.std.specs.List.{list_all, list_any}
 use Rattle.std.specs.Str.{bytes_eq}
+use Rattle.zic_base.specs.Check.{Check, check, first_failed}
+use Rattle.zic_base.specs.declared.limit.TheConstants.{LONGEST_FILE}
 use Rattle.zic_footer.specs.Footer.{TzString}
 use Rattle.zic_footer.specs.Grammar.{Spells}
 use Rattle.zic_table.specs.Content.{Content}
 use Rattle.zic_table.specs.Designation.{is_designated}
-use Rattle.zic_tzif.specs.declared.zone.Zone.{Zone}
 use Rattle.zic_tzif.specs.declared.reason.ReadStop.{ReadStop}
 use Rattle.zic_tzif.specs.declared.reason.ReadStop.TheVariants as stop
 use Rattle.zic_tzif.specs.declared.reason.Reason.{Reason}
@@ -14,25 +15,15 @@ use Rattle.zic_tzif.specs.declared.reason.Reason.TheVariants as reason
 use Rattle.zic_tzif.specs.Header.{Counts, counts_at, second_header, second_block, second_counts, footer_place}
 use Rattle.zic_tzif.specs.Block.{type_in, type_records, names_in, indicators_in, behind_newline, footer_text, is_type_record}
 
--- a check, and why octets that fail it are no file
-pub record Check : Type 0 where
-  pub passes : Bool
-  pub reason : Reason
-
--- the reason of the first check that fails
-abbrev pub first_failed : List Check → Option Reason
-first_failed [] = None
-first_failed (c ∷ cs) = if c.passes then first_failed cs else Some c.reason
-
 -- the checks of the first header, and that its data block, which isn't looked at, and a second header are there
-abbrev pub first_checks : List ℕ → List Check
+abbrev pub first_checks : List ℕ → List (Check Reason)
 first_checks octets =
-    record { passes = nat_le (length octets) 1048576; reason = reason.TooLarge }
-    ∷ record { passes = nat_le 44 (length octets); reason = reason.Short }
-    ∷ record { passes = bytes_eq (take 4 octets) (84 ∷ 90 ∷ 105 ∷ 102 ∷ []); reason = reason.Magic }
-    ∷ record { passes = (slice_index octets 4 == 50) || (slice_index octets 4 == 51); reason = reason.Version }
-    ∷ record { passes = (counts_at octets 0).leap_seconds == 0; reason = reason.LeapSeconds }
-    ∷ record { passes = nat_le (second_block octets) (length octets); reason = reason.Short }
+    check (nat_le (length octets) LONGEST_FILE) reason.TooLarge
+    ∷ check (nat_le 44 (length octets)) reason.Short
+    ∷ check (bytes_eq (take 4 octets) (84 ∷ 90 ∷ 105 ∷ 102 ∷ [])) reason.Magic
+    ∷ check ((slice_index octets 4 == 50) || (slice_index octets 4 == 51)) reason.Version
+    ∷ check ((counts_at octets 0).leap_seconds == 0) reason.LeapSeconds
+    ∷ check (nat_le (second_block octets) (length octets)) reason.Short
     ∷ []
 
 -- There is a type and a designation, and an indicator for no type or for each. While no transitions are read, their number is 0.
@@ -42,32 +33,32 @@ are_counts c =
     && ((c.ut_indicators == 0) || (c.ut_indicators == c.types)) && (c.transitions == 0)
 
 -- the checks of the second header, and that its data block is there
-abbrev pub second_checks : List ℕ → List Check
+abbrev pub second_checks : List ℕ → List (Check Reason)
 second_checks octets =
-    record { passes = bytes_eq (take 5 (drop (second_header octets) octets)) (take 5 octets); reason = reason.HeadersDiffer }
-    ∷ record { passes = are_counts (second_counts octets); reason = reason.Counts }
-    ∷ record { passes = (second_counts octets).leap_seconds == 0; reason = reason.LeapSeconds }
-    ∷ record { passes = nat_le (footer_place octets) (length octets); reason = reason.Short }
+    check (bytes_eq (take 5 (drop (second_header octets) octets)) (take 5 octets)) reason.HeadersDiffer
+    ∷ check (are_counts (second_counts octets)) reason.Counts
+    ∷ check ((second_counts octets).leap_seconds == 0) reason.LeapSeconds
+    ∷ check (nat_le (footer_place octets) (length octets)) reason.Short
     ∷ []
 
 -- the checks of the second data block, by its designations, the octets of each type, and its indicators
-abbrev pub block_checks : List ℕ → List (List ℕ) → List ℕ → List Check
+abbrev pub block_checks : List ℕ → List (List ℕ) → List ℕ → List (Check Reason)
 block_checks names records indicators =
-    record { passes = list_all (λ r. is_designated names (type_in r).place) records; reason = reason.Designation }
-    ∷ record { passes = list_all is_type_record records; reason = reason.TypeRecord }
-    ∷ record { passes = list_all (λ b. nat_le b 1) indicators; reason = reason.Indicators }
+    check (list_all (λ r. is_designated names (type_in r).place) records) reason.Designation
+    ∷ check (list_all is_type_record records) reason.TypeRecord
+    ∷ check (list_all (λ b. nat_le b 1) indicators) reason.Indicators
     ∷ []
 
 -- the checks of the newlines round the footer's text
-abbrev pub footer_checks : List ℕ → List Check
+abbrev pub footer_checks : List ℕ → List (Check Reason)
 footer_checks octets =
-    record { passes = nat_lt (footer_place octets) (length octets); reason = reason.Short }
-    ∷ record { passes = slice_index octets (footer_place octets) == 10; reason = reason.Footer }
-    ∷ record { passes = list_any (λ b. b == 10) (behind_newline octets); reason = reason.Short }
+    check (nat_lt (footer_place octets) (length octets)) reason.Short
+    ∷ check (slice_index octets (footer_place octets) == 10) reason.Footer
+    ∷ check (list_any (λ b. b == 10) (behind_newline octets)) reason.Short
     ∷ []
 
 -- the checks up to the second newline, in order
-abbrev pub checks : List ℕ → List Check
+abbrev pub checks : List ℕ → List (Check Reason)
 checks octets =
     first_checks octets ++ second_checks octets
     ++ block_checks (names_in octets) (type_records octets) (indicators_in octets) ++ footer_checks octets
@@ -104,13 +95,11 @@ IsFault octets r = MatchOption (first_failed (checks octets))
     ⊎ ((r ≡ reason.TrailingBytes) × IsFooterText (content_in octets).version (footer_text octets) × (IsWhole octets → ⊥)))
     (λ first. r ≡ first)
 
--- why octets are not read; of want of memory nothing is said
-abbrev pub StopsReading : List ℕ → ReadStop → Type 0
-StopsReading octets stop.Memory = Unit {0}
-StopsReading octets (stop.Bad r) = IsFault octets r
+-- the octets are a file
+abbrev pub IsSomeFile : List ℕ → Type 0
+IsSomeFile octets = (content : Content) × IsFile octets content
 
--- this content, unless memory was wanting
-abbrev pub ReadsTo : Content → Result Zone ReadStop → Type 0
-ReadsTo content (Ok read) = read ≡ content
-ReadsTo content (Err stop.Memory) = Unit {0}
-ReadsTo content (Err (stop.Bad r)) = ⊥
+-- the reason that a reader tells, and nothing where it is want of memory
+abbrev pub reason_of : ReadStop → Option Reason
+reason_of (stop.Bad reason) = Some reason
+reason_of stop.Memory = None

@@ -26,14 +26,14 @@ pub struct DataBlock<'a> {
 impl<'a> DataBlock<'a> {
     ghost use Rattle.zic_tzif.specs.Block.{sixes};
     ghost use Rattle.zic_tzif.specs.Header.{block_length, second_block, second_counts};
-    ghost use Rattle.zic_tzif.specs.Parts.{Checks, HasParts};
+    ghost use Rattle.zic_tzif.specs.code.Parts.{Checks, HasParts};
     ghost use Rattle.zic_tzif.specs.Reading.{block_checks};
 
     /// The second data block, which begins at `place`.
     pub fn second(octets: &'a [u8], place: usize, counts: Counts) -> Self
         requires place { place ≡ second_block octets.now }
         requires counts { counts ≡ second_counts octets.now }
-        requires inside { place + block_length 8 counts ≤ length octets.now }
+        requires inside { place + block_length counts 8 ≤ length octets.now }
         ensures { HasParts octets.now result }
     {
         let types = counts.types;

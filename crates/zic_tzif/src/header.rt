@@ -39,7 +39,7 @@ impl Counts {
     /// How many octets a data block without leap seconds has, where a time has `width`.
     pub fn block_length(self, width: usize) -> usize
         requires { width ≤ 8 }
-        ensures { result ≡ block_length width self }
+        ensures { result ≡ block_length self width }
     {
         self.transitions as usize * (width + 1)
             + self.types as usize * 6

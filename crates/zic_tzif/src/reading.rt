@@ -1,11 +1,11 @@
 //! Octets in.
 
-ghost use Rattle.std.specs.Prelude.{◌≡◌, ◌+◌, ◌≤◌, ◌⊎◌, length, take, drop, IfOk, IfErr};
-ghost use Rattle.zic_table.specs.Content.{Content};
+ghost use Rattle.std.specs.Prelude.{◌≡◌, ◌≢◌, ℕ, ◌+◌, ◌≤◌, length, take, drop, IfOk, OnOk, IfErr};
+ghost use Rattle.zic_base.specs.Memory.{IfRefusal, NeverRefuses, OnWantOfMemory};
 ghost use Rattle.zic_tzif.specs.Header.{second_header, footer_place};
-ghost use Rattle.zic_tzif.specs.Kept.{IsFooterOf};
-ghost use Rattle.zic_tzif.specs.Parts.{Checks, IsFirstPart, IsBlock, IsText, StopsFooter};
-ghost use Rattle.zic_tzif.specs.Reading.{first_checks, second_checks, footer_checks, IsFile, ReadsTo, StopsReading};
+ghost use Rattle.zic_tzif.specs.Reading.{first_checks, second_checks, footer_checks, checks, IsFooterText, IsFile, IsSomeFile, IsFault, reason_of};
+ghost use Rattle.zic_tzif.specs.code.Kept.{IsFooterOf, IsKept};
+ghost use Rattle.zic_tzif.specs.code.Parts.{Checks, IsFirstPart, IsBlock, IsText, AreParts, content_of};
 
 use crate::data_block::DataBlock;
 use crate::designation::place_of;
@@ -13,11 +13,9 @@ use crate::header::{HEADER_LENGTH, counts_at};
 use crate::reason::{ReadStop, Reason};
 use crate::type_record::local_types;
 use crate::zone::Zone;
-use std::alloc::Global;
+use std::alloc::{AllocError, Global};
+use zic_base::LONGEST_FILE;
 use zic_footer::{Footer, ParseStop, parse};
-
-/// The greatest length of a file that is read, in octets.
-const MAX_LENGTH: usize = 1_048_576;
 
 /// What a header begins with.
 const MAGIC: &[u8] = b"TZif";
@@ -31,11 +29,22 @@ pub struct FirstPart {
     pub second_header: usize,
 }
 
+/// What passes all checks up to the footer's newlines.
+#[derive(Clone, Copy)]
+pub struct Parts<'a> {
+    /// The version, 2 or 3.
+    pub version: u8,
+    /// The second data block.
+    pub block: DataBlock<'a>,
+    /// The footer's text.
+    pub text: &'a [u8],
+}
+
 /// Checks the first header, and that its data block and a second header are there.
 fn first_part(octets: &[u8]) -> Result<FirstPart, Reason>
     ensures { Checks (first_checks octets.now) (IsFirstPart octets.now) result }
 {
-    if octets.len() > MAX_LENGTH {
+    if octets.len() > LONGEST_FILE {
         return Err(Reason::TooLarge);
     }
     if octets.len() < HEADER_LENGTH {
@@ -112,52 +121,84 @@ fn footer_text(octets: &[u8], place: usize) -> Result<&[u8], Reason>
     }
 }
 
+/// The parts of a file, by all checks up to the footer's newlines.
+fn parts_of(octets: &[u8]) -> Result<Parts<'_>, Reason>
+    ensures { Checks (checks octets.now) (AreParts octets.now) result }
+{
+    let first = first_part(octets)?;
+    let block = second_part(octets, first.second_header)?;
+    block.check()?;
+    let text = footer_text(octets, block.end)?;
+    Ok(Parts {
+        version: first.version,
+        block,
+        text,
+    })
+}
+
 /// The footer of a text, or `None` for no text.
-fn footer_of(alloc: Global, text: &[u8], version: u8) -> Result<Option<Footer>, ReadStop>
-    requires { (version ≡ 2) ⊎ (version ≡ 3) }
-    ensures ok { IfOk result (IsFooterOf version text.now) }
-    ensures err { IfErr result (StopsFooter version text.now) }
+fn footer_of(alloc: Global, text: &[u8]) -> Result<Option<Footer>, ReadStop>
+    ensures ok { IfOk result (λ footer. (version : ℕ) → IsFooterOf version text.now footer) }
+    ensures err { IfRefusal reason_of result
+        (λ reason. (reason ≡ Reason.Footer) × ((version : ℕ) → IsFooterText version text.now → ⊥)) }
+    ensures memory { OnWantOfMemory reason_of result ((version : ℕ) → IsFooterText version text.now) }
 {
     if text.is_empty() {
         return Ok(None);
     }
-    match parse(alloc, text, version) {
+    match parse(alloc, text) {
         Ok(footer) => Ok(Some(footer)),
         Err(ParseStop::BadFooter) => Err(ReadStop::Bad(Reason::Footer)),
         Err(ParseStop::Memory) => Err(ReadStop::Memory),
     }
 }
 
+/// Checks that the octets end here.
+fn check_end(octets: &[u8], end: usize) -> Result<(), Reason>
+    ensures ok { OnOk result (length octets.now ≡ end) }
+    ensures err { IfErr result (λ reason. (reason ≡ Reason.TrailingBytes) × (length octets.now ≢ end)) }
+{
+    if octets.len() != end {
+        return Err(Reason::TrailingBytes);
+    }
+    Ok(())
+}
+
+/// A zone of these parts and the footer of their text.
+fn zone_of(alloc: Global, parts: Parts<'_>, footer: Option<Footer>) -> Result<Zone, AllocError>
+    requires { IsKept (content_of parts) footer }
+    ensures { IfOk result (λ zone. zone ≡ content_of parts.entry) }
+{
+    let types = local_types(alloc, parts.block.types, parts.block.records)?;
+    let names = Vec::from_slice(alloc, parts.block.names)?;
+    let text = Vec::from_slice(alloc, parts.text)?;
+    Ok(Zone::new(parts.version, types, names, text, footer))
+}
+
 /// Reads a TZif file of version 2 or 3 of at most 1,048,576 octets, or tells the first check that it fails.
 ///
 /// The first data block and the reserved octets aren't looked at. Until transitions are read, a
 /// file with one is `Counts`, and until footers with a daylight part are read, a file with one is
-/// `Footer`. `Memory` only where a growth was refused.
+/// `Footer`. `Memory` only for octets that are a file.
 pub fn read(alloc: Global, octets: &[u8]) -> Result<Zone, ReadStop>
     ensures ok { IfOk result (IsFile octets.now) }
-    ensures only { (content : Content) → IsFile octets.now content → ReadsTo content result }
-    ensures err { IfErr result (StopsReading octets.now) }
+    ensures only { IsSomeFile octets.now → NeverRefuses reason_of result }
+    ensures err { IfRefusal reason_of result (IsFault octets.now) }
+    ensures memory { OnWantOfMemory reason_of result (IsSomeFile octets.now) }
 {
-    read_zone(alloc, octets)
-}
-
-/// The zone of a file, or the first check that octets fail.
-fn read_zone(alloc: Global, octets: &[u8]) -> Result<Zone, ReadStop>
-    ensures ok { IfOk result (IsFile octets.now) }
-    ensures err { IfErr result (StopsReading octets.now) }
-{
-    let first = first_part(octets)?;
-    let block = second_part(octets, first.second_header)?;
-    block.check()?;
-    let text = footer_text(octets, block.end)?;
-    let footer = footer_of(alloc, text, first.version)?;
-    if octets.len() != block.end + text.len() + 2 {
-        return Err(ReadStop::Bad(Reason::TrailingBytes));
+    let parts = parts_of(octets)?;
+    let end = parts.block.end + parts.text.len() + 2;
+    match footer_of(alloc, parts.text) {
+        Ok(footer) => {
+            check_end(octets, end)?;
+            Ok(zone_of(alloc, parts, footer)?)
+        }
+        Err(ReadStop::Bad(reason)) => Err(ReadStop::Bad(reason)),
+        Err(ReadStop::Memory) => {
+            check_end(octets, end)?;
+            Err(ReadStop::Memory)
+        }
     }
-    let types = local_types(alloc, block.types, block.records)?;
-    let names = Vec::from_slice(alloc, block.names)?;
-    let text = Vec::from_slice(alloc, text)?;
-    Ok(Zone::new(first.version, types, names, text, footer))
 }
 
 #[cfg(test)]

@@ -8,13 +8,11 @@ ghost use Rattle.zic_tzif.specs.Block.{sixes, type_in, is_type_record};
 use crate::designation::is_designated;
 use byteorder::{BigEndian, ByteOrder};
 use std::alloc::{AllocError, Global};
+use zic_base::FARTHEST_FILE_OFFSET;
 use zic_table::LocalType;
 
 /// How many octets a record has.
 pub const RECORD_LENGTH: usize = 6;
-
-/// The greatest offset either way, 25:59:59, in seconds.
-const MAX_OFFSET: u32 = 93_599;
 
 /// The local time type of a record.
 fn local_type(octets: &[u8]) -> LocalType
@@ -33,7 +31,7 @@ fn is_type_record(octets: &[u8]) -> bool
     requires { 6 ≤ length octets.now }
     ensures { result ≡ is_type_record octets.now }
 {
-    octets[4] <= 1 && BigEndian::read_i32(octets).unsigned_abs() <= MAX_OFFSET
+    octets[4] <= 1 && BigEndian::read_i32(octets).unsigned_abs() <= FARTHEST_FILE_OFFSET
 }
 
 /// Whether each of so many records has a designation.

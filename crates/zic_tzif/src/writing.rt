@@ -2,6 +2,7 @@
 
 ghost use Rattle.std.specs.Prelude.{◌≡◌, ◌≤◌, ◌++◌, length, map, OnOk, IfOk};
 ghost use Rattle.std.specs.List.{flat_map};
+ghost use Rattle.zic_table.specs.Content.{IsWritable};
 ghost use Rattle.zic_tzif.specs.Reading.{IsFile};
 ghost use Rattle.zic_tzif.specs.Writing.{header, time_octets, type_octets, written, WrittenIsFile};
 
@@ -48,9 +49,9 @@ const FIRST_BLOCK: [u8; 7] = [0; 7];
 
 /// The number of octets of a table's file.
 fn file_length(t: &Table) -> usize
+    requires { IsWritable t.now }
     ensures { result ≡ length (written t.now) }
 {
-    let _version = t.version();
     let front = HEADER_LENGTH + FIRST_BLOCK.len() + HEADER_LENGTH;
     let block = t.changes().len() * 9 + t.types().len() * 6 + t.names().len();
     front + block + 1 + t.footer_text().len() + 1

@@ -23,7 +23,7 @@ impl Model for Zone {
 
     ghost Value = { Content };
 
-    ghost use Rattle.zic_tzif.specs.Kept.{IsKept, plain};
+    ghost use Rattle.zic_tzif.specs.code.Kept.{IsKept, plain};
 
     ghost view = { λ z. plain z.version z.types.items z.names.items z.text.items };
 
@@ -43,7 +43,7 @@ impl Zone {
     ghost use Rattle.std.specs.Prelude.{slice_get, IsSomeAnd};
     ghost use Rattle.zic_rules.specs.State.{shown};
     ghost use Rattle.zic_tzif.specs.Answer.{Answers, type_state};
-    ghost use Rattle.zic_tzif.specs.Kept.{IsKept, plain};
+    ghost use Rattle.zic_tzif.specs.code.Kept.{IsKept, plain};
 
     /// A zone of these parts, with the footer of the text.
     pub(crate) fn new(
@@ -87,7 +87,7 @@ impl Zone {
         ensures { Answers self.now t result }
     {
         Answer::Known(match &self.footer {
-            Some(footer) => footer.state(t),
+            Some(footer) => footer.state(),
             None => self.first_state(),
         })
     }

@@ -1,27 +1,29 @@
 //! The table of a zone.
 
-ghost use Rattle.std.specs.Prelude.{◌≡◌, ◌∷◌, [], ◌++◌, IfOk, IfErr};
+ghost use Rattle.std.specs.Prelude.{◌≡◌, ◌∷◌, [], ◌++◌, IfOk};
+ghost use Rattle.zic_base.specs.Fault.{fault_of};
+ghost use Rattle.zic_base.specs.Memory.{NeverRefuses};
 ghost use Rattle.zic_footer.specs.Grammar.{Spells};
 ghost use Rattle.zic_footer.specs.Making.{IsMade};
 ghost use Rattle.zic_table.specs.Content.{IsWritable};
 ghost use Rattle.zic_table.specs.Image.{IsContentOf};
-ghost use Rattle.zic_table.specs.Stop.{StopsTable};
 
 use super::{LocalType, Table};
 use std::alloc::{AllocError, Global};
+use zic_base::Stop;
 use zic_footer::{Footer, print};
 use zic_rules::{State, Timeline};
-use zic_source::{Place, Stop};
 
-/// The table of a zone, whose Zone line stands at `zone_place`, with the footer that was made for it.
-pub fn table(alloc: Global, zone_place: Place, t: &Timeline<'_>, f: &Footer) -> Result<Table, Stop>
+/// The table of a zone, with the footer that was made for it.
+///
+/// While zones have no rules, no limit of a table can be passed, and only want of memory stops it.
+pub fn table(alloc: Global, t: &Timeline<'_>, f: &Footer) -> Result<Table, Stop>
     requires { IsMade t.now f.now }
     ensures ok { IfOk result (IsContentOf t.now f.now) }
     ensures spells { IfOk result (λ content. Spells content.version content.text f.now) }
     ensures writable { IfOk result IsWritable }
-    ensures err { IfErr result (StopsTable t.now zone_place) }
+    ensures only { NeverRefuses fault_of result }
 {
-    let _no_fault_at = zone_place;
     let first = t.first();
     let names = ended(alloc, first.name)?;
     let types = only_type(alloc, first)?;

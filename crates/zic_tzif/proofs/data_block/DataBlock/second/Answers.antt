@@ -16,5 +16,5 @@ returns c =
       records = records_cut o c.args.counts c.split_at.result.1.now c.split_at-2.result.0.now c-is types c.split_at-2.ensures.front;
       names = names_cut o c.args.counts c.split_at-2.result.1.now c.split_at-3.result.0.now c-is names c.split_at-3.ensures.front;
       indicators = indicators_cut o c.args.counts c.split_at-3.result.1.now c.split_at-4.result.0.now c-is indicators c.split_at-4.ensures.front;
-      end = ap (λ n. n + c.block_length.result) p-is ∙ ap (λ n. second_block o + n) (c.block_length.ensures ∙ ap (block_length 8) c-is);
+      end = ap (λ n. n + c.block_length.result) p-is ∙ ap (λ n. second_block o + n) (c.block_length.ensures ∙ ap (λ (d : Counts). block_length d 8) c-is);
     }

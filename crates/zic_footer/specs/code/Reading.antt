@@ -1,24 +1,22 @@
 -- Reading a POSIX TZ string from left to right, by the grammar: each part, and the text that stands after it.
-use Rattle.std.specs.Prelude.{◌≡◌, ℕ, ◌+◌, ◌-◌, ◌*◌, ℤ, pos, neg_ℤ, nat_le, ◌==◌, if◌then◌else◌, Option, Some, None, option_and_then, List, [], ◌∷◌, length, take, drop}
+use Rattle.std.specs.Prelude.{◌≡◌, ℕ, ◌+◌, ◌-◌, ◌*◌, ℤ, pos, neg_ℤ, nat_le, ◌==◌, if◌then◌else◌, Option, Some, None, List, [], ◌∷◌, length, take, drop}
 use Rattle.std.specs.List.{prefix_len}
 use Rattle.zic_footer.specs.Footer.{TzString, constant}
-use Rattle.zic_footer.specs.Grammar.{is_letter, is_digit, is_quoted_byte}
-
--- the next step, where this one gave a value
-infixl 10 ◌>>=◌
-abbrev pub ◌>>=◌ : {A B : Type 0} → Option A → (A → Option B) → Option B
-o >>= f = option_and_then f o
+use Rattle.zic_base.specs.Byte.{is_abbreviation_byte}
+use Rattle.zic_base.specs.Option.{◌>>=◌}
+use Rattle.zic_footer.specs.declared.parsing.TheConstants.{SHORTEST_NAME, MOST_HOURS, MOST_MINUTES_OR_SECONDS}
+use Rattle.zic_footer.specs.Grammar.{is_letter, is_digit}
 
 -- what a function returned, without where it lies in memory, is what is read
-abbrev pub Gives : {X Y : Type 0} → (X → Y) → Option X → Option Y → Type 0
-Gives view None read = read ≡ None
-Gives view (Some x) read = read ≡ Some (view x)
+abbrev pub Reads : {X Y : Type 0} → (X → Y) → Option X → Option Y → Type 0
+Reads view None read = read ≡ None
+Reads view (Some x) read = read ≡ Some (view x)
 
 -- all letters at the start, three or more
 unfoldable pub plain_name_at : List ℕ → Option (List ℕ × List ℕ)
 plain_name_at text =
     let n = prefix_len is_letter text in
-    if nat_le 3 n then Some (take n text, drop n text) else None
+    if nat_le SHORTEST_NAME n then Some (take n text, drop n text) else None
 
 -- a name before a `>`
 abbrev pub closed_name : List ℕ → List ℕ → Option (List ℕ × List ℕ)
@@ -28,8 +26,8 @@ closed_name name (b ∷ rest) = if b == 62 then Some (name, rest) else None
 -- all quoted bytes at the start, three or more, and a `>`
 unfoldable pub quoted_name_at : List ℕ → Option (List ℕ × List ℕ)
 quoted_name_at text =
-    let n = prefix_len is_quoted_byte text in
-    if nat_le 3 n then closed_name (take n text) (drop n text) else None
+    let n = prefix_len is_abbreviation_byte text in
+    if nat_le SHORTEST_NAME n then closed_name (take n text) (drop n text) else None
 
 -- a name
 unfoldable pub name_at : List ℕ → Option (List ℕ × List ℕ)
@@ -52,12 +50,12 @@ number_at most text = do
 -- minutes or seconds behind a colon, or 0 where there is no colon
 unfoldable pub part_at : List ℕ → Option (ℕ × List ℕ)
 part_at [] = Some (0, [])
-part_at (b ∷ rest) = if b == 58 then number_at 59 rest else Some (0, b ∷ rest)
+part_at (b ∷ rest) = if b == 58 then number_at MOST_MINUTES_OR_SECONDS rest else Some (0, b ∷ rest)
 
 -- hours, minutes and seconds, as seconds
 unfoldable pub clock_at : List ℕ → Option (ℕ × List ℕ)
 clock_at text = do
-  h ← number_at 24 text
+  h ← number_at MOST_HOURS text
   m ← part_at h.1
   s ← part_at m.1
   Some (h.0 * 3600 + m.0 * 60 + s.0, s.1)
