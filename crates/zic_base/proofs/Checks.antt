@@ -1,22 +1,53 @@
--- The first that fails, of two lists of checks.
-use Rattle.std.proofs.Common.{◌≡◌, Bool, true, false, cond, List, [], ◌∷◌, ◌++◌, Option, Some, None, refl}
-use Rattle.zic_base.specs.Check.{Check, first_failed}
+-- Checks in order: where none fails, and which is the first that fails.
+use Rattle.std.proofs.Common.{◌≡◌, Bool, true, false, ◌⊎◌, List, [], ◌∷◌, ◌++◌, Some, None, refl, inl, inr}
+use Rattle.zic_base.specs.Check.{Check, check, first_failed}
 
--- one check, before others
-passed : {Reason : Type 0} (passes : Bool) (reason : Reason) (front both back : Option Reason) → (front ≡ None → both ≡ back) → cond passes front (Some reason) ≡ None → cond passes both (Some reason) ≡ back
-passed true reason front both back h e = h e
-passed false reason front both back h e = absurd cc
+module _ {Reason : Type 0} where
+  -- a check passes, and so do those after it, where none fails
+  pub passes : (b : Bool) (reason : Reason) (cs : List (Check Reason)) → first_failed (check b reason ∷ cs) ≡ None → (b ≡ true) × (first_failed cs ≡ None)
+  passes true reason cs e = (refl, e)
+  passes false reason cs e = absurd cc
 
-stopped : {Reason : Type 0} (passes : Bool) (here : Reason) (front both : Option Reason) (reason : Reason) → (front ≡ Some reason → both ≡ Some reason) → cond passes front (Some here) ≡ Some reason → cond passes both (Some here) ≡ Some reason
-stopped true here front both reason h e = h e
-stopped false here front both reason h e = e
+  -- each check passes
+  abbrev pub EachPasses : List (Check Reason) → Type 0
+  EachPasses [] = Unit {0}
+  EachPasses (c ∷ cs) = (c.passes ≡ true) × EachPasses cs
 
--- where all of the front pass, the back decides
-pub first_failed-append : {Reason : Type 0} (front back : List (Check Reason)) → first_failed front ≡ None → first_failed (front ++ back) ≡ first_failed back
-first_failed-append [] back e = refl
-first_failed-append (c ∷ cs) back e = passed c.passes c.reason (first_failed cs) (first_failed (cs ++ back)) (first_failed back) (first_failed-append cs back) e
+  -- none fails where each passes, and only there
+  pub each_passes : (cs : List (Check Reason)) → first_failed cs ≡ None → EachPasses cs
+  each_passes [] e = tt
+  each_passes (c ∷ cs) e = let p = passes c.passes c.reason cs e in (p.0, each_passes cs p.1)
 
--- where one of the front fails, it decides
-pub first_failed-front : {Reason : Type 0} (front back : List (Check Reason)) (reason : Reason) → first_failed front ≡ Some reason → first_failed (front ++ back) ≡ Some reason
-first_failed-front [] back reason e = absurd cc
-first_failed-front (c ∷ cs) back reason e = stopped c.passes c.reason (first_failed cs) (first_failed (cs ++ back)) reason (first_failed-front cs back reason) e
+  pub none_fails : (cs : List (Check Reason)) → EachPasses cs → first_failed cs ≡ None
+  none_fails [] all = refl
+  none_fails (c ∷ cs) all = rw all.0 (none_fails cs all.1)
+
+  -- either all pass, or one is the first that fails
+  pub first_failed-cases : (cs : List (Check Reason)) → (first_failed cs ≡ None) ⊎ ((reason : Reason) × (first_failed cs ≡ Some reason))
+  first_failed-cases cs = elim (first_failed cs) as (λ o. (o ≡ None) ⊎ ((reason : Reason) × (o ≡ Some reason))) [
+    | None ↦ inl refl
+    | Some reason ↦ inr (reason, refl)
+  ]
+
+  -- where the first checks pass, those that follow decide
+  pub first_failed-append : (cs ds : List (Check Reason)) → first_failed cs ≡ None → first_failed (cs ++ ds) ≡ first_failed ds
+  first_failed-append [] ds e = refl
+  first_failed-append (c ∷ cs) ds e =
+      let p = passes c.passes c.reason cs e in
+      rw p.0 (first_failed-append cs ds p.1)
+
+  -- what fails the first checks fails all
+  pub first_failed-stops : (cs ds : List (Check Reason)) (reason : Reason) → first_failed cs ≡ Some reason → first_failed (cs ++ ds) ≡ Some reason
+  first_failed-stops [] ds reason e = absurd cc
+  first_failed-stops (c ∷ cs) ds reason e = elim c.passes as (λ b. first_failed (check b c.reason ∷ cs) ≡ Some reason → first_failed (check b c.reason ∷ (cs ++ ds)) ≡ Some reason) [
+    | true ↦ λ first. first_failed-stops cs ds reason first
+    | false ↦ λ first. first
+  ] e
+
+  -- where none of all fails, none of the first and none of the others does
+  pub first_failed-both : (cs ds : List (Check Reason)) → first_failed (cs ++ ds) ≡ None → (first_failed cs ≡ None) × (first_failed ds ≡ None)
+  first_failed-both [] ds e = (refl, e)
+  first_failed-both (c ∷ cs) ds e =
+      let p = passes c.passes c.reason (cs ++ ds) e in
+      let others = first_failed-both cs ds p.1 in
+      (rw p.0 others.0, others.1)

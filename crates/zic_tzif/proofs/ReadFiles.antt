@@ -6,7 +6,7 @@ use Rattle.std.proofs.lemmas.Bool.{and_parts, leb-true}
 use Rattle.std.proofs.lemmas.List.Elements.{All-nil, All-cons}
 use Rattle.zic_base.specs.Check.{Check, first_failed}
 use Rattle.zic_base.specs.Memory.{IfRefusal, NeverRefuses}
-use Rattle.zic_base.proofs.Checks.{first_failed-append, first_failed-front}
+use Rattle.zic_base.proofs.Checks.{first_failed-append, first_failed-stops}
 use Rattle.zic_table.specs.Content.{Content, IsLocalType}
 use Rattle.zic_table.specs.Designation.{is_designated}
 use Rattle.zic_tzif.specs.declared.data_block.DataBlock.{DataBlock}
@@ -50,17 +50,17 @@ fault o r e = at_some (first_failed (checks o)) r _ e
 -- the first check that fails, by its group
 pub fails_first : (o : List ℕ) (r : Reason) → first_failed (first_checks o) ≡ Some r → first_failed (checks o) ≡ Some r
 fails_first o r e =
-    first_failed-front (first_checks o ++ second_checks o ++ third_checks o) (footer_checks o) r (first_failed-front (first_checks o ++ second_checks o) (third_checks o) r (first_failed-front (first_checks o) (second_checks o) r e))
+    first_failed-stops (first_checks o ++ second_checks o ++ third_checks o) (footer_checks o) r (first_failed-stops (first_checks o ++ second_checks o) (third_checks o) r (first_failed-stops (first_checks o) (second_checks o) r e))
 
 pub fails_second : (o : List ℕ) (r : Reason) → first_failed (first_checks o) ≡ None → first_failed (second_checks o) ≡ Some r → first_failed (checks o) ≡ Some r
 fails_second o r e1 e =
     let two = first_failed-append (first_checks o) (second_checks o) e1 ∙ e in
-    first_failed-front (first_checks o ++ second_checks o ++ third_checks o) (footer_checks o) r (first_failed-front (first_checks o ++ second_checks o) (third_checks o) r two)
+    first_failed-stops (first_checks o ++ second_checks o ++ third_checks o) (footer_checks o) r (first_failed-stops (first_checks o ++ second_checks o) (third_checks o) r two)
 
 pub fails_third : (o : List ℕ) (r : Reason) → first_failed (first_checks o) ≡ None → first_failed (second_checks o) ≡ None → first_failed (third_checks o) ≡ Some r → first_failed (checks o) ≡ Some r
 fails_third o r e1 e2 e =
     let three = first_failed-append (first_checks o ++ second_checks o) (third_checks o) (two_pass o e1 e2) ∙ e in
-    first_failed-front (first_checks o ++ second_checks o ++ third_checks o) (footer_checks o) r three
+    first_failed-stops (first_checks o ++ second_checks o ++ third_checks o) (footer_checks o) r three
 
 pub fails_footer : (o : List ℕ) (r : Reason) → first_failed (first_checks o) ≡ None → first_failed (second_checks o) ≡ None → first_failed (third_checks o) ≡ None → first_failed (footer_checks o) ≡ Some r → first_failed (checks o) ≡ Some r
 fails_footer o r e1 e2 e3 e =
