@@ -4,7 +4,7 @@ use Rattle.std.specs.List.{slice_split, list_all}
 use Rattle.std.specs.Char.{is_ascii_digit}
 use Rattle.zic_base.specs.Option.{◌>>=◌}
 use Rattle.zic_words.specs.declared.time.TheConstants.{MOST_DIGITS, GREATEST_OFFSET}
-use Rattle.zic_words.specs.Parts.{split_at_most_once}
+use Rattle.zic_words.specs.Parts.{one_or_two, split_at_most_once}
 use Rattle.zic_words.specs.Dash.{is_dash}
 
 -- the number that decimal digits spell
@@ -38,20 +38,27 @@ seconds_of text = do
   f ← fraction_of parts.1
   Some (10 ^ 9 * s + f)
 
--- hours, or hours and minutes, or hours, minutes and seconds, in billionths of a second
+-- no seconds, or these
+abbrev pub seconds_after : Option (List ℕ) → Option ℕ
+seconds_after None = Some 0
+seconds_after (Some text) = seconds_of text
+
+-- minutes, or minutes and seconds, in billionths of a second
+unfoldable pub minutes_from : List (List ℕ) → Option ℕ
+minutes_from parts = do
+  both ← one_or_two parts
+  m ← sixtieths both.0
+  s ← seconds_after both.1
+  Some (10 ^ 9 * (60 * m) + s)
+
+-- hours, and minutes or minutes and seconds where there are more parts, in billionths of a second
 unfoldable pub magnitude_from : List (List ℕ) → Option ℕ
 magnitude_from [] = None
 magnitude_from (hours ∷ []) = option_map (λ h. 10 ^ 9 * (3600 * h)) (number MOST_DIGITS hours)
-magnitude_from (hours ∷ minutes ∷ []) = do
+magnitude_from (hours ∷ part ∷ parts) = do
   h ← number MOST_DIGITS hours
-  m ← sixtieths minutes
-  Some (10 ^ 9 * (3600 * h + 60 * m))
-magnitude_from (hours ∷ minutes ∷ seconds ∷ []) = do
-  h ← number MOST_DIGITS hours
-  m ← sixtieths minutes
-  s ← seconds_of seconds
-  Some (10 ^ 9 * (3600 * h + 60 * m) + s)
-magnitude_from (hours ∷ minutes ∷ seconds ∷ more ∷ parts) = None
+  rest ← minutes_from (part ∷ parts)
+  Some (10 ^ 9 * (3600 * h) + rest)
 
 -- a time without its sign, of parts between colons, in billionths of a second
 abbrev pub magnitude : List ℕ → Option ℕ

@@ -1,7 +1,8 @@
 //! Times and offsets.
 
 ghost use Rattle.std.specs.Prelude.{◌≡◌, ◌+◌, ◌*◌, ◌^◌, ◌<◌, ◌≤◌, List, IfSome, length, option_map, pos, ◌==◌};
-ghost use Rattle.zic_words.specs.Time.{number, sixtieths, decimals, seconds_of, magnitude, whole_seconds, signed_seconds, offset_of, IsNearestSecond, IsWithin};
+ghost use Rattle.std.specs.List.{slice_split};
+ghost use Rattle.zic_words.specs.Time.{number, sixtieths, decimals, seconds_of, minutes_from, magnitude, whole_seconds, signed_seconds, offset_of, IsNearestSecond, IsWithin};
 
 use crate::dash::is_dash;
 use crate::split::{split_at_most_once, split_once};
@@ -84,6 +85,30 @@ fn seconds(text: &[u8]) -> Option<Time>
     })
 }
 
+/// Minutes, or minutes and seconds.
+#[tactic(auto, unfolding(crate::specs::Time::minutes_from, crate::specs::Parts::split_at_most_once))]
+fn minutes(text: &[u8]) -> Option<Time>
+    ensures value { option_map (λ time. 10 ^ 9 * time.seconds + time.billionths) result ≡ minutes_from (slice_split (λ byte. byte == 58) text.now) }
+    ensures seconds { IfSome result (λ time. time.seconds < 3600) }
+    ensures billionths { IfSome result (λ time. time.billionths < 10 ^ 9) }
+{
+    let (minutes, rest) = split_at_most_once(text, b':')?;
+    let minutes = 60 * sixtieths(minutes)?;
+    match rest {
+        Some(rest) => {
+            let rest = seconds(rest)?;
+            Some(Time {
+                seconds: minutes + rest.seconds,
+                billionths: rest.billionths,
+            })
+        }
+        None => Some(Time {
+            seconds: minutes,
+            billionths: 0,
+        }),
+    }
+}
+
 /// Hours, or hours and minutes, or hours, minutes and seconds, without a sign.
 #[tactic(auto, unfolding(crate::specs::Time::magnitude_from))]
 fn magnitude(text: &[u8]) -> Option<Time>
@@ -91,35 +116,20 @@ fn magnitude(text: &[u8]) -> Option<Time>
     ensures seconds { IfSome result (λ time. time.seconds < 10 ^ 13) }
     ensures billionths { IfSome result (λ time. time.billionths < 10 ^ 9) }
 {
-    let (hours, minutes) = split_once(text, b':');
+    let (hours, rest) = split_once(text, b':');
     let hours = 3600 * u64::from(number(MOST_DIGITS, hours)?);
-    let Some(minutes) = minutes else {
-        return Some(Time {
-            seconds: hours,
-            billionths: 0,
-        });
-    };
-    // Most times are hours and minutes.
-    if let Some(minutes) = sixtieths(minutes) {
-        return Some(Time {
-            seconds: hours + 60 * minutes,
-            billionths: 0,
-        });
-    }
-    let (minutes, rest) = split_once(minutes, b':');
-    let minutes = hours + 60 * sixtieths(minutes)?;
-    let rest = rest?;
-    let (rest, more) = split_once(rest, b':');
-    match more {
-        None => {
-            let rest = seconds(rest)?;
-            let seconds = minutes + rest.seconds;
+    match rest {
+        Some(rest) => {
+            let rest = minutes(rest)?;
             Some(Time {
-                seconds,
+                seconds: hours + rest.seconds,
                 billionths: rest.billionths,
             })
         }
-        Some(_) => None,
+        None => Some(Time {
+            seconds: hours,
+            billionths: 0,
+        }),
     }
 }
 
