@@ -10,9 +10,7 @@ mod short_text;
 
 pub use byte::{are_abbreviation_bytes, is_abbreviation_byte};
 pub use fault::{Fault, Kind, Stop};
-pub use limit::{
-    FARTHEST_FILE_OFFSET, LONGEST_ABBREVIATION, LONGEST_FILE, SHORTEST_ABBREVIATION,
-};
+pub use limit::{FARTHEST_FILE_OFFSET, LONGEST_ABBREVIATION, LONGEST_FILE, SHORTEST_ABBREVIATION};
 pub use place::Place;
 pub use short_text::ShortText;
 

@@ -8,7 +8,7 @@ use Rattle.std.proofs.lemmas.List.Folds.{length-prefix_len}
 use Rattle.std.proofs.lemmas.List.Sums.{take_while-cons}
 use Rattle.std.proofs.lemmas.List.Elements.{All-head, All-tail, All-cons, All-nil, All-weaker}
 use Rattle.zic_base.specs.Byte.{is_abbreviation_byte}
-use Rattle.zic_footer.specs.Grammar.{is_letter, is_digit, SpellsName}
+use Rattle.zic_footer.specs.Grammar.{is_letter, SpellsName}
 use Rattle.zic_footer.specs.code.Reading.{plain_name_at, closed_name, quoted_name_at, name_at}
 use Rattle.zic_footer.proofs.Steps.{guard_some, branch, NotFirst}
 

@@ -1,5 +1,5 @@
 -- The grammar of POSIX TZ strings: POSIX.1, TZ; RFC 9636, 3.3.1. Until daylight parts are read, of strings without one.
-use Rattle.std.specs.Prelude.{◌≡◌, ℕ, ◌+◌, ◌-◌, ◌*◌, ◌<◌, ◌≤◌, ℤ, pos, neg_ℤ, Bool, ◌||◌, ◌&&◌, nat_le, ◌==◌, None, List, [], ◌∷◌, ◌++◌, ◌⊎◌, length, fold, unsigned_abs, IsTrue, All}
+use Rattle.std.specs.Prelude.{◌≡◌, ℕ, ◌+◌, ◌-◌, ◌*◌, ◌<◌, ◌≤◌, ℤ, pos, neg_ℤ, Bool, ◌||◌, ◌&&◌, nat_le, None, List, [], ◌∷◌, ◌++◌, ◌⊎◌, length, fold, unsigned_abs, IsTrue, All}
 use Rattle.zic_base.specs.Byte.{is_abbreviation_byte}
 use Rattle.zic_footer.specs.declared.parsing.TheConstants.{SHORTEST_NAME, MOST_HOURS, MOST_MINUTES_OR_SECONDS}
 use Rattle.zic_footer.specs.Footer.{TzString, version_of}

@@ -26,6 +26,7 @@ fn parses_and_prints(rt: HostRuntime) -> Result<(), Fail> {
         ("LMT0:0:9", "LMT0:00:09"),
         ("<EST>5", "EST5"),
         ("UTC-0", "UTC0"),
+        ("<ABCDEFGHIJKLMNOPQRST>5", "ABCDEFGHIJKLMNOPQRST5"),
     ];
     for (text, want) in rows {
         let printed = canonical(rt.alloc(), text.as_bytes())?;

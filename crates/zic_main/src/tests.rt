@@ -60,6 +60,15 @@ fn check_lists_files_or_tells_the_fault(rt: HostRuntime) -> Result<(), Fail> {
         ("Zone Z/F 5:30 - +0530", "Z/F 121 <+0530>-5:30\n"),
         ("Zone Z/A -3:00 - -03", "Z/A 113 <-03>3\n"),
         ("Zone Z/B 0 - AB", "line 1: BadAbbreviation, status 1"),
+        (
+            "Zone Z/C 0 - ABCDEFGHIJKLMNOP",
+            "Z/C 137 ABCDEFGHIJKLMNOP0\n",
+        ),
+        (
+            "Zone Z/C 0 - ABCDEFGHIJKLMNOPQ",
+            "line 1: BadAbbreviation, status 1",
+        ),
+        ("Zone Z/D 24 - UTC", "Z/D 113 UTC-24\n"),
         ("Zonk A 0 - UTC", "line 1: Keyword, status 1"),
         ("Zone A 0 -", "line 1: FieldCount, status 1"),
         ("Zone /A 0 - UTC", "line 1: Name, status 1"),

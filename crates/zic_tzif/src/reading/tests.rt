@@ -68,9 +68,29 @@ fn faults(rt: HostRuntime) -> Result<(), Fail> {
     longer.push(b'\n')?;
     let stop = read(rt.alloc(), &longer).err();
     assert_eq!(rt; stop, Some(ReadStop::Bad(Reason::TrailingBytes)));
-    let largest = vec![in rt.alloc(); 0; 1_048_577]?;
-    let stop = read(rt.alloc(), &largest).err();
-    assert_eq!(rt; stop, Some(ReadStop::Bad(Reason::TooLarge)));
+    Ok(())
+}
+
+#[test]
+fn limits(rt: HostRuntime) -> Result<(), Fail> {
+    let offsets: [(i32, Option<ReadStop>); 4] = [
+        (93_599, None),
+        (-93_599, None),
+        (93_600, Some(ReadStop::Bad(Reason::TypeRecord))),
+        (-93_600, Some(ReadStop::Bad(Reason::TypeRecord))),
+    ];
+    for (offset, wanted) in offsets {
+        let mut octets = *UTC;
+        octets[95..99].copy_from_slice(&offset.to_be_bytes());
+        let stop = read(rt.alloc(), &octets).err();
+        assert_eq!(rt; stop, wanted, "offset {offset}");
+    }
+    let lengths = [(1_048_576, Reason::Magic), (1_048_577, Reason::TooLarge)];
+    for (length, reason) in lengths {
+        let octets = vec![in rt.alloc(); 0; length]?;
+        let stop = read(rt.alloc(), &octets).err();
+        assert_eq!(rt; stop, Some(ReadStop::Bad(reason)), "{length} octets");
+    }
     Ok(())
 }
 

@@ -1,7 +1,6 @@
-use Rattle.std.proofs.Common.{ℕ}
 use Rattle.std.proofs.lemmas.Result.{err_from_is_err_and}
 use Rattle.zic_base.proofs.MemoryLemmas.{on_want}
-use Rattle.zic_tzif.specs.Reading.{IsFooterText, IsSomeFile, reason_of}
+use Rattle.zic_tzif.specs.Reading.{IsSomeFile, reason_of}
 use Rattle.zic_tzif.specs.code.Parts.{content_of}
 use Rattle.zic_tzif.proofs.ReadFiles.{bad_footer, trails, is_footer_text, is_file, kept, file_has_no_fault}
 use Rattle.zic_tzif.proofs.reading.read.Goals as goal
