@@ -1,1 +1,5 @@
+pub mod SameBytes
+pub mod Elements
+pub mod Counts
+pub mod LineLaws
 pub mod reading
