@@ -2,13 +2,13 @@
 use Rattle.std.proofs.Common.{◌≡◌, ◌≢◌, ℕ, suc, ⊎_elim, Some, ◌+◌, ◌≤◌, ◌<◌, Bool, true, false, cond, ltb, List, [], ◌∷◌, ◌++◌, length, get_or, take, refl, sym, ap, ◌∙◌, arith}
 use Rattle.std.specs.Prelude.{◌||◌, flat_map, sum_by, count_by, bytes_eq, AllPairs, Contains, slice_get}
 use Rattle.std.specs.List.{list_any}
-use Rattle.std.proofs.lemmas.Bool.{cases_order, lt-ltb, ltb-false, false_from_ne_true}
+use Rattle.std.proofs.lemmas.Bool.{cases_order, lt-ltb, ltb-true, ltb-false, false_from_ne_true}
 use Rattle.std.proofs.lemmas.Grind.{flat_map-append}
 use Rattle.std.proofs.lemmas.List.{length-take, get_or-take}
 use Rattle.std.proofs.lemmas.List.Folds.{list_any_none}
 use Rattle.std.proofs.lemmas.List.Sums.{sum_by-append, sum_by-cons, sum_by_more_le, get_or-le-sum_by}
 use Rattle.std.proofs.lemmas.Option.{slice_get-get_or, slice_get_within, get_or_from_slice_get}
-use Rattle.zic_source.proofs.Elements.{get_contained}
+use Rattle.zic_source.proofs.Elements.{get_contained, contained_passes}
 use Rattle.zic_source.proofs.SameBytes.{bytes_eq_means, bytes_eq_itself}
 
 pub flat_map_twice : {X Y A : Type 0} (f : X → List Y) (g : Y → List A) (h : X → List A) → ((x : X) → flat_map g (f x) ≡ h x) → (xs : List X) → flat_map g (flat_map f xs) ≡ flat_map h xs
@@ -32,6 +32,9 @@ any_more false rest n m e f = let same : n ≡ m = omega arith in e ∙ ap (ltb 
 pub any_counts : {X : Type 0} (p : X → Bool) (xs : List X) → list_any p xs ≡ ltb 0 (count_by p xs)
 any_counts p [] = refl
 any_counts p (x ∷ xs) = any_more (p x) (list_any p xs) (count_by p xs) (count_by p (x ∷ xs)) (any_counts p xs) (cons_counted p x xs (p x) refl)
+
+pub passes_counted : {X : Type 0} (p : X → Bool) (xs : List X) (x : X) → Contains xs x → p x ≡ true → 0 < count_by p xs
+passes_counted p xs x has e = ltb-true 0 (count_by p xs) (sym (any_counts p xs) ∙ contained_passes p xs x has e)
 
 two_counted : {X : Type 0} (p : X → Bool) (xs : List X) (i j : ℕ) (a b : X) → slice_get xs i ≡ Some a → slice_get xs j ≡ Some b → i < j → p a ≡ true → p b ≡ true → 2 ≤ count_by p xs
 two_counted {X} p xs i j a b at_a at_b lt e f =

@@ -3,3 +3,5 @@ pub mod Elements
 pub mod Counts
 pub mod LineLaws
 pub mod reading
+pub mod links
+pub mod faults
