@@ -20,6 +20,9 @@ pub cons_cases : {A : Type 0} (y : A) (xs : List A) (x : A) → Contains (y ∷ 
 cons_cases y xs x (zero, lt, e) = inl e
 cons_cases y xs x (suc k, lt, e) = inr (k, omega arith, e)
 
+pub only_one : {A : Type 0} (one x : A) → Contains (one ∷ []) x → one ≡ x
+only_one one x has = ⊎_elim (λ same. same) (λ none. absurd (omega (arith, none.1))) (cons_cases one [] x has)
+
 pub from_flat_map : {X A : Type 0} (f : X → List A) (xs : List X) (a : A) → Contains (flat_map f xs) a → (x : X) × Contains xs x × Contains (f x) a
 from_flat_map f [] a has = absurd (omega (arith, has.1))
 from_flat_map f (x ∷ xs) a has = ⊎_elim
@@ -40,6 +43,13 @@ into_map f (y ∷ xs) x has = ⊎_elim
     (λ same. subst (λ (z : _). Contains (map f (y ∷ xs)) (f z)) same (first_contained (f y) (map f xs)))
     (λ later. Contains-append_right (f y ∷ []) (map f xs) (f x) (into_map f xs x later))
     (cons_cases y xs x has)
+
+pub from_map : {X A : Type 0} (f : X → A) (xs : List X) (a : A) → Contains (map f xs) a → (x : X) × Contains xs x × (f x ≡ a)
+from_map f [] a has = absurd (omega (arith, has.1))
+from_map f (x ∷ xs) a has = ⊎_elim
+    (λ same. (x, first_contained x xs, same))
+    (λ later. let rest = from_map f xs a later in (rest.0, Contains-append_right (x ∷ []) xs rest.0 rest.1, rest.2))
+    (cons_cases (f x) (map f xs) a has)
 
 -- ---- elements that pass a test
 

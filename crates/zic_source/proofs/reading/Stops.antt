@@ -60,7 +60,7 @@ read_passes before event after source total fault is all =
     fitting_passes source event own.0 fault own.1 own.2
 
 -- an event has one fault
-same_fault : (one other : Fault) → one.place ≡ other.place → one.kind ≡ other.kind → one ≡ other
+pub same_fault : (one other : Fault) → one.place ≡ other.place → one.kind ≡ other.kind → one ≡ other
 same_fault one other place kind = ap (λ (p : Place). record { place = p; kind = one.kind }) place ∙ ap (λ (k : Kind). record { place = other.place; kind = k }) kind
 
 fails_once : (source : SourceLines) (event : Event) (one other : Fault) → Fails source event one → Fails source event other → one ≡ other
