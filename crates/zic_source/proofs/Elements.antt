@@ -44,13 +44,6 @@ into_map f (y ∷ xs) x has = ⊎_elim
     (λ later. Contains-append_right (f y ∷ []) (map f xs) (f x) (into_map f xs x later))
     (cons_cases y xs x has)
 
-pub from_map : {X A : Type 0} (f : X → A) (xs : List X) (a : A) → Contains (map f xs) a → (x : X) × Contains xs x × (f x ≡ a)
-from_map f [] a has = absurd (omega (arith, has.1))
-from_map f (x ∷ xs) a has = ⊎_elim
-    (λ same. (x, first_contained x xs, same))
-    (λ later. let rest = from_map f xs a later in (rest.0, Contains-append_right (x ∷ []) xs rest.0 rest.1, rest.2))
-    (cons_cases (f x) (map f xs) a has)
-
 -- ---- elements that pass a test
 
 pub contained_passes : {A : Type 0} (test : A → Bool) (xs : List A) (x : A) → Contains xs x → test x ≡ true → list_any test xs ≡ true

@@ -19,7 +19,7 @@ use Rattle.zic_source.proofs.links.NamesDiffer.{nowhere_ends}
 use Rattle.zic_source.proofs.faults.Order.{AreOrdered, ordered}
 use Rattle.zic_source.proofs.reading.Zones.{lines_in}
 use Rattle.zic_source.proofs.reading.Read.{Read, entries_of, is_read}
-use Rattle.zic_source.proofs.reading.Said.{IsSaid, is_said, link_is_said, line_is_said, place_of, one_at_place}
+use Rattle.zic_source.proofs.reading.Said.{link_is_said, line_is_said, place_of, one_at_place}
 use Rattle.zic_source.proofs.reading.Stops.{same_fault}
 
 line_place : (entry : Entry) (line : ZoneLine) → Contains (lines_in entry) line → place_of entry ≡ line.place
@@ -31,19 +31,15 @@ module _ (texts : List (List ℕ)) (source : SourceLines) (is : IsReadable texts
   read : Read (events_of texts) source
   read = is_read (events_of texts) source is
 
-  said : (entry : Entry) → Contains (entries_of read.statements) entry → IsSaid (events_of texts) entry
-  unfolding read
-  said entry has = is_said (events_of texts) read.statements entry read.each has
-
   one_link : (k l : Link) → Contains source.links k → Contains source.links l → k.place ≡ l.place → k ≡ l
   one_link k l has_k has_l place =
-      let same : entries.Link k ≡ entries.Link l = one_at_place texts (entries.Link k) (entries.Link l) (said _ (link_is_said source _ read.is k has_k)) (said _ (link_is_said source _ read.is l has_l)) place in
+      let same : entries.Link k ≡ entries.Link l = one_at_place texts read.statements (entries.Link k) (entries.Link l) read.each (link_is_said source _ read.is k has_k) (link_is_said source _ read.is l has_l) place in
       cc
 
   no_link : (line : ZoneLine) (link : Link) → Contains (zone_lines_of source) line → Contains source.links link → line.place ≡ link.place → ⊥
   no_link line link has has_link place =
       let at = line_is_said source _ read.is line has in
-      let same : at.0 ≡ entries.Link link = one_at_place texts at.0 (entries.Link link) (said at.0 at.1) (said _ (link_is_said source _ read.is link has_link)) (line_place at.0 line at.2 ∙ place) in
+      let same : at.0 ≡ entries.Link link = one_at_place texts read.statements at.0 (entries.Link link) read.each at.1 (link_is_said source _ read.is link has_link) (line_place at.0 line at.2 ∙ place) in
       let none : Contains (lines_in (entries.Link link)) line = subst (λ (e : Entry). Contains (lines_in e) line) same at.2 in
       absurd (omega (arith, none.1))
 

@@ -1,11 +1,10 @@
 -- What a source has is said by a line of its own.
-use Rattle.std.proofs.Common.{◌≡◌, ℕ, ◌+◌, ◌<◌, ◌⊎◌, inl, inr, ⊎_elim, List, [], ◌∷◌, ◌++◌, length, get_or, map, Option, Some, None, refl, sym, ap, subst, ◌∙◌, arith}
-use Rattle.std.specs.Prelude.{Contains, flat_map, slice_get}
+use Rattle.std.proofs.Common.{◌≡◌, ℕ, ◌+◌, ◌⊎◌, inl, inr, ⊎_elim, List, [], ◌∷◌, ◌++◌, map, Option, Some, None, refl, sym, ap, subst, ◌∙◌, append_assoc, arith}
+use Rattle.std.specs.Prelude.{Contains, flat_map}
 use Rattle.std.specs.List.{AllZip, enumerate_from}
-use Rattle.std.proofs.lemmas.List.Elements.{Contains-append_right, Contains-append_cases}
-use Rattle.std.proofs.lemmas.List.FromFn.{length-enumerate_from, get_or-enumerate_from}
-use Rattle.std.proofs.lemmas.Option.{slice_get-get_or}
+use Rattle.std.proofs.lemmas.List.Elements.{Contains-append_right}
 use Rattle.zic_base.specs.declared.place.Place.{Place}
+use Rattle.zic_base.specs.Place.{IsBefore}
 use Rattle.zic_lines.specs.declared.rule.Rule.{Rule}
 use Rattle.zic_lines.specs.declared.link.Link.{Link}
 use Rattle.zic_lines.specs.declared.zone_line.ZoneLine.{ZoneLine}
@@ -17,8 +16,8 @@ use Rattle.zic_lines.specs.Grammar.{Says}
 use Rattle.zic_source.specs.Event.{Event, Line, End, text_events, events_of}
 use Rattle.zic_source.specs.Source.{SourceLines, ZoneLines, zone_lines_of, entries_of_zone}
 use Rattle.zic_source.specs.Grammar.{Statement, Entered, Ended, EventSays}
-use Rattle.zic_source.proofs.LineLaws.{says_one}
-use Rattle.zic_source.proofs.Elements.{cons_cases, first_contained, only_one, from_flat_map, into_flat_map, from_map}
+use Rattle.zic_source.proofs.Elements.{cons_cases, first_contained, only_one, from_flat_map, into_flat_map}
+use Rattle.zic_source.proofs.faults.Order.{before_before, not_before_itself}
 use Rattle.zic_source.proofs.reading.Zones.{lines_in, zone_lines_said}
 use Rattle.zic_source.proofs.reading.Limits.{IsOf}
 use Rattle.zic_source.proofs.reading.Read.{entries_of}
@@ -80,58 +79,13 @@ module _ (source : SourceLines) (said : List Entry) (is : IsOf source said) wher
       let at = from_flat_map zone_entries_in said entry (subst (λ (es : List Entry). Contains es entry) is.zones (into_flat_map entries_of_zone source.zones zone entry has (first_contained entry _))) in
       subst (Contains said) (zone_entry_in at.0 entry at.2) at.1
 
--- ---- one line stands at a place
+-- ---- one entry is said at a place
 
--- where a line stands in the texts
-record StandsIn (texts : List (List ℕ)) (line : PlacedLine) : Type 0 where
-  text : ℕ
-  number : ℕ
-  own : List ℕ
-  at_text : slice_get texts text ≡ Some own
-  at_line : slice_get (lines_of own) number ≡ Some line.bytes
-  place : line.place ≡ record { text = 1 + text; line = 1 + number }
-
-numbered : {A : Type 0} (n : ℕ) (xs : List A) (x : ℕ × A) → Contains (enumerate_from n xs) x → (i : ℕ) × (x.0 ≡ n + i) × (slice_get xs i ≡ Some x.1)
-numbered n xs x (i, lt, at) =
-    let within : i < length xs = omega (arith, length-enumerate_from n xs) in
-    let is : x ≡ (n + i, get_or xs i x.1) = sym at ∙ get_or-enumerate_from n xs i x within in
-    (i, ap (λ (y : ℕ × _). y.0) is, slice_get-get_or xs i x.1 within ∙ ap (λ (y : ℕ × _). Some y.1) (sym is))
-
-placed : (text number text' number' : ℕ) (bytes : List ℕ) (line : PlacedLine) → text ≡ text' → number ≡ number' → record { place = record { text = text; line = number }; bytes = bytes } ≡ line → line.place ≡ record { text = text'; line = number' }
-placed text number text' number' bytes line e f is =
-    ap (λ (l : PlacedLine). l.place) (sym is) ∙ ap (λ (n : ℕ). record { text = n; line = number }) e ∙ ap (λ (n : ℕ). record { text = text'; line = n }) f
-
-stands_in : (texts : List (List ℕ)) (line : PlacedLine) → Contains (events_of texts) (Line line) → StandsIn texts line
-stands_in texts line has =
-    let text = from_flat_map (λ (text : ℕ × List ℕ). text_events text.0 text.1) (enumerate_from 1 texts) (Line line) has in
-    let at = numbered 1 texts text.0 text.1 in
-    let own : Contains (text_lines text.0.0 text.0.1) line = ⊎_elim
-    (λ lines. let one = from_map Line (text_lines text.0.0 text.0.1) (Line line) lines in let same : one.0 ≡ line = cc in subst (Contains (text_lines text.0.0 text.0.1)) same one.1)
-    (λ end. let same : End ≡ Line line = only_one End (Line line) end in absurd cc)
-    (Contains-append_cases (map Line (text_lines text.0.0 text.0.1)) (End ∷ []) (Line line) text.2) in
-    let one = from_map _ (enumerate_from 1 (lines_of text.0.1)) line own in
-    let number = numbered 1 (lines_of text.0.1) one.0 one.1 in
-    record {
-      text = at.0;
-      number = number.0;
-      own = text.0.1;
-      at_text = at.2;
-      at_line = number.2 ∙ ap (λ (l : PlacedLine). Some l.bytes) one.2;
-      place = placed text.0.0 one.0.0 (1 + at.0) (1 + number.0) one.0.1 line at.1 number.1 one.2;
-    }
-
-one_line : (texts : List (List ℕ)) (a b : PlacedLine) → StandsIn texts a → StandsIn texts b → a.place ≡ b.place → a ≡ b
-one_line texts a b stands stands' place =
-    let places = sym stands.place ∙ place ∙ stands'.place in
-    let text : stands.text ≡ stands'.text = omega (arith, ap (λ (p : Place). p.text) places) in
-    let number : stands.number ≡ stands'.number = omega (arith, ap (λ (p : Place). p.line) places) in
-    let texts_same : slice_get texts stands.text ≡ slice_get texts stands'.text = ap (slice_get texts) text in
-    let at = stands.at_text in let at' = stands'.at_text in
-    let own : stands.own ≡ stands'.own = cc in
-    let lines_same : slice_get (lines_of stands.own) stands.number ≡ slice_get (lines_of stands'.own) stands'.number = ap (slice_get (lines_of stands.own)) number ∙ ap (λ (t : List ℕ). slice_get (lines_of t) stands'.number) own in
-    let line = stands.at_line in let line' = stands'.at_line in
-    let bytes : a.bytes ≡ b.bytes = cc in
-    ap (λ (p : Place). record { place = p; bytes = a.bytes }) place ∙ ap (λ (bs : List ℕ). record { place = b.place; bytes = bs }) bytes
+-- each line of the events stands after this place, and after the one before it
+abbrev Rise : Place → List Event → Type 0
+Rise place [] = Unit {0}
+Rise place (Line line ∷ events) = IsBefore place line.place × Rise line.place events
+Rise place (End ∷ events) = Rise place events
 
 -- where what is said stands
 abbrev pub place_of : Entry → Place
@@ -140,15 +94,70 @@ place_of (entries.Zone name line) = line.place
 place_of (entries.Continuation line) = line.place
 place_of (entries.Link link) = link.place
 
+-- the same of entries
+abbrev EntriesRise : Place → List Entry → Type 0
+EntriesRise place [] = Unit {0}
+EntriesRise place (entry ∷ said) = IsBefore place (place_of entry) × EntriesRise (place_of entry) said
+
 at_line : (line : PlacedLine) (entry : Entry) → Says line (Some entry) → place_of entry ≡ line.place
 at_line line (entries.Rule rule) says = says.1.stands
 at_line line (entries.Zone name first) says = says.1.says.stands
 at_line line (entries.Continuation more) says = says.1.stands
 at_line line (entries.Link link) says = says.1.stands
 
+rise_from : (place other : Place) (events : List Event) → IsBefore place other → Rise other events → Rise place events
+rise_from place other [] before rise = tt
+rise_from place other (Line line ∷ events) before rise = (before_before place other line.place before rise.0, rise.1)
+rise_from place other (End ∷ events) before rise = rise_from place other events before rise
+
+entries_rise : (place : Place) (events : List Event) (statements : List (Option Statement)) → AllZip EventSays events statements → Rise place events → EntriesRise place (entries_of statements)
+entries_rise place [] [] each rise = tt
+entries_rise place [] (s ∷ statements) each rise = absurd each
+entries_rise place (event ∷ events) [] each rise = absurd each
+entries_rise place (Line line ∷ events) (None ∷ statements) each rise = entries_rise place events statements each.1 (rise_from place line.place events rise.0 rise.1)
+entries_rise place (Line line ∷ events) (Some (Entered entry) ∷ statements) each rise =
+    let P : Place → Type 0 = λ p. IsBefore place p × EntriesRise p (entries_of statements) in
+    subst P (sym (at_line line entry each.0)) (rise.0, entries_rise line.place events statements each.1 rise.1)
+entries_rise place (Line line ∷ events) (Some Ended ∷ statements) each rise = absurd each.0
+entries_rise place (End ∷ events) (None ∷ statements) each rise = absurd each.0
+entries_rise place (End ∷ events) (Some (Entered entry) ∷ statements) each rise = absurd each.0
+entries_rise place (End ∷ events) (Some Ended ∷ statements) each rise = entries_rise place events statements each.1 rise
+
+comes_after : (place : Place) (said : List Entry) (entry : Entry) → EntriesRise place said → Contains said entry → IsBefore place (place_of entry)
+comes_after place [] entry rise has = absurd (omega (arith, has.1))
+comes_after place (own ∷ said) entry rise has = ⊎_elim
+    (λ same. subst (λ (e : Entry). IsBefore place (place_of e)) same rise.0)
+    (λ rest. before_before place (place_of own) (place_of entry) rise.0 (comes_after (place_of own) said entry rise.1 rest))
+    (cons_cases own said entry has)
+
+-- no later entry stands at the place of the first
+apart : (own : Entry) (said : List Entry) (a b : Entry) → EntriesRise (place_of own) said → own ≡ a → Contains said b → place_of a ≡ place_of b → ⊥
+apart own said a b rise same has place =
+    not_before_itself (place_of own) (subst (IsBefore (place_of own)) (sym place ∙ ap place_of (sym same)) (comes_after (place_of own) said b rise has))
+
+one_place : (place : Place) (said : List Entry) (a b : Entry) → EntriesRise place said → Contains said a → Contains said b → place_of a ≡ place_of b → a ≡ b
+one_place place [] a b rise has_a has_b same = absurd (omega (arith, has_a.1))
+one_place place (own ∷ said) a b rise has_a has_b same = ⊎_elim
+    (λ first. ⊎_elim (λ also. sym first ∙ also) (λ rest. absurd (apart own said a b rise.1 first rest same)) (cons_cases own said b has_b))
+    (λ later. ⊎_elim (λ first. absurd (apart own said b a rise.1 first later (sym same))) (λ rest. one_place (place_of own) said a b rise.1 later rest same) (cons_cases own said b has_b))
+    (cons_cases own said a has_a)
+
+abbrev at : ℕ → ℕ → Place
+at text line = record { text = text; line = line }
+
+lines_rise : (text before : ℕ) (lines : List (List ℕ)) (more : List Event) → ((line : ℕ) → Rise (at text line) more)
+    → Rise (at text before) (map Line (map (λ line. record { place = at text line.0; bytes = line.1 }) (enumerate_from (before + 1) lines)) ++ more)
+lines_rise text before [] more rest = rest before
+lines_rise text before (line ∷ lines) more rest = (inr (refl, omega arith), lines_rise text (before + 1) lines more rest)
+
+texts_rise : (before : ℕ) (texts : List (List ℕ)) (line : ℕ) → Rise (at before line) (flat_map (λ text. text_events text.0 text.1) (enumerate_from (before + 1) texts))
+texts_rise before [] line = tt
+texts_rise before (text ∷ texts) line =
+    let rest : List Event = flat_map (λ (text : ℕ × List ℕ). text_events text.0 text.1) (enumerate_from (before + 1 + 1) texts) in
+    subst (Rise (at before line)) (sym (append_assoc (map Line (text_lines (before + 1) text)) (End ∷ []) rest))
+    (rise_from (at before line) (at (before + 1) 0) (map Line (text_lines (before + 1) text) ++ End ∷ rest) (inl (omega arith))
+    (lines_rise (before + 1) 0 (lines_of text) (End ∷ rest) (texts_rise (before + 1) texts)))
+
 -- one entry is said at a place
-pub one_at_place : (texts : List (List ℕ)) (a b : Entry) → IsSaid (events_of texts) a → IsSaid (events_of texts) b → place_of a ≡ place_of b → a ≡ b
-one_at_place texts a b (line, has, says) (line', has', says') place =
-    let same : line ≡ line' = one_line texts line line' (stands_in texts line has) (stands_in texts line' has') (sym (at_line line a says) ∙ place ∙ at_line line' b says') in
-    let one : Some a ≡ Some b = says_one line' (Some a) (Some b) (subst (λ (l : PlacedLine). Says l (Some a)) same says) says' in
-    cc
+pub one_at_place : (texts : List (List ℕ)) (statements : List (Option Statement)) (a b : Entry) → AllZip EventSays (events_of texts) statements → Contains (entries_of statements) a → Contains (entries_of statements) b → place_of a ≡ place_of b → a ≡ b
+one_at_place texts statements a b each = one_place (at 0 0) (entries_of statements) a b (entries_rise (at 0 0) (events_of texts) statements each (texts_rise 0 texts 0))

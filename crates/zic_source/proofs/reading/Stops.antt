@@ -20,16 +20,12 @@ use Rattle.zic_source.specs.Grammar.{Statement, Entered, Ended, EventSays, open_
 use Rattle.zic_source.specs.Checks.{entry_checks}
 use Rattle.zic_source.specs.FirstFault.{SaysNext, Fails}
 use Rattle.zic_source.specs.code.Adding.{with_entry}
-use Rattle.zic_source.proofs.LineLaws.{says_or_fails, says_one}
+use Rattle.zic_lines.proofs.Entries.{line_said, says_passes, says_once}
 use Rattle.zic_source.proofs.reading.Limits.{passed_if_room}
 use Rattle.zic_source.proofs.reading.Once.{Fits, read_once, event_fits}
 use Rattle.zic_source.proofs.reading.Steps.{blank_read, entry_read, end_read}
 
 -- ---- what is read has no fault
-
--- a line of which no own check fails, and that says this after the source
-passes_line : (source : SourceLines) (line : PlacedLine) (entry : Option Entry) → Says line entry → IfSome entry (λ e. is_continuation e ≡ is_open source) → first_failed (line_checks (is_open source) line.bytes) ≡ None
-passes_line source line entry says next = (says_or_fails (is_open source) line).0 (entry, says, next)
 
 closed_passes : (line : Option ZoneLine) (fault : Fault) → is_some line ≡ false → IsSomeAnd line (λ l. fault ≡ fault_at l.place NoContinuation) → ⊥
 closed_passes None fault closed fails = fails
@@ -40,11 +36,11 @@ closed_once None one other fails fails' = absurd fails
 closed_once (Some line) one other fails fails' = fails ∙ sym fails'
 
 fitting_passes : (source : SourceLines) (event : Event) (own : Option Statement) (fault : Fault) → EventSays event own → Fits source own → Fails source event fault → ⊥
-fitting_passes source (Line line) None fault says fits (inl fails) = let passes = passes_line source line None says tt in let failed = fails.1 in cc
-fitting_passes source (Line line) None fault says fits (inr (entry, next, fails)) = let same : ◌≡◌ {A = Option Entry} None (Some entry) = says_one line None (Some entry) says next.0 in cc
-fitting_passes source (Line line) (Some (Entered entry)) fault says fits (inl fails) = let passes = passes_line source line (Some entry) says fits.0 in let failed = fails.1 in cc
+fitting_passes source (Line line) None fault says fits (inl fails) = let passes = says_passes (is_open source) line None says tt in let failed = fails.1 in cc
+fitting_passes source (Line line) None fault says fits (inr (entry, next, fails)) = let same : ◌≡◌ {A = Option Entry} None (Some entry) = says_once (is_open source) line None (Some entry) says tt next.0 next.1 in cc
+fitting_passes source (Line line) (Some (Entered entry)) fault says fits (inl fails) = let passes = says_passes (is_open source) line (Some entry) says fits.0 in let failed = fails.1 in cc
 fitting_passes source (Line line) (Some (Entered entry)) fault says fits (inr (other, next, fails)) =
-    let same : Some entry ≡ Some other = says_one line (Some entry) (Some other) says next.0 in
+    let same : Some entry ≡ Some other = says_once (is_open source) line (Some entry) (Some other) says fits.0 next.0 next.1 in
     let one : entry ≡ other = cc in
     let passes : first_failed (entry_checks source other) ≡ None = ap (λ (e : Entry). first_failed (entry_checks source e)) (sym one) ∙ passed_if_room source entry fits.1 in
     let failed = fails.1 in cc
@@ -67,11 +63,11 @@ fails_once : (source : SourceLines) (event : Event) (one other : Fault) → Fail
 fails_once source (Line line) one other (inl fails) (inl fails') =
     let kinds = fails.1 in let kinds' = fails'.1 in same_fault one other (fails.0 ∙ sym fails'.0) cc
 fails_once source (Line line) one other (inl fails) (inr (entry, next, _)) =
-    let passes = passes_line source line (Some entry) next.0 next.1 in let failed = fails.1 in absurd cc
+    let passes = says_passes (is_open source) line (Some entry) next.0 next.1 in let failed = fails.1 in absurd cc
 fails_once source (Line line) one other (inr (entry, next, _)) (inl fails) =
-    let passes = passes_line source line (Some entry) next.0 next.1 in let failed = fails.1 in absurd cc
+    let passes = says_passes (is_open source) line (Some entry) next.0 next.1 in let failed = fails.1 in absurd cc
 fails_once source (Line line) one other (inr (entry, next, fails)) (inr (entry', next', fails')) =
-    let same : Some entry ≡ Some entry' = says_one line (Some entry) (Some entry') next.0 next'.0 in
+    let same : Some entry ≡ Some entry' = says_once (is_open source) line (Some entry) (Some entry') next.0 next.1 next'.0 next'.1 in
     let one_entry : entry ≡ entry' = cc in
     let checks = ap (λ (e : Entry). first_failed (entry_checks source e)) one_entry in
     let kinds = fails.1 in let kinds' = fails'.1 in same_fault one other (fails.0 ∙ sym fails'.0) cc
@@ -103,7 +99,7 @@ module _ (before : List Event) (source : SourceLines) (is : IsRead before source
   said_goes line (Some entry) says next = entry_goes line entry (says, next) (first_failed (entry_checks source entry)) refl
 
   line_goes : (line : PlacedLine) (failed : Option Kind) → first_failed (line_checks (is_open source) line.bytes) ≡ failed → Goes (Line line)
-  line_goes line None e = let says = (says_or_fails (is_open source) line).1 e in said_goes line says.0 says.1 says.2
+  line_goes line None e = let says = line_said (is_open source) line e in said_goes line says.0 says.1 says.2
   line_goes line (Some kind) e = inr (fault_at line.place kind, inl (refl, e))
 
   end_goes : (line : Option ZoneLine) → open_line source ≡ line → Goes End
