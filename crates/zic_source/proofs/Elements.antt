@@ -1,6 +1,9 @@
 -- Elements of lists.
-use Rattle.std.proofs.Common.{◌≡◌, ℕ, zero, suc, ◌⊎◌, inl, inr, ⊎_elim, List, [], ◌∷◌, map, Some, refl, sym, ap, subst, ◌∙◌, arith}
+use Rattle.std.proofs.Common.{◌≡◌, ℕ, zero, suc, Bool, true, false, ◌⊎◌, inl, inr, ⊎_elim, List, [], ◌∷◌, map, Some, refl, sym, ap, subst, ◌∙◌, arith}
 use Rattle.std.specs.Prelude.{Contains, flat_map, slice_get}
+use Rattle.std.specs.List.{list_any}
+use Rattle.std.proofs.lemmas.Bool.{or_cases}
+use Rattle.std.proofs.lemmas.List.Folds.{list_any_at}
 use Rattle.std.proofs.lemmas.List.Elements.{Contains-append_left, Contains-append_right, Contains-append_cases}
 use Rattle.std.proofs.lemmas.Option.{slice_get-get_or, slice_get_within, get_or_from_slice_get}
 
@@ -16,6 +19,9 @@ first_contained x xs = (0, omega arith, refl)
 pub cons_cases : {A : Type 0} (y : A) (xs : List A) (x : A) → Contains (y ∷ xs) x → (y ≡ x) ⊎ Contains xs x
 cons_cases y xs x (zero, lt, e) = inl e
 cons_cases y xs x (suc k, lt, e) = inr (k, omega arith, e)
+
+pub only_one : {A : Type 0} (one x : A) → Contains (one ∷ []) x → one ≡ x
+only_one one x has = ⊎_elim (λ same. same) (λ none. absurd (omega (arith, none.1))) (cons_cases one [] x has)
 
 pub from_flat_map : {X A : Type 0} (f : X → List A) (xs : List X) (a : A) → Contains (flat_map f xs) a → (x : X) × Contains xs x × Contains (f x) a
 from_flat_map f [] a has = absurd (omega (arith, has.1))
@@ -38,22 +44,14 @@ into_map f (y ∷ xs) x has = ⊎_elim
     (λ later. Contains-append_right (f y ∷ []) (map f xs) (f x) (into_map f xs x later))
     (cons_cases y xs x has)
 
--- ---- elements that are not related
+-- ---- elements that pass a test
 
--- none of the elements is related so to a later one
-abbrev pub Apart : {A : Type 0} → (A → A → Type 0) → List A → Type 0
-Apart R [] = Unit {0}
-Apart R (x ∷ xs) = ((y : _) → Contains xs y → R x y → ⊥) × Apart R xs
+pub contained_passes : {A : Type 0} (test : A → Bool) (xs : List A) (x : A) → Contains xs x → test x ≡ true → list_any test xs ≡ true
+contained_passes test xs x (i, lt, at) e = list_any_at test xs i x lt (ap test at ∙ e)
 
-module _ {A : Type 0} (R : A → A → Type 0) (turned : (x y : A) → R x y → R y x) where
-  one_of_first : (x : A) (xs : List A) (a b : A) → ((y : A) → Contains xs y → R x y → ⊥) → R a b → (Contains xs a → Contains xs b → a ≡ b) → (x ≡ a) ⊎ Contains xs a → (x ≡ b) ⊎ Contains xs b → a ≡ b
-  one_of_first x xs a b apart related rest (inl e) (inl f) = sym e ∙ f
-  one_of_first x xs a b apart related rest (inl e) (inr later) = absurd (apart b later (subst (λ (y : A). R y b) (sym e) related))
-  one_of_first x xs a b apart related rest (inr later) (inl f) = absurd (apart a later (subst (λ (y : A). R y a) (sym f) (turned a b related)))
-  one_of_first x xs a b apart related rest (inr of_a) (inr of_b) = rest of_a of_b
-
-  -- two elements that are related are one
-  pub one_of_related : (xs : List A) (a b : A) → Apart R xs → R a b → Contains xs a → Contains xs b → a ≡ b
-  one_of_related [] a b apart related has_a has_b = absurd (omega (arith, has_a.1))
-  one_of_related (x ∷ xs) a b apart related has_a has_b =
-      one_of_first x xs a b apart.0 related (one_of_related xs a b apart.1 related) (cons_cases x xs a has_a) (cons_cases x xs b has_b)
+pub one_that_passes : {A : Type 0} (test : A → Bool) (xs : List A) → list_any test xs ≡ true → (x : A) × Contains xs x × (test x ≡ true)
+one_that_passes test [] e = absurd cc
+one_that_passes test (x ∷ xs) e = ⊎_elim
+    (λ here. (x, first_contained x xs, here))
+    (λ later. let rest = one_that_passes test xs later in (rest.0, Contains-append_right (x ∷ []) xs rest.0 rest.1, rest.2))
+    (or_cases (test x) (list_any test xs) e)

@@ -1,17 +1,52 @@
--- Which fault of some texts is the first: own choice.
-use Rattle.std.specs.Prelude.{◌≡◌, ℕ, List, Ok, Err, ◌⊎◌}
+-- Which fault of some texts is the first: own choice. It is that of the first line or end of which a check fails where all that
+-- comes before is read; only where all is read is something wrong with the source as a whole.
+use Rattle.std.specs.Prelude.{◌≡◌, ◌≤◌, ℕ, List, ◌∷◌, ◌++◌, Some, ◌⊎◌, length, IsSomeAnd}
 use Rattle.zic_base.specs.declared.fault.Fault.{Fault}
-use Rattle.zic_base.specs.declared.fault.Stop.{Stop}
-use Rattle.zic_base.specs.declared.fault.Stop.TheVariants as stops
+use Rattle.zic_base.specs.declared.fault.Kind.TheVariants.{NoContinuation}
+use Rattle.zic_base.specs.Fault.{fault_at, IsFirstFailed}
+use Rattle.zic_lines.specs.declared.entry.Entry.{Entry}
+use Rattle.zic_lines.specs.Entry.{is_continuation}
+use Rattle.zic_lines.specs.Line.{PlacedLine}
+use Rattle.zic_lines.specs.Grammar.{Says}
+use Rattle.zic_lines.specs.Checks.{line_checks}
+use Rattle.zic_source.specs.Event.{Event, Line, End, events_of}
 use Rattle.zic_source.specs.Source.{SourceLines}
+use Rattle.zic_source.specs.Grammar.{open_line, is_open, IsRead, IsReadable}
+use Rattle.zic_source.specs.Checks.{entry_checks}
 use Rattle.zic_source.specs.Whole.{HasFirst}
-use Rattle.zic_source.specs.Reading.{reading}
 
--- The first fault of the texts: of their lines and ends, or, where none of these has one, of the source as a whole.
+-- The line, after this source, is right by itself and says this.
+abbrev pub SaysNext : SourceLines → PlacedLine → Entry → Type 0
+SaysNext source line entry = Says line (Some entry) × (is_continuation entry ≡ is_open source)
+
+-- What comes next, after this source, has this fault: a line that of the first of its own checks that fails, or else of the first
+-- check of what it adds; the end of a text that of the last UNTIL, where a continuation line has to follow.
+abbrev pub Fails : SourceLines → Event → Fault → Type 0
+Fails source (Line line) fault =
+    IsFirstFailed line.place (line_checks (is_open source) line.bytes) fault
+    ⊎ ((entry : Entry) × SaysNext source line entry × IsFirstFailed line.place (entry_checks source entry) fault)
+Fails source End fault = IsSomeAnd (open_line source) (λ line. fault ≡ fault_at line.place NoContinuation)
+
+-- an event of the texts, and the source that all events before it say
+pub record IsReached (texts : List (List ℕ)) (source : SourceLines) (event : Event) : Type 0 where
+  pub before : List Event
+  pub after : List Event
+  pub stands : events_of texts ≡ before ++ event ∷ after
+  pub read : IsRead before source
+
+-- an event of the texts has this fault, and all events before it are read
+pub record IsReadingFault (texts : List (List ℕ)) (fault : Fault) : Type 0 where
+  pub source : SourceLines
+  pub event : Event
+  pub reached : IsReached texts source event
+  pub fails : Fails source event fault
+
+-- the first fault of the texts: of a line or an end, or, where all is read, of the source as a whole
 abbrev pub IsFirstFault : List (List ℕ) → Fault → Type 0
-IsFirstFault texts fault = (reading texts ≡ Err fault) ⊎ ((source : SourceLines) × (reading texts ≡ Ok source) × HasFirst source fault)
+IsFirstFault texts fault = IsReadingFault texts fault ⊎ ((source : SourceLines) × IsReadable texts source × HasFirst source fault)
 
--- why texts aren't read; of want of memory nothing is said
-abbrev pub StopsReading : List (List ℕ) → Stop → Type 0
-StopsReading texts stops.Memory = Unit {0}
-StopsReading texts (stops.Fault fault) = IsFirstFault texts fault
+-- Memory may be wanted: for a line that isn't too long, before which all is read, or where all is read.
+abbrev pub MayWantMemory : List (List ℕ) → Type 0
+MayWantMemory texts =
+    ((source : SourceLines) × (line : PlacedLine) × IsReached texts source (Line line) × (length line.bytes ≤ 2048))
+    ⊎ ((source : SourceLines) × IsReadable texts source)

@@ -1,12 +1,10 @@
 -- Laws about sources and first faults.
-use Rattle.std.specs.Prelude.{◌≡◌, ℕ, List, Err, ◌⊎◌, ◌↔◌}
+use Rattle.std.specs.Prelude.{◌≡◌, ℕ, List, ◌⊎◌}
 use Rattle.zic_base.specs.declared.fault.Fault.{Fault}
 use Rattle.zic_source.specs.Source.{SourceLines}
 use Rattle.zic_source.specs.Grammar.{IsSource}
-use Rattle.zic_lines.specs.Line.{lines_of_texts}
-use Rattle.zic_source.specs.Reading.{reading}
 use Rattle.zic_source.specs.FirstFault.{IsFirstFault}
-use Rattle.zic_source.specs.FirstLine.{IsFaultOfLine, IsFaultOfEnd}
+use Rattle.zic_source.specs.Sound.{IsSoundSource}
 
 -- texts are a source, or have a first fault
 abbrev pub TextsAreSourceOrFaulty : Type 0
@@ -24,6 +22,6 @@ NoSourceHasAFault = (texts : List (List ℕ)) (source : SourceLines) (fault : Fa
 abbrev pub OneFaultIsFirst : Type 0
 OneFaultIsFirst = (texts : List (List ℕ)) (a b : Fault) → IsFirstFault texts a → IsFirstFault texts b → a ≡ b
 
--- a fault in reading is that of a line or of a text's end before which all is read
-abbrev pub FaultStandsInALine : Type 0
-FaultStandsInALine = (texts : List (List ℕ)) (fault : Fault) → (reading texts ≡ Err fault) ↔ (IsFaultOfLine (lines_of_texts texts) fault ⊎ IsFaultOfEnd (lines_of_texts texts) fault)
+-- each source is sound
+abbrev pub SourcesAreSound : Type 0
+SourcesAreSound = (texts : List (List ℕ)) (source : SourceLines) → IsSource texts source → IsSoundSource source

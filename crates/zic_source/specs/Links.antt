@@ -1,9 +1,9 @@
 -- Where links lead: zic(8), FILES. That a link may lead to another link, and that its chain has to end at a zone, is own choice.
 -- Where names differ, a link's chain ends in just one of three ways: at a zone, at a name that isn't there, or never.
-use Rattle.std.specs.Prelude.{◌≡◌, ℕ, Bool, not, ◌||◌, List, [], ◌∷◌, Contains, IsTrue, bytes_eq}
+use Rattle.std.specs.Prelude.{◌≡◌, ℕ, Bool, not, ◌||◌, List, [], ◌∷◌, Contains, IsTrue, IsSomeAnd, bytes_eq}
 use Rattle.std.specs.List.{list_any}
 use Rattle.zic_lines.specs.declared.link.Link.{Link}
-use Rattle.zic_source.specs.Source.{SourceLines, ZoneLines}
+use Rattle.zic_source.specs.Source.{SourceLines, ZoneLines, zone_at}
 
 -- a link has this name
 abbrev pub is_link_name : SourceLines → List ℕ → Bool
@@ -29,6 +29,10 @@ LeadsTo source from to = (path : List Link) × IsPath source from path to
 -- The link's chain ends at a zone.
 abbrev pub EndsAtZone : SourceLines → Link → Type 0
 EndsAtZone source link = (zone : ZoneLines) × Contains source.zones zone × LeadsTo source link.target zone.name
+
+-- The link's chain ends at the zone of this number.
+abbrev pub EndsAt : SourceLines → Link → ℕ → Type 0
+EndsAt source link number = IsSomeAnd (zone_at source number) (λ zone. LeadsTo source link.target zone.name)
 
 -- The link's chain ends at a name that isn't there.
 abbrev pub EndsNowhere : SourceLines → Link → Type 0

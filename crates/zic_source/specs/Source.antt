@@ -1,5 +1,6 @@
 -- What a source says, as its lines stand: zic(8), FILES.
-use Rattle.std.specs.Prelude.{map, ℕ, List, [], ◌∷◌, Option, slice_get, count_by, flat_map, bytes_eq}
+use Rattle.std.specs.Prelude.{ℕ, Bool, List, [], ◌∷◌, Option, map, filter, length, slice_get, count_by, flat_map, bytes_eq}
+use Rattle.std.specs.List.{list_any, enumerate_from}
 use Rattle.zic_lines.specs.declared.rule.Rule.{Rule}
 use Rattle.zic_lines.specs.declared.zone_line.ZoneLine.{ZoneLine}
 use Rattle.zic_lines.specs.declared.link.Link.{Link}
@@ -22,9 +23,21 @@ pub record SourceLines : Type 0 where
 abbrev pub no_lines : SourceLines
 no_lines = record { rules = []; zones = []; links = [] }
 
+-- the rule belongs to the set
+abbrev pub is_of_set : List ℕ → Rule → Bool
+is_of_set name rule = bytes_eq name rule.name
+
 -- how many of the rules belong to the set
 abbrev pub set_size : List ℕ → List Rule → ℕ
-set_size name rules = count_by (λ rule. bytes_eq name rule.name) rules
+set_size name rules = count_by (is_of_set name) rules
+
+-- some rule belongs to the set
+abbrev pub is_set : List ℕ → List Rule → Bool
+is_set name rules = list_any (is_of_set name) rules
+
+-- the numbers of the set's rules, from 0 in the order of the texts and their lines
+abbrev pub set_rules : List ℕ → List Rule → List ℕ
+set_rules name rules = map (λ rule. rule.0) (filter (λ rule. is_of_set name rule.1) (enumerate_from 0 rules))
 
 -- the lines of a zone in order
 abbrev pub lines_of_zone : ZoneLines → List ZoneLine

@@ -1,29 +1,23 @@
 -- What can be wrong only with a source as a whole: zic(8), FILES; which fault is the first is own choice.
-use Rattle.std.specs.Prelude.{◌≡◌, ℕ, ◌<◌, Bool, false, not, List, Contains, IsTrue, ◌⊎◌, bytes_eq}
-use Rattle.std.specs.List.{list_any}
+use Rattle.std.specs.Prelude.{◌≡◌, ℕ, Bool, false, not, List, Contains, IsTrue}
 use Rattle.zic_base.specs.declared.place.Place.{Place}
 use Rattle.zic_base.specs.declared.fault.Fault.{Fault}
 use Rattle.zic_base.specs.declared.fault.Kind.{Kind}
-use Rattle.zic_base.specs.declared.fault.Stop.{Stop}
-use Rattle.zic_base.specs.declared.fault.Stop.TheVariants as stops
 use Rattle.zic_base.specs.declared.fault.Kind.TheVariants.{UnknownRules, UnknownTarget, LinkCycle}
 use Rattle.zic_lines.specs.declared.rule.Rule.{Rule}
 use Rattle.zic_lines.specs.declared.rules.Rules.{Rules}
 use Rattle.zic_lines.specs.declared.rules.Rules.TheVariants.{Standard, Amount, Set}
 use Rattle.zic_lines.specs.declared.zone_line.ZoneLine.{ZoneLine}
 use Rattle.zic_lines.specs.declared.link.Link.{Link}
-use Rattle.zic_source.specs.Source.{SourceLines, zone_lines_of}
+use Rattle.zic_base.specs.Place.{IsBefore}
+use Rattle.zic_source.specs.Source.{SourceLines, is_set, zone_lines_of}
 use Rattle.zic_source.specs.Links.{EndsAtZone, EndsNowhere, HasNoEnd}
-
--- some rule belongs to the set
-abbrev pub is_set : List Rule → List ℕ → Bool
-is_set rules name = list_any (λ rule. bytes_eq rule.name name) rules
 
 -- RULES names a set to which no rule belongs
 abbrev pub is_unknown : List Rule → Rules → Bool
 is_unknown rules Standard = false
 is_unknown rules (Amount saving) = false
-is_unknown rules (Set name) = not (is_set rules name)
+is_unknown rules (Set name) = not (is_set name rules)
 
 -- each set that a zone's line names has a rule, and each link's chain ends at a zone
 pub record IsWhole (source : SourceLines) : Type 0 where
@@ -37,16 +31,7 @@ HasAt source place UnknownTarget = (link : Link) × Contains source.links link �
 HasAt source place LinkCycle = (link : Link) × Contains source.links link × (link.place ≡ place) × HasNoEnd source link
 HasAt source place _ = ⊥
 
--- One place stands before the other: in an earlier text, or in an earlier line of the same text.
-abbrev pub IsBefore : Place → Place → Type 0
-IsBefore place other = (place.text < other.text) ⊎ ((place.text ≡ other.text) × (place.line < other.line))
-
 -- The source has this fault, and none at an earlier place.
 pub record HasFirst (source : SourceLines) (fault : Fault) : Type 0 where
   pub has : HasAt source fault.place fault.kind
   pub first : (place : Place) (kind : Kind) → HasAt source place kind → IsBefore place fault.place → ⊥
-
--- why a source is not whole; of want of memory nothing is said
-abbrev pub StopsWhole : SourceLines → Stop → Type 0
-StopsWhole source stops.Memory = Unit {0}
-StopsWhole source (stops.Fault fault) = HasFirst source fault

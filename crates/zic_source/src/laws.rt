@@ -1,6 +1,6 @@
 //! Laws about the definitions that the contract of `read_source` cites. These functions do nothing.
 
-ghost use Rattle.zic_source.specs.Laws.{TextsAreSourceOrFaulty, TextsAreOneSource, NoSourceHasAFault, OneFaultIsFirst, FaultStandsInALine};
+ghost use Rattle.zic_source.specs.Laws.{TextsAreSourceOrFaulty, TextsAreOneSource, NoSourceHasAFault, OneFaultIsFirst, SourcesAreSound};
 
 /// Texts are a source, or have a first fault.
 pub fn texts_are_source_or_faulty()
@@ -22,7 +22,7 @@ pub fn one_fault_is_first()
     ensures { OneFaultIsFirst }
 {}
 
-/// Reading stops at a fault of a line or of a text's end just where all that comes before is read without one.
-pub fn fault_stands_in_a_line()
-    ensures { FaultStandsInALine }
+/// Each source is sound.
+pub fn sources_are_sound()
+    ensures { SourcesAreSound }
 {}

@@ -4,20 +4,7 @@
 //! do nothing: they state what holds of sources and first faults.
 #![tactic(auto)]
 
-mod chains;
 pub mod laws;
-mod names;
-mod reading;
-mod set_sizes;
-mod source;
-mod whole;
+mod limit;
 
-pub use reading::read_source;
-pub use source::Source;
-pub use zic_lines::{
-    Fault, Format, FormatPart, Kind, Link, Place, Rule, Rules, Stop, Until, ZoneLine,
-};
-pub use zic_words::{ClockForm, Letter, Name, Saving, SetName};
-
-#[cfg(test)]
-mod tests;
+pub use limit::{MOST_NAMES, MOST_RULES, MOST_RULES_OF_SET, MOST_ZONE_LINES};

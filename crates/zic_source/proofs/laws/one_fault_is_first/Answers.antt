@@ -1,4 +1,4 @@
-use Rattle.zic_source.proofs.OneFault.{one_first_fault}
+use Rattle.zic_source.proofs.faults.FirstFault.{one_first_fault}
 use Rattle.zic_source.proofs.laws.one_fault_is_first.Goals as goal
 
 pub returns : goal.returns

@@ -1,7 +1,6 @@
-use Rattle.std.proofs.Common.{sym, ◌∙◌}
-use Rattle.zic_source.proofs.ReadSources.{source_is_read}
-use Rattle.zic_lines.proofs.Steps.{same_ok}
+use Rattle.zic_source.specs.Event.{events_of}
+use Rattle.zic_source.proofs.reading.Once.{read_once}
 use Rattle.zic_source.proofs.laws.texts_are_one_source.Goals as goal
 
 pub returns : goal.returns
-returns c = λ texts a b one other. same_ok a b (sym (source_is_read texts a one).0 ∙ (source_is_read texts b other).0)
+returns c = λ texts a b is is'. read_once (events_of texts) a b is.read is'.read

@@ -1,9 +1,0 @@
-use Rattle.std.specs.Prelude.{is_none, count_by}
-use Rattle.zic_source.proofs.ChainWalks.{IsWalk}
-use Rattle.zic_source.proofs.chains.follow.Given as goal
-
-abbrev pub invariant-loop-ends : goal.invariant-loop-ends
-invariant-loop-ends l = IsWalk l.names l.source l.start l.fn.ends l.ends l.path.items l.link
-
-abbrev pub decreases-loop-ends : goal.decreases-loop-ends
-decreases-loop-ends l = count_by is_none l.ends

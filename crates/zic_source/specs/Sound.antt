@@ -1,0 +1,81 @@
+-- What holds of every source, by names that the layers above cite: own limits on what zic(8) has.
+use Rattle.std.specs.Prelude.{◌≡◌, ◌≢◌, ◌≤◌, ◌+◌, ℕ, ℤ, pos, ◌≤ℤ◌, Bool, true, false, List, [], ◌∷◌, ◌++◌, length, map, All, AllPairs, IfSome, unsigned_abs}
+use Rattle.std.specs.Int.{IsInRange}
+use Rattle.zic_calendar.specs.DayForm.{FormFits}
+use Rattle.zic_words.specs.declared.saving.Saving.{Saving}
+use Rattle.zic_words.specs.declared.clock.ClockTime.{ClockTime}
+use Rattle.zic_words.specs.Name.{is_name}
+use Rattle.zic_words.specs.SetName.{is_set_name}
+use Rattle.zic_lines.specs.declared.moment.Moment.{Moment}
+use Rattle.zic_lines.specs.declared.rule.Rule.{Rule}
+use Rattle.zic_lines.specs.declared.rules.Rules.{Rules}
+use Rattle.zic_lines.specs.declared.rules.Rules.TheVariants.{Standard, Amount, Set}
+use Rattle.zic_lines.specs.declared.until.Until.{Until}
+use Rattle.zic_lines.specs.declared.zone_line.ZoneLine.{ZoneLine}
+use Rattle.zic_lines.specs.declared.link.Link.{Link}
+use Rattle.zic_lines.specs.Entry.{has_until}
+use Rattle.zic_source.specs.declared.limit.TheConstants.{MOST_RULES, MOST_RULES_OF_SET, MOST_ZONE_LINES, MOST_NAMES}
+use Rattle.zic_source.specs.Source.{SourceLines, ZoneLines, set_size, is_set, lines_of_zone, zone_lines_of}
+use Rattle.zic_source.specs.Links.{EndsAtZone}
+
+-- within 24:00:00 either way
+abbrev pub IsWithinDay : ℤ → Type 0
+IsWithinDay seconds = unsigned_abs seconds ≤ 86_400
+
+-- a month, and a time of day within 300:00:00 either way
+pub record IsSoundMoment (moment : Moment) : Type 0 where
+  pub month : IsInRange 1 12 moment.month
+  pub at : unsigned_abs moment.at.seconds ≤ 1_080_000
+
+-- The rule holds in this year.
+pub record HoldsIn (rule : Rule) (year : ℤ) : Type 0 where
+  pub begun : pos rule.first ≤ℤ year
+  pub not_over : IfSome rule.last (λ last. year ≤ℤ pos last)
+
+-- a rule: its years, a moment whose form fits the month in each of them, its saving, its set's name
+pub record IsSoundRule (rule : Rule) : Type 0 where
+  pub name : is_set_name rule.name ≡ true
+  pub first : IsInRange 1 9000 rule.first
+  pub last : IfSome rule.last (λ last. IsInRange rule.first 9000 last)
+  pub moment : IsSoundMoment rule.moment
+  pub fits : (year : ℤ) → HoldsIn rule year → FormFits year rule.moment.month rule.moment.on
+  pub saving : IsWithinDay rule.saving.seconds
+
+-- an UNTIL: its year, and a moment whose form fits the month in it
+pub record IsSoundUntil (until : Until) : Type 0 where
+  pub year : IsInRange 1 9000 until.year
+  pub moment : IsSoundMoment until.moment
+  pub fits : FormFits (pos until.year) until.moment.month until.moment.on
+
+-- RULES: an amount within its limit, or a set that has a rule
+abbrev pub AreSoundRules : List Rule → Rules → Type 0
+AreSoundRules rules Standard = Unit {0}
+AreSoundRules rules (Amount saving) = IsWithinDay saving.seconds
+AreSoundRules rules (Set name) = is_set name rules ≡ true
+
+-- a Zone or continuation line
+pub record IsSoundLine (rules : List Rule) (line : ZoneLine) : Type 0 where
+  pub offset : IsWithinDay line.offset
+  pub rules_known : AreSoundRules rules line.rules
+  pub until : IfSome line.until IsSoundUntil
+
+-- a zone: an UNTIL on each line but the last, and none there
+pub record IsSoundZone (rules : List Rule) (zone : ZoneLines) : Type 0 where
+  pub name : is_name zone.name ≡ true
+  pub lines : All (IsSoundLine rules) (lines_of_zone zone)
+  pub untils : map has_until (lines_of_zone zone) ≡ (map (λ _. true) zone.continuations ++ false ∷ [])
+
+-- the names of zones and links
+abbrev pub names_of : SourceLines → List (List ℕ)
+names_of source = map (λ zone. zone.name) source.zones ++ map (λ link. link.name) source.links
+
+-- A source is sound: each of its lines is, names differ, the four counts hold, and each link's chain ends at a zone.
+pub record IsSoundSource (source : SourceLines) : Type 0 where
+  pub rules : All IsSoundRule source.rules
+  pub zones : All (IsSoundZone source.rules) source.zones
+  pub links : All (EndsAtZone source) source.links
+  pub names_differ : AllPairs (λ name other. name ≢ other) (names_of source)
+  pub small_sets : (name : List ℕ) → set_size name source.rules ≤ MOST_RULES_OF_SET
+  pub few_rules : length source.rules ≤ MOST_RULES
+  pub few_zone_lines : length (zone_lines_of source) ≤ MOST_ZONE_LINES
+  pub few_names : length source.zones + length source.links ≤ MOST_NAMES
