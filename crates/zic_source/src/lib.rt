@@ -4,7 +4,14 @@
 //! do nothing: they state what holds of sources and first faults.
 #![tactic(auto)]
 
+mod chains;
 pub mod laws;
 mod limit;
+mod lines;
+mod names;
+mod sets;
+mod source;
+mod whole;
 
 pub use limit::{MOST_NAMES, MOST_RULES, MOST_RULES_OF_SET, MOST_ZONE_LINES};
+pub use source::Source;
