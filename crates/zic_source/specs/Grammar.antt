@@ -3,7 +3,7 @@ use Rattle.std.specs.Prelude.{◌≡◌, ◌≢◌, ◌≤◌, ℕ, Bool, false,
 use Rattle.std.specs.List.{AllZip}
 use Rattle.zic_lines.specs.declared.entry.Entry.{Entry}
 use Rattle.zic_lines.specs.declared.zone_line.ZoneLine.{ZoneLine}
-use Rattle.zic_lines.specs.Entry as entry
+use Rattle.zic_lines.specs.Entry as said_by
 use Rattle.zic_lines.specs.Entry.{has_until, rules_in, zone_entries_in, links_in, names_in}
 use Rattle.zic_lines.specs.Grammar.{Says}
 use Rattle.zic_source.specs.declared.limit.TheConstants.{MOST_RULES, MOST_RULES_OF_SET, MOST_ZONE_LINES, MOST_NAMES}
@@ -36,12 +36,12 @@ entries_in Ended = []
 
 -- a Zone or continuation line with an UNTIL goes on; the end of a text doesn't
 abbrev pub goes_on : Statement → Bool
-goes_on (Entered entry) = entry.goes_on entry
+goes_on (Entered entry) = said_by.goes_on entry
 goes_on Ended = false
 
 -- a continuation line continues; the end of a text doesn't
 abbrev pub continues : Statement → Bool
-continues (Entered entry) = entry.is_continuation entry
+continues (Entered entry) = said_by.is_continuation entry
 continues Ended = false
 
 -- the last of some lines, where it has an UNTIL
