@@ -5,3 +5,5 @@ pub mod Names
 pub mod Chains
 pub mod Faults
 pub mod Source
+pub mod Reader
+pub mod Events
