@@ -1,1 +1,7 @@
+pub mod SameBytes
+pub mod Elements
+pub mod Counts
+pub mod LineLaws
 pub mod reading
+pub mod links
+pub mod faults

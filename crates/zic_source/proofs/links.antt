@@ -1,0 +1,2 @@
+pub mod NamesDiffer
+pub mod ThreeEnds

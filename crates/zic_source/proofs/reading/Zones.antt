@@ -1,0 +1,106 @@
+-- Zones and their lines, as what is said of them.
+use Rattle.std.proofs.Common.{◌≡◌, Bool, true, false, cond, List, [], ◌∷◌, ◌++◌, map, Some, None, refl, sym, ap, ◌∙◌, append_assoc}
+use Rattle.std.specs.Prelude.{flat_map, is_some}
+use Rattle.std.proofs.lemmas.List.{append-nil, map-append}
+use Rattle.zic_lines.specs.declared.zone_line.ZoneLine.{ZoneLine}
+use Rattle.zic_lines.specs.declared.entry.Entry.{Entry}
+use Rattle.zic_lines.specs.declared.entry.Entry.TheVariants as entries
+use Rattle.zic_lines.specs.Entry.{has_until, zone_entries_in}
+use Rattle.zic_source.specs.Source.{ZoneLines, SourceLines, lines_of_zone, zone_lines_of, entries_of_zone}
+use Rattle.zic_source.specs.Grammar.{last_until, open_line, is_open}
+use Rattle.zic_source.specs.code.Adding.{continued}
+use Rattle.zic_source.proofs.Counts.{flat_map_twice}
+
+-- ---- their lines
+
+-- the line, where it is of a zone
+abbrev pub lines_in : Entry → List ZoneLine
+lines_in (entries.Rule rule) = []
+lines_in (entries.Zone name line) = line ∷ []
+lines_in (entries.Continuation line) = line ∷ []
+lines_in (entries.Link link) = []
+
+continuation_lines : (lines : List ZoneLine) → flat_map lines_in (map entries.Continuation lines) ≡ lines
+continuation_lines [] = refl
+continuation_lines (line ∷ lines) = ap (λ (ls : List ZoneLine). line ∷ ls) (continuation_lines lines)
+
+zone_entry_lines : (entry : Entry) → flat_map lines_in (zone_entries_in entry) ≡ lines_in entry
+zone_entry_lines (entries.Rule rule) = refl
+zone_entry_lines (entries.Zone name line) = refl
+zone_entry_lines (entries.Continuation line) = refl
+zone_entry_lines (entries.Link link) = refl
+
+-- the lines of zones are those that are said of them
+pub zone_lines_said : (zones : List ZoneLines) (said : List Entry) → flat_map entries_of_zone zones ≡ flat_map zone_entries_in said → flat_map lines_of_zone zones ≡ flat_map lines_in said
+zone_lines_said zones said e =
+    sym (flat_map_twice entries_of_zone lines_in lines_of_zone (λ zone. ap (λ (ls : List ZoneLine). zone.first ∷ ls) (continuation_lines zone.continuations)) zones)
+    ∙ ap (flat_map lines_in) e ∙ flat_map_twice zone_entries_in lines_in lines_in zone_entry_lines said
+
+-- ---- one continuation line more
+
+some_if : (b : Bool) (line : ZoneLine) → is_some (cond b (Some line) None) ≡ b
+some_if true line = refl
+some_if false line = refl
+
+last_until-push : (lines : List ZoneLine) (line : ZoneLine) → is_some (last_until (lines ++ line ∷ [])) ≡ has_until line
+last_until-push [] line = some_if (has_until line) line
+last_until-push (one ∷ []) line = some_if (has_until line) line
+last_until-push (one ∷ other ∷ lines) line = last_until-push (other ∷ lines) line
+
+-- a source is open after a line with an UNTIL
+pub open_after : (source : SourceLines) (lines : List ZoneLine) (line : ZoneLine) → zone_lines_of source ≡ (lines ++ line ∷ []) → is_open source ≡ has_until line
+open_after source lines line e = ap (λ (ls : List ZoneLine). is_some (last_until ls)) e ∙ last_until-push lines line
+
+continued_said : (line : ZoneLine) (zone : ZoneLines) (zones : List ZoneLines) → flat_map entries_of_zone (continued (zone ∷ zones) line) ≡ flat_map entries_of_zone (zone ∷ zones) ++ entries.Continuation line ∷ []
+continued_said line zone [] = ap (λ (rest : List Entry). entries.Zone zone.name zone.first ∷ rest)
+    (append-nil (map entries.Continuation (zone.continuations ++ line ∷ [])) ∙ map-append entries.Continuation zone.continuations (line ∷ [])
+    ∙ ap (λ (rest : List Entry). rest ++ entries.Continuation line ∷ []) (sym (append-nil (map entries.Continuation zone.continuations))))
+continued_said line zone (other ∷ zones) =
+    ap (λ (rest : List Entry). entries_of_zone zone ++ rest) (continued_said line other zones) ∙ sym (append_assoc (entries_of_zone zone) (flat_map entries_of_zone (other ∷ zones)) (entries.Continuation line ∷ []))
+
+-- where one has to follow, a continuation line more is one line more
+pub open_continued : (zones : List ZoneLines) (line : ZoneLine) → true ≡ is_some (last_until (flat_map lines_of_zone zones)) → flat_map entries_of_zone (continued zones line) ≡ flat_map entries_of_zone zones ++ entries.Continuation line ∷ []
+open_continued [] line e = absurd cc
+open_continued (zone ∷ zones) line e = continued_said line zone zones
+
+-- ---- zones are what is said of them
+
+-- the continuation lines that a list begins with
+abbrev front_lines : List Entry → List ZoneLine
+front_lines [] = []
+front_lines (entries.Rule rule ∷ rest) = []
+front_lines (entries.Zone name line ∷ rest) = []
+front_lines (entries.Continuation line ∷ rest) = line ∷ front_lines rest
+front_lines (entries.Link link ∷ rest) = []
+
+-- the zones of some lines: one at each Zone line
+abbrev zones_of : List Entry → List ZoneLines
+zones_of [] = []
+zones_of (entries.Rule rule ∷ rest) = zones_of rest
+zones_of (entries.Zone name line ∷ rest) = record { name = name; first = line; continuations = front_lines rest } ∷ zones_of rest
+zones_of (entries.Continuation line ∷ rest) = zones_of rest
+zones_of (entries.Link link ∷ rest) = zones_of rest
+
+front_of_zones : (zones : List ZoneLines) → front_lines (flat_map entries_of_zone zones) ≡ []
+front_of_zones [] = refl
+front_of_zones (zone ∷ zones) = refl
+
+front-append : (lines : List ZoneLine) (rest : List Entry) → front_lines (map entries.Continuation lines ++ rest) ≡ lines ++ front_lines rest
+front-append [] rest = refl
+front-append (line ∷ lines) rest = ap (λ (ls : List ZoneLine). line ∷ ls) (front-append lines rest)
+
+zones-append : (lines : List ZoneLine) (rest : List Entry) → zones_of (map entries.Continuation lines ++ rest) ≡ zones_of rest
+zones-append [] rest = refl
+zones-append (line ∷ lines) rest = zones-append lines rest
+
+zones_back : (zones : List ZoneLines) → zones_of (flat_map entries_of_zone zones) ≡ zones
+zones_back [] = refl
+zones_back (zone ∷ zones) =
+    let rest : List Entry = flat_map entries_of_zone zones in
+    let front : front_lines (map entries.Continuation zone.continuations ++ rest) ≡ zone.continuations = front-append zone.continuations rest ∙ ap (λ (ls : List ZoneLine). zone.continuations ++ ls) (front_of_zones zones) ∙ append-nil zone.continuations in
+    ap (λ (ls : List ZoneLine). record { name = zone.name; first = zone.first; continuations = ls } ∷ zones_of (map entries.Continuation zone.continuations ++ rest)) front
+    ∙ ap (λ (zs : List ZoneLines). zone ∷ zs) (zones-append zone.continuations rest ∙ zones_back zones)
+
+-- zones of which the same is said are the same
+pub same_zones : (zones others : List ZoneLines) → flat_map entries_of_zone zones ≡ flat_map entries_of_zone others → zones ≡ others
+same_zones zones others e = sym (zones_back zones) ∙ ap zones_of e ∙ zones_back others
