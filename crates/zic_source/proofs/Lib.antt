@@ -2,6 +2,8 @@ pub mod SameBytes
 pub mod Elements
 pub mod Counts
 pub mod LineLaws
-pub mod reading
+pub mod lookups
 pub mod links
 pub mod faults
+pub mod events
+pub mod reading

@@ -1,16 +1,24 @@
 -- Which checks of a line or of an entry fail.
 use Rattle.std.proofs.Common.{◌≡◌, ℕ, ◌+◌, ◌≤◌, ◌<◌, Bool, true, false, List, [], ◌∷◌, ◌++◌, length, Option, Some, None, refl, sym, ap, ◌∙◌, arith}
 use Rattle.std.specs.Prelude.{◌&&◌, not, is_some, nat_lt, flat_map}
-use Rattle.std.proofs.lemmas.Bool.{le-leb, lt-ltb}
+use Rattle.std.proofs.lemmas.Bool.{le-leb, lt-ltb, le-ltb}
 use Rattle.std.proofs.lemmas.Grind.{flat_map-append}
 use Rattle.std.proofs.lemmas.List.{length-append}
 use Rattle.zic_base.specs.Check.{Check, check, first_failed}
+use Rattle.zic_base.specs.declared.place.Place.{Place}
+use Rattle.zic_base.specs.declared.fault.Fault.{Fault}
+use Rattle.zic_base.specs.Fault.{fault_at, IsFirstFailed}
 use Rattle.zic_base.specs.declared.fault.Kind.{Kind}
 use Rattle.zic_base.specs.declared.fault.Kind.TheVariants.{DuplicateName, TooMany}
 use Rattle.zic_lines.specs.Grammar.{IsLine}
 use Rattle.zic_lines.specs.Checks.{byte_checks}
 use Rattle.zic_lines.specs.declared.zone_line.ZoneLine.{ZoneLine}
-use Rattle.zic_source.specs.Source.{SourceLines, ZoneLines, lines_of_zone, zone_lines_of}
+use Rattle.zic_lines.specs.declared.rule.Rule.{Rule}
+use Rattle.zic_lines.specs.declared.entry.Entry.TheVariants as entries
+use Rattle.zic_source.specs.declared.limit.TheConstants.{MOST_RULES, MOST_RULES_OF_SET}
+use Rattle.zic_source.specs.Source.{SourceLines, ZoneLines, set_size, set_rules, lines_of_zone, zone_lines_of}
+use Rattle.zic_source.specs.Checks.{entry_checks}
+use Rattle.zic_source.proofs.lookups.Numbers.{set_rules_size}
 use Rattle.zic_source.specs.Grammar.{last_until, is_open}
 use Rattle.zic_source.specs.code.Adding.{continued}
 
@@ -42,15 +50,28 @@ line_passes bytes is = rw (le-leb (length bytes) 2048 is.short, is.ascii, is.clo
 -- ---- the checks of an entry
 
 -- two limits
-pub both_pass : (a b : Bool) → a ≡ true → b ≡ true → first_failed (check a TooMany ∷ check b TooMany ∷ []) ≡ None
+both_pass : (a b : Bool) → a ≡ true → b ≡ true → first_failed (check a TooMany ∷ check b TooMany ∷ []) ≡ None
 both_pass a b p q = rw (p, q) refl
 
-pub second_fails : (a b : Bool) → b ≡ false → first_failed (check a TooMany ∷ check b TooMany ∷ []) ≡ Some TooMany
+second_fails : (a b : Bool) → b ≡ false → first_failed (check a TooMany ∷ check b TooMany ∷ []) ≡ Some TooMany
 second_fails true b e = rw e refl
 second_fails false b e = refl
 
-pub first_fails : (a b : Bool) → a ≡ false → first_failed (check a TooMany ∷ check b TooMany ∷ []) ≡ Some TooMany
+first_fails : (a b : Bool) → a ≡ false → first_failed (check a TooMany ∷ check b TooMany ∷ []) ≡ Some TooMany
 first_fails a b e = rw e refl
+
+module _ (source : SourceLines) (rule : Rule) (numbers : List ℕ) (are : numbers ≡ set_rules rule.name source.rules) where
+  size : length numbers ≡ set_size rule.name source.rules
+  size = ap length are ∙ set_rules_size rule.name source.rules
+
+  pub rule_passes : length numbers < MOST_RULES_OF_SET → length source.rules < MOST_RULES → first_failed (entry_checks source (entries.Rule rule)) ≡ None
+  rule_passes set all = both_pass _ _ (lt-ltb _ _ (omega (arith, size))) (lt-ltb _ _ all)
+
+  pub set_is_full : (place : Place) (fault : Fault) → fault ≡ fault_at place TooMany → MOST_RULES_OF_SET ≤ length numbers → IsFirstFailed place (entry_checks source (entries.Rule rule)) fault
+  set_is_full place fault is full = (ap (λ (f : Fault). f.place) is, first_fails _ _ (le-ltb _ _ (omega (arith, size))) ∙ sym (ap (λ (f : Fault). Some f.kind) is))
+
+pub rules_are_full : (source : SourceLines) (rule : Rule) → MOST_RULES ≤ length source.rules → first_failed (entry_checks source (entries.Rule rule)) ≡ Some TooMany
+rules_are_full source rule full = second_fails _ _ (le-ltb _ _ full)
 
 -- a name, and room for what has it
 pub zone_passes : (named line name : Bool) → named ≡ false → (line && name) ≡ true → first_failed (check (not named) DuplicateName ∷ check line TooMany ∷ check name TooMany ∷ []) ≡ None
