@@ -1,77 +1,130 @@
--- What the fields of a line say is what reading gives.
-use Rattle.std.proofs.Common.{◌≡◌, ℕ, Bool, true, false, List, [], ◌∷◌, Option, Some, None, Ok, refl, sym, ap, subst, ◌∙◌}
+-- What the fields of a line say, and what a line says: something just where no check fails, and one thing.
+use Rattle.std.proofs.Common.{◌≡◌, ℕ, Bool, true, false, List, [], ◌∷◌, length, Option, Some, None, refl, sym, ap, subst, ◌∙◌}
 use Rattle.std.specs.Prelude.{IfSome}
+use Rattle.std.proofs.lemmas.Bool.{le-leb, leb-true}
+use Rattle.zic_base.specs.Check.{first_failed}
 use Rattle.zic_base.specs.declared.place.Place.{Place}
+use Rattle.zic_base.proofs.Checks.{each_passes, first_failed-both, first_failed-append}
 use Rattle.zic_words.specs.declared.keyword.Keyword.{Keyword}
 use Rattle.zic_words.specs.declared.keyword.Keyword.TheVariants as keywords
+use Rattle.zic_words.specs.Keyword.{keyword_of}
+use Rattle.zic_lines.specs.declared.field.TheConstants.{LONGEST_LINE}
 use Rattle.zic_lines.specs.declared.rule.Rule.{Rule}
 use Rattle.zic_lines.specs.declared.zone_line.ZoneLine.{ZoneLine}
 use Rattle.zic_lines.specs.declared.link.Link.{Link}
-use Rattle.zic_words.specs.Keyword.{keyword_of}
+use Rattle.zic_lines.specs.ZoneLine.{IsContinuationLine}
 use Rattle.zic_lines.specs.declared.entry.Entry.{Entry}
 use Rattle.zic_lines.specs.declared.entry.Entry.TheVariants as entries
+use Rattle.zic_lines.specs.Line.{PlacedLine}
+use Rattle.zic_lines.specs.Field.{fields}
 use Rattle.zic_lines.specs.Entry.{is_continuation}
-use Rattle.zic_lines.specs.Grammar.{FieldsSay}
-use Rattle.zic_lines.specs.Reading.{rule_line, zone_line, continuation_line, link_line, keyword_line, entry_of}
-use Rattle.zic_lines.proofs.Steps.{bound, same_ok}
-use Rattle.zic_lines.proofs.Binds.{bind_ok}
-use Rattle.zic_lines.proofs.RuleLines.{line_taken, line_again}
-use Rattle.zic_lines.proofs.ZoneLines.{continuation_taken, continuation_again, zone_taken, zone_again}
-use Rattle.zic_lines.proofs.LinkLines.{link_taken, link_again}
+use Rattle.zic_lines.specs.Grammar.{IsLine, FieldsSay, Says}
+use Rattle.zic_lines.specs.Checks.{byte_checks, continuation_checks, keyword_checks, field_checks, line_checks}
+use Rattle.zic_lines.proofs.RuleLines.{rule_said, rule_passes, rule_once}
+use Rattle.zic_lines.proofs.ZoneLines.{continuation_said, continuation_passes, continuation_once, zone_said, zone_passes}
+use Rattle.zic_lines.proofs.LinkLines.{link_said, link_passes, link_once}
 
 -- The fields say this, and it is a continuation line where one is awaited, and only there.
 abbrev Fitting : Bool → Place → List (List ℕ) → Option Entry → Type 0
-Fitting awaited place fields entry = FieldsSay place fields entry × IfSome entry (λ e. is_continuation e ≡ awaited)
+Fitting awaited place texts entry = FieldsSay place texts entry × IfSome entry (λ said. is_continuation said ≡ awaited)
 
-keyword_says : (place : Place) (field : List ℕ) (fields : List (List ℕ)) (keyword : Option Keyword) (entry : Entry) → keyword_of field ≡ keyword
-    → keyword_line place keyword (field ∷ fields) ≡ Ok entry → Fitting false place (field ∷ fields) (Some entry)
-keyword_says place field fields None entry begins e = absurd cc
-keyword_says place field fields (Some keywords.Rule) entry begins e =
-    let rule = bound (rule_line place (field ∷ fields)) _ entry e in
-    subst (λ (x : Entry). Fitting false place (field ∷ fields) (Some x)) (same_ok (entries.Rule rule.0) entry rule.2) (line_taken place (field ∷ fields) rule.0 begins rule.1, refl)
-keyword_says place field fields (Some keywords.Zone) entry begins e =
-    let zone = bound (zone_line place (field ∷ fields)) _ entry e in
-    subst (λ (x : Entry). Fitting false place (field ∷ fields) (Some x)) (same_ok (entries.Zone zone.0.0 zone.0.1) entry zone.2) (zone_taken place (field ∷ fields) zone.0 begins zone.1, refl)
-keyword_says place field fields (Some keywords.Link) entry begins e =
-    let link = bound (link_line place (field ∷ fields)) _ entry e in
-    subst (λ (x : Entry). Fitting false place (field ∷ fields) (Some x)) (same_ok (entries.Link link.0) entry link.2) (link_taken place (field ∷ fields) link.0 begins link.1, refl)
+-- ---- where no check fails, something is said
 
-pub entry_says : (awaited : Bool) (place : Place) (fields : List (List ℕ)) (entry : Option Entry) → entry_of awaited place fields ≡ Ok entry
-    → FieldsSay place fields entry × IfSome entry (λ e. is_continuation e ≡ awaited)
-unfolding entry_of
-entry_says awaited place [] entry e = subst (Fitting awaited place []) (same_ok None entry e) (refl, tt)
-entry_says true place (field ∷ fields) entry e =
-    let line = bound (continuation_line place (field ∷ fields)) _ entry e in
-    subst (Fitting true place (field ∷ fields)) (same_ok (Some (entries.Continuation line.0)) entry line.2) (continuation_taken place (field ∷ fields) line.0 line.1, refl)
-entry_says false place (field ∷ fields) entry e =
-    let said = bound (keyword_line place (keyword_of field) (field ∷ fields)) _ entry e in
-    subst (Fitting false place (field ∷ fields)) (same_ok (Some said.0) entry said.2) (keyword_says place field fields (keyword_of field) said.0 refl said.1)
+keyword_said : (place : Place) (field : List ℕ) (texts : List (List ℕ)) (keyword : Option Keyword) → keyword_of field ≡ keyword → first_failed (keyword_checks keyword (field ∷ texts)) ≡ None
+    → (entry : Option Entry) × Fitting false place (field ∷ texts) entry
+keyword_said place field texts None begins e = absurd cc
+keyword_said place field texts (Some keywords.Rule) begins e = let rule = rule_said place field texts begins e in (Some (entries.Rule rule.0), (rule.1, refl))
+keyword_said place field texts (Some keywords.Zone) begins e = let zone = zone_said place field texts begins e in (Some (entries.Zone zone.0 zone.1), (zone.2, refl))
+keyword_said place field texts (Some keywords.Link) begins e = let link = link_said place field texts begins e in (Some (entries.Link link.0), (link.1, refl))
 
-not_awaited : (awaited : Bool) (place : Place) (field : List ℕ) (fields : List (List ℕ)) (keyword : Keyword) (entry : Entry) → keyword_of field ≡ Some keyword → false ≡ awaited
-    → keyword_line place (Some keyword) (field ∷ fields) ≡ Ok entry → entry_of awaited place (field ∷ fields) ≡ Ok (Some entry)
-unfolding entry_of
-not_awaited true place field fields keyword entry begins a e = absurd cc
-not_awaited false place field fields keyword entry begins a e = bind_ok _ (λ (x : Entry). Ok (Some x)) entry (ap (λ (k : Option Keyword). keyword_line place k (field ∷ fields)) begins ∙ e)
+pub fields_said : (awaited : Bool) (place : Place) (texts : List (List ℕ)) → first_failed (field_checks awaited texts) ≡ None
+    → (entry : Option Entry) × FieldsSay place texts entry × IfSome entry (λ said. is_continuation said ≡ awaited)
+fields_said awaited place [] e = (None, refl, tt)
+fields_said true place (field ∷ texts) e = let line = continuation_said place (field ∷ texts) e in (Some (entries.Continuation line.0), line.1, refl)
+fields_said false place (field ∷ texts) e = let said = keyword_said place field texts (keyword_of field) refl e in (said.0, said.1.0, said.1.1)
 
-keyword_entry : (awaited : Bool) (place : Place) (fields : List (List ℕ)) (field : List ℕ) (others : List (List ℕ)) (keyword : Keyword) (entry : Entry) → fields ≡ field ∷ others → keyword_of field ≡ Some keyword
-    → false ≡ awaited → keyword_line place (Some keyword) fields ≡ Ok entry → entry_of awaited place fields ≡ Ok (Some entry)
-keyword_entry awaited place fields field others keyword entry are begins a e =
-    ap (entry_of awaited place) are ∙ not_awaited awaited place field others keyword entry begins a (ap (keyword_line place (Some keyword)) (sym are) ∙ e)
+-- ---- where something is said, no check fails
 
-is_awaited : (awaited : Bool) (place : Place) (field : List ℕ) (fields : List (List ℕ)) (line : ZoneLine) → true ≡ awaited → continuation_line place (field ∷ fields) ≡ Ok line → entry_of awaited place (field ∷ fields) ≡ Ok (Some (entries.Continuation line))
-unfolding entry_of
-is_awaited true place field fields line a e = bind_ok _ (λ (x : ZoneLine). Ok (Some (entries.Continuation x))) line e
-is_awaited false place field fields line a e = absurd cc
+keyword_passes : (awaited : Bool) (texts : List (List ℕ)) (field : List ℕ) (others : List (List ℕ)) (keyword : Keyword) → texts ≡ field ∷ others → keyword_of field ≡ Some keyword → false ≡ awaited
+    → first_failed (keyword_checks (Some keyword) texts) ≡ None → first_failed (field_checks awaited texts) ≡ None
+keyword_passes true texts field others keyword are begins a e = absurd cc
+keyword_passes false texts field others keyword are begins a e =
+    ap (λ (ts : List (List ℕ)). first_failed (field_checks false ts)) are
+    ∙ ap (λ (k : Option Keyword). first_failed (keyword_checks k (field ∷ others))) begins
+    ∙ ap (λ (ts : List (List ℕ)). first_failed (keyword_checks (Some keyword) ts)) (sym are) ∙ e
 
-pub says_entry : (awaited : Bool) (place : Place) (fields : List (List ℕ)) (entry : Option Entry) → FieldsSay place fields entry
-    → IfSome entry (λ e. is_continuation e ≡ awaited) → entry_of awaited place fields ≡ Ok entry
-unfolding entry_of
-says_entry awaited place fields None is a = ap (entry_of awaited place) is
-says_entry awaited place fields (Some (entries.Rule rule)) is a =
-    keyword_entry awaited place fields is.keyword _ keywords.Rule (entries.Rule rule) is.ten is.is_rule a (bind_ok _ (λ (x : Rule). Ok (entries.Rule x)) rule (line_again place fields rule is))
-says_entry awaited place fields (Some (entries.Zone name line)) is a =
-    keyword_entry awaited place fields is.keyword _ keywords.Zone (entries.Zone name line) is.are is.is_zone a (bind_ok _ (λ (x : List ℕ × ZoneLine). Ok (entries.Zone x.0 x.1)) (name, line) (zone_again place fields name line is))
-says_entry awaited place fields (Some (entries.Continuation line)) is a =
-    ap (entry_of awaited place) is.are ∙ is_awaited awaited place is.stdoff (is.rules ∷ is.format ∷ is.until) line a (ap (continuation_line place) (sym is.are) ∙ continuation_again place fields line is)
-says_entry awaited place fields (Some (entries.Link link)) is a =
-    keyword_entry awaited place fields is.keyword _ keywords.Link (entries.Link link) is.three is.is_link a (bind_ok _ (λ (x : Link). Ok (entries.Link x)) link (link_again place fields link is))
+awaited_passes : (awaited : Bool) (texts : List (List ℕ)) → true ≡ awaited → first_failed (field_checks true texts) ≡ first_failed (field_checks awaited texts)
+awaited_passes true texts a = refl
+awaited_passes false texts a = absurd cc
+
+pub said_passes : (awaited : Bool) (place : Place) (texts : List (List ℕ)) (entry : Option Entry) → FieldsSay place texts entry → IfSome entry (λ said. is_continuation said ≡ awaited)
+    → first_failed (field_checks awaited texts) ≡ None
+said_passes awaited place texts None is a = ap (λ (ts : List (List ℕ)). first_failed (field_checks awaited ts)) is
+said_passes awaited place texts (Some (entries.Rule rule)) is a = keyword_passes awaited texts is.keyword _ keywords.Rule is.ten is.is_rule a (rule_passes place texts rule is)
+said_passes awaited place texts (Some (entries.Zone name line)) is a = keyword_passes awaited texts is.keyword _ keywords.Zone is.are is.is_zone a (zone_passes place texts name line is)
+said_passes awaited place texts (Some (entries.Continuation line)) is a =
+    sym (awaited_passes awaited texts a)
+    ∙ ap (λ (ts : List (List ℕ)). first_failed (field_checks true ts)) is.are
+    ∙ ap (λ (ts : List (List ℕ)). first_failed (continuation_checks ts)) (sym is.are)
+    ∙ continuation_passes place texts line is
+said_passes awaited place texts (Some (entries.Link link)) is a = keyword_passes awaited texts is.keyword _ keywords.Link is.three is.is_link a (link_passes place texts link is)
+
+-- ---- fields say one thing
+
+pub said_once : (awaited : Bool) (place : Place) (texts : List (List ℕ)) (entry other : Option Entry) → FieldsSay place texts entry → IfSome entry (λ said. is_continuation said ≡ awaited)
+    → FieldsSay place texts other → IfSome other (λ said. is_continuation said ≡ awaited) → entry ≡ other
+said_once awaited place texts None None is a also b = refl
+said_once awaited place texts None (Some (entries.Rule rule)) is a also b = absurd cc
+said_once awaited place texts None (Some (entries.Zone name line)) is a also b = absurd cc
+said_once awaited place texts None (Some (entries.Continuation line)) is a also b = absurd cc
+said_once awaited place texts None (Some (entries.Link link)) is a also b = absurd cc
+said_once awaited place texts (Some (entries.Rule rule)) None is a also b = absurd cc
+said_once awaited place texts (Some (entries.Zone name line)) None is a also b = absurd cc
+said_once awaited place texts (Some (entries.Continuation line)) None is a also b = absurd cc
+said_once awaited place texts (Some (entries.Link link)) None is a also b = absurd cc
+said_once awaited place texts (Some (entries.Rule rule)) (Some (entries.Rule other)) is a also b = ap (λ (r : Rule). Some (entries.Rule r)) (rule_once place texts rule other is also)
+said_once awaited place texts (Some (entries.Zone name line)) (Some (entries.Zone name' other)) is a also b =
+    let named : name ≡ name' = cc in
+    let others : is.others ≡ also.others = cc in
+    let lines : line ≡ other = continuation_once place is.others line other is.says (subst (λ (ts : List (List ℕ)). IsContinuationLine place ts other) (sym others) also.says) in
+    rw (named, lines) refl
+said_once awaited place texts (Some (entries.Continuation line)) (Some (entries.Continuation other)) is a also b = ap (λ (l : ZoneLine). Some (entries.Continuation l)) (continuation_once place texts line other is also)
+said_once awaited place texts (Some (entries.Link link)) (Some (entries.Link other)) is a also b = ap (λ (l : Link). Some (entries.Link l)) (link_once place texts link other is also)
+said_once awaited place texts (Some (entries.Rule rule)) (Some (entries.Zone name line)) is a also b = absurd cc
+said_once awaited place texts (Some (entries.Rule rule)) (Some (entries.Link link)) is a also b = absurd cc
+said_once awaited place texts (Some (entries.Zone name line)) (Some (entries.Rule rule)) is a also b = absurd cc
+said_once awaited place texts (Some (entries.Zone name line)) (Some (entries.Link link)) is a also b = absurd cc
+said_once awaited place texts (Some (entries.Link link)) (Some (entries.Rule rule)) is a also b = absurd cc
+said_once awaited place texts (Some (entries.Link link)) (Some (entries.Zone name line)) is a also b = absurd cc
+said_once awaited place texts (Some (entries.Continuation line)) (Some other) is a also b = absurd cc
+said_once awaited place texts (Some other) (Some (entries.Continuation line)) is a also b = absurd cc
+
+-- ---- lines
+
+line_is : (bytes : List ℕ) → first_failed (byte_checks bytes) ≡ None → IsLine bytes
+line_is bytes e =
+    let short = each_passes (byte_checks bytes) e in
+    let ascii = short.1 in
+    let closed = ascii.1 in
+    record { short = leb-true (length bytes) LONGEST_LINE short.0; ascii = ascii.0; closed = closed.0 }
+
+line_passes : (bytes : List ℕ) → IsLine bytes → first_failed (byte_checks bytes) ≡ None
+line_passes bytes is = rw (le-leb (length bytes) LONGEST_LINE is.short, is.ascii, is.closed) refl
+
+-- a line of which no check fails says something
+pub line_said : (awaited : Bool) (line : PlacedLine) → first_failed (line_checks awaited line.bytes) ≡ None → (entry : Option Entry) × Says line entry × IfSome entry (λ said. is_continuation said ≡ awaited)
+line_said awaited line e =
+    let both = first_failed-both (byte_checks line.bytes) (field_checks awaited (fields line.bytes)) e in
+    let said = fields_said awaited line.place (fields line.bytes) both.1 in
+    (said.0, (line_is line.bytes both.0, said.1), said.2)
+
+-- no check fails of a line that says something
+pub says_passes : (awaited : Bool) (line : PlacedLine) (entry : Option Entry) → Says line entry → IfSome entry (λ said. is_continuation said ≡ awaited) → first_failed (line_checks awaited line.bytes) ≡ None
+says_passes awaited line entry says a =
+    first_failed-append (byte_checks line.bytes) (field_checks awaited (fields line.bytes)) (line_passes line.bytes says.0)
+    ∙ said_passes awaited line.place (fields line.bytes) entry says.1 a
+
+-- a line says one thing
+pub says_once : (awaited : Bool) (line : PlacedLine) (entry other : Option Entry) → Says line entry → IfSome entry (λ said. is_continuation said ≡ awaited)
+    → Says line other → IfSome other (λ said. is_continuation said ≡ awaited) → entry ≡ other
+says_once awaited line entry other says a also b = said_once awaited line.place (fields line.bytes) entry other says.1 a also.1 b

@@ -1,16 +1,14 @@
 -- The bytes of a field, one after the other and run by run.
-use Rattle.std.proofs.Common.{◌≡◌, ℕ, ◌+◌, ◌<◌, ◌≤◌, Bool, true, false, not, cond, eqb, leb, List, [], ◌∷◌, ◌++◌, length, get_or, drop, Option, Some, Err, refl, sym, ap, ◌∙◌, append_assoc, arith, inl, inr}
+use Rattle.std.proofs.Common.{◌≡◌, ℕ, ◌+◌, ◌<◌, ◌≤◌, Bool, true, false, not, cond, eqb, leb, List, [], ◌∷◌, ◌++◌, length, get_or, drop, Option, Some, Ok, Err, refl, sym, ap, ◌∙◌, append_assoc, arith, inl, inr}
 use Rattle.std.specs.Prelude.{◌&&◌, slice_range, unwrap_or}
 use Rattle.std.proofs.lemmas.Bool.{cases_Bool, ne_eqb, and_parts, leb-true, lt-leb, le-leb, or_right}
 use Rattle.std.proofs.lemmas.List.{append-nil, append_cancel_right, drop_more, drop_all}
 use Rattle.std.proofs.lemmas.List.Elements.{filter-append, All-head, All-tail}
 use Rattle.std.proofs.lemmas.List.Folds.{drop_split}
-use Rattle.zic_base.specs.declared.place.Place.{Place}
-use Rattle.zic_base.specs.declared.fault.Kind.TheVariants.{Quote}
+use Rattle.zic_base.specs.declared.fault.Kind.TheVariants.{NotAscii, Quote}
 use Rattle.zic_lines.specs.declared.field.Role.TheVariants as role
 use Rattle.zic_lines.specs.Field.{is_quote, is_space, is_allowed, is_gap, starts_comment}
-use Rattle.zic_lines.specs.Taken.{TakenFields, role_of, is_plain, ArePlain, without_quotes, begun_text, ended_fields, scan}
-use Rattle.zic_base.specs.Fault.{fault_at}
+use Rattle.zic_lines.specs.code.Taken.{TakenFields, role_of, is_plain, ArePlain, without_quotes, begun_text, ended, ended_fields, scan}
 use Rattle.zic_lines.proofs.Scan.{dispatched, role-text, role-quote, role-comment, role-refused, role-gap, mark_of}
 
 -- ---- parts of a line
@@ -113,28 +111,28 @@ plain_bare (byte ∷ run) h =
     ∙ ap (λ (l : List ℕ). l ++ without_quotes run) (text_kept byte (plain_is_other byte (All-head (λ b. is_plain b ≡ true) byte run h)))
     ∙ ap (λ (l : List ℕ). byte ∷ l) (plain_bare run (All-tail (λ b. is_plain b ≡ true) byte run h))
 
-module _ (place : Place) (quoted : Bool) (whole : List (List ℕ)) where
-  scan_text : (part : List ℕ) (byte : ℕ) (bytes : List ℕ) → role_of byte quoted ≡ role.Text → scan place quoted (with_begun whole part) (byte ∷ bytes) ≡ scan place quoted (with_begun whole (part ++ byte ∷ [])) bytes
+module _ (quoted : Bool) (whole : List (List ℕ)) where
+  scan_text : (part : List ℕ) (byte : ℕ) (bytes : List ℕ) → role_of byte quoted ≡ role.Text → scan quoted (with_begun whole part) (byte ∷ bytes) ≡ scan quoted (with_begun whole (part ++ byte ∷ [])) bytes
   scan_text part byte bytes e =
-      dispatched role.Text place quoted (with_begun whole part) byte bytes e
-      ∙ ap (λ (o : Option (List ℕ)). scan place quoted (record { whole = whole; current = o }) bytes) (text_begun part byte (text_is_other byte quoted e))
+      dispatched role.Text quoted (with_begun whole part) byte bytes e
+      ∙ ap (λ (o : Option (List ℕ)). scan quoted (record { whole = whole; current = o }) bytes) (text_begun part byte (text_is_other byte quoted e))
 
-  scan_run : (part run rest : List ℕ) → ArePlain run → scan place quoted (with_begun whole part) (run ++ rest) ≡ scan place quoted (with_begun whole (part ++ run)) rest
-  scan_run part [] rest h = ap (λ (p : List ℕ). scan place quoted (with_begun whole p) rest) (sym (append-nil part))
+  scan_run : (part run rest : List ℕ) → ArePlain run → scan quoted (with_begun whole part) (run ++ rest) ≡ scan quoted (with_begun whole (part ++ run)) rest
+  scan_run part [] rest h = ap (λ (p : List ℕ). scan quoted (with_begun whole p) rest) (sym (append-nil part))
   scan_run part (byte ∷ run) rest h =
       scan_text part byte (run ++ rest) (plain_is_text byte quoted (All-head (λ b. is_plain b ≡ true) byte run h))
       ∙ scan_run (part ++ byte ∷ []) run rest (All-tail (λ b. is_plain b ≡ true) byte run h)
-      ∙ ap (λ (p : List ℕ). scan place quoted (with_begun whole p) rest) (append_assoc part (byte ∷ []) run)
+      ∙ ap (λ (p : List ℕ). scan quoted (with_begun whole p) rest) (append_assoc part (byte ∷ []) run)
 
 -- ---- from one place of a line to a later one
 
 module _ (line : List ℕ) (start at stop : ℕ) (rises : start ≤ at) (on : at ≤ stop) (plain : ArePlain (slice_range line at stop)) where
-  pub run_goes_on : (place : Place) (quoted : Bool) (whole : List (List ℕ))
-      → scan place quoted (with_begun whole (slice_range line start at)) (drop at line) ≡ scan place quoted (with_begun whole (slice_range line start stop)) (drop stop line)
-  run_goes_on place quoted whole =
-      ap (scan place quoted (with_begun whole (slice_range line start at))) (drop_split line at stop on)
-      ∙ scan_run place quoted whole (slice_range line start at) (slice_range line at stop) (drop stop line) plain
-      ∙ ap (λ (p : List ℕ). scan place quoted (with_begun whole p) (drop stop line)) (sym (joined line start at stop rises on))
+  pub run_goes_on : (quoted : Bool) (whole : List (List ℕ))
+      → scan quoted (with_begun whole (slice_range line start at)) (drop at line) ≡ scan quoted (with_begun whole (slice_range line start stop)) (drop stop line)
+  run_goes_on quoted whole =
+      ap (scan quoted (with_begun whole (slice_range line start at))) (drop_split line at stop on)
+      ∙ scan_run quoted whole (slice_range line start at) (slice_range line at stop) (drop stop line) plain
+      ∙ ap (λ (p : List ℕ). scan quoted (with_begun whole p) (drop stop line)) (sym (joined line start at stop rises on))
 
   pub run_bare : without_quotes (slice_range line start at) ≡ slice_range line start at → without_quotes (slice_range line start stop) ≡ slice_range line start stop
   run_bare bare =
@@ -144,13 +142,13 @@ module _ (line : List ℕ) (start at stop : ℕ) (rises : start ≤ at) (on : at
       ∙ ap (λ (l : List ℕ). slice_range line start at ++ l) (plain_bare (slice_range line at stop) plain)
       ∙ sym (joined line start at stop rises on)
 
-module _ (line : List ℕ) (start at : ℕ) (rises : start ≤ at) (lt : at < length line) (place : Place) (quoted : Bool) (whole : List (List ℕ)) where
+module _ (line : List ℕ) (start at : ℕ) (rises : start ≤ at) (lt : at < length line) (quoted : Bool) (whole : List (List ℕ)) where
   pub text_goes_on : role_of (get_or line at 0) quoted ≡ role.Text
-      → scan place quoted (with_begun whole (slice_range line start at)) (drop at line) ≡ scan place quoted (with_begun whole (slice_range line start (at + 1))) (drop (at + 1) line)
+      → scan quoted (with_begun whole (slice_range line start at)) (drop at line) ≡ scan quoted (with_begun whole (slice_range line start (at + 1))) (drop (at + 1) line)
   text_goes_on e =
-      ap (scan place quoted (with_begun whole (slice_range line start at))) (drop_more line at 0 lt)
-      ∙ scan_text place quoted whole (slice_range line start at) (get_or line at 0) (drop (at + 1) line) e
-      ∙ ap (λ (p : List ℕ). scan place quoted (with_begun whole p) (drop (at + 1) line)) (sym (one_more line start at rises lt))
+      ap (scan quoted (with_begun whole (slice_range line start at))) (drop_more line at 0 lt)
+      ∙ scan_text quoted whole (slice_range line start at) (get_or line at 0) (drop (at + 1) line) e
+      ∙ ap (λ (p : List ℕ). scan quoted (with_begun whole p) (drop (at + 1) line)) (sym (one_more line start at rises lt))
 
   pub text_bare : role_of (get_or line at 0) quoted ≡ role.Text → without_quotes (slice_range line start at) ≡ slice_range line start at → without_quotes (slice_range line start (at + 1)) ≡ slice_range line start (at + 1)
   text_bare e bare =
@@ -161,20 +159,20 @@ module _ (line : List ℕ) (start at : ℕ) (rises : start ≤ at) (lt : at < le
       ∙ sym (one_more line start at rises lt)
 
   pub quote_goes_on : role_of (get_or line at 0) quoted ≡ role.DoubleQuote
-      → scan place quoted (with_begun whole (slice_range line start at)) (drop at line) ≡ scan place (not quoted) (with_begun whole (slice_range line start (at + 1))) (drop (at + 1) line)
+      → scan quoted (with_begun whole (slice_range line start at)) (drop at line) ≡ scan (not quoted) (with_begun whole (slice_range line start (at + 1))) (drop (at + 1) line)
   quote_goes_on e =
-      ap (scan place quoted (with_begun whole (slice_range line start at))) (drop_more line at 0 lt)
-      ∙ dispatched role.DoubleQuote place quoted (with_begun whole (slice_range line start at)) (get_or line at 0) (drop (at + 1) line) e
-      ∙ ap (λ (o : Option (List ℕ)). scan place (not quoted) (record { whole = whole; current = o }) (drop (at + 1) line))
+      ap (scan quoted (with_begun whole (slice_range line start at))) (drop_more line at 0 lt)
+      ∙ dispatched role.DoubleQuote quoted (with_begun whole (slice_range line start at)) (get_or line at 0) (drop (at + 1) line) e
+      ∙ ap (λ (o : Option (List ℕ)). scan (not quoted) (record { whole = whole; current = o }) (drop (at + 1) line))
       (quote_begun (slice_range line start at) (get_or line at 0) (is_double_quote (get_or line at 0) quoted e) ∙ ap begun_text (sym (one_more line start at rises lt)))
 
   pub gap_goes_on : role_of (get_or line at 0) quoted ≡ role.Gap
-      → scan place quoted (with_begun whole (slice_range line start at)) (drop at line)
-      ≡ scan place quoted (with_begun (ended_fields whole (begun_text (slice_range line start at))) (slice_range line (at + 1) (at + 1))) (drop (at + 1) line)
+      → scan quoted (with_begun whole (slice_range line start at)) (drop at line)
+      ≡ scan quoted (with_begun (ended_fields whole (begun_text (slice_range line start at))) (slice_range line (at + 1) (at + 1))) (drop (at + 1) line)
   gap_goes_on e =
-      ap (scan place quoted (with_begun whole (slice_range line start at))) (drop_more line at 0 lt)
-      ∙ dispatched role.Gap place quoted (with_begun whole (slice_range line start at)) (get_or line at 0) (drop (at + 1) line) e
-      ∙ ap (λ (p : List ℕ). scan place quoted (with_begun (ended_fields whole (begun_text (slice_range line start at))) p) (drop (at + 1) line)) (sym (no_byte line (at + 1)))
+      ap (scan quoted (with_begun whole (slice_range line start at))) (drop_more line at 0 lt)
+      ∙ dispatched role.Gap quoted (with_begun whole (slice_range line start at)) (get_or line at 0) (drop (at + 1) line) e
+      ∙ ap (λ (p : List ℕ). scan quoted (with_begun (ended_fields whole (begun_text (slice_range line start at))) p) (drop (at + 1) line)) (sym (no_byte line (at + 1)))
 
 pub no_byte_bare : (line : List ℕ) (at : ℕ) → without_quotes (slice_range line at at) ≡ slice_range line at at
 no_byte_bare line at = ap without_quotes (no_byte line at) ∙ sym (no_byte line at)
@@ -182,8 +180,8 @@ no_byte_bare line at = ap without_quotes (no_byte line at) ∙ sym (no_byte line
 -- ---- where the code ends
 
 -- a quoted part that the line doesn't close
-pub unclosed : (place : Place) (quoted : Bool) (taken : TakenFields) (line : List ℕ) (at : ℕ) → quoted ≡ true → length line ≤ at → scan place quoted taken (drop at line) ≡ Err (fault_at place Quote)
-unclosed place quoted taken line at e le = rw (drop_all at line le, e) refl
+pub unclosed : (quoted : Bool) (taken : TakenFields) (line : List ℕ) (at : ℕ) → quoted ≡ true → length line ≤ at → scan quoted taken (drop at line) ≡ Err Quote
+unclosed quoted taken line at e le = rw (drop_all at line le, e) refl
 
 -- no comment begins at a byte that is quoted
 pub comment_outside : (byte : ℕ) (quoted : Bool) → role_of byte quoted ≡ role.Comment → quoted ≡ false
@@ -201,3 +199,16 @@ comment_outside byte true e = elim (cases_Bool (starts_comment (mark_of byte tru
     ]
   ]
 ]
+
+module _ (quoted : Bool) (taken : TakenFields) (line : List ℕ) (at : ℕ) (lt : at < length line) where
+  -- a byte that may not stand there
+  pub refused_here : role_of (get_or line at 0) quoted ≡ role.Refused → scan quoted taken (drop at line) ≡ Err NotAscii
+  refused_here e = ap (scan quoted taken) (drop_more line at 0 lt) ∙ dispatched role.Refused quoted taken (get_or line at 0) (drop (at + 1) line) e
+
+  -- a comment
+  pub comment_here : role_of (get_or line at 0) quoted ≡ role.Comment → scan quoted taken (drop at line) ≡ Ok (ended taken).whole
+  comment_here e = ap (scan quoted taken) (drop_more line at 0 lt) ∙ dispatched role.Comment quoted taken (get_or line at 0) (drop (at + 1) line) e
+
+-- the end of the line, outside quotes
+pub end_here : (quoted : Bool) (taken : TakenFields) (line : List ℕ) (at : ℕ) → quoted ≡ false → length line ≤ at → scan quoted taken (drop at line) ≡ Ok (ended taken).whole
+end_here quoted taken line at e le = rw (drop_all at line le, e) refl

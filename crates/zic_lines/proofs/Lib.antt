@@ -1,10 +1,10 @@
-pub mod Steps
-pub mod Binds
-pub mod Scan
-pub mod FieldEnds
-pub mod Formats
+pub mod Parsed
+pub mod Shapes
+pub mod Options
 pub mod RuleLines
 pub mod ZoneLines
 pub mod LinkLines
 pub mod Entries
-pub mod FaultPlaces
+pub mod Scan
+pub mod FieldEnds
+pub mod Formats

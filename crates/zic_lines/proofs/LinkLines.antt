@@ -1,52 +1,45 @@
--- What three fields say of a link.
-use Rattle.std.proofs.Common.{◌≡◌, ℕ, not, cond, List, [], ◌∷◌, length, get_or, Some, Result, Ok, Err, refl, sym, ap, subst, ◌∙◌, arith}
-use Rattle.std.proofs.lemmas.Bool.{not-false}
+-- What the fields of a Link line say, where no check fails.
+use Rattle.std.proofs.Common.{◌≡◌, ℕ, List, [], ◌∷◌, Some, None, Result, Ok, Err, true, refl, ap, ◌∙◌}
+use Rattle.std.specs.Prelude.{IfOk}
+use Rattle.zic_base.specs.Check.{first_failed}
 use Rattle.zic_base.specs.declared.place.Place.{Place}
-use Rattle.zic_base.specs.declared.fault.Fault.{Fault}
-use Rattle.zic_base.specs.declared.fault.Kind.TheVariants.{Name}
+use Rattle.zic_base.proofs.Checks.{each_passes}
 use Rattle.zic_words.specs.declared.keyword.Keyword.TheVariants as keywords
-use Rattle.zic_lines.specs.declared.link.Link.{Link}
 use Rattle.zic_words.specs.Keyword.{keyword_of}
-use Rattle.zic_words.specs.Name.{is_name}
+use Rattle.zic_lines.specs.declared.link.Link.{Link}
 use Rattle.zic_lines.specs.LinkLine.{IsLinkLine}
-use Rattle.zic_base.specs.Fault.{fault_at}
-use Rattle.zic_lines.specs.Reading.{link_line}
-use Rattle.zic_lines.proofs.Steps.{guarded, same_ok}
+use Rattle.zic_words.specs.Name.{is_name}
+use Rattle.zic_lines.specs.Checks.{link_checks}
+use Rattle.zic_lines.proofs.Parsed.{kept}
 
--- the link of this target and this name
-abbrev pub link_of : Place → List ℕ → List ℕ → Result Link Fault
-link_of place target name = cond (not (is_name target)) (Err (fault_at place Name)) (cond (not (is_name name)) (Err (fault_at place Name)) (Ok (record { place = place; target = target; name = name })))
+-- the fields of a Link line that fails no check say a link
+pub link_said : (place : Place) (field : List ℕ) (fields : List (List ℕ)) → keyword_of field ≡ Some keywords.Link → first_failed (link_checks (field ∷ fields)) ≡ None → (link : Link) × IsLinkLine place (field ∷ fields) link
+link_said place keyword (target ∷ name ∷ []) begins e =
+    let has_target = each_passes (link_checks (keyword ∷ target ∷ name ∷ [])) e in
+    let named = has_target.1 in
+    let link : Link = record { place = place; target = target; name = name } in
+    let said : IsLinkLine place (keyword ∷ target ∷ name ∷ []) link = record { keyword = keyword; three = refl; is_link = begins; has_target = has_target.0; named = named.0; stands = refl } in
+    (link, said)
+link_said place keyword fields begins e = absurd cc
 
--- three fields
-pub link_at : (place : Place) (fields : List (List ℕ)) (target name : List ℕ) → length fields ≡ 3 → target ≡ get_or fields 1 [] → name ≡ get_or fields 2 [] → link_line place fields ≡ link_of place target name
-unfolding link_line
-link_at place [] target name three a b = absurd (omega arith)
-link_at place (x ∷ []) target name three a b = absurd (omega arith)
-link_at place (x ∷ y ∷ []) target name three a b = absurd (omega arith)
-link_at place (x ∷ y ∷ z ∷ []) target name three a b = rw (a, b) refl
-link_at place (x ∷ y ∷ z ∷ w ∷ others) target name three a b = absurd (omega arith)
+-- a link that is said fails no check
+pub link_passes : (place : Place) (fields : List (List ℕ)) (link : Link) → IsLinkLine place fields link → first_failed (link_checks fields) ≡ None
+link_passes place fields link is = ap (λ (fs : List (List ℕ)). first_failed (link_checks fs)) is.three ∙ rw (is.has_target, is.named) refl
 
-pub link_taken : (place : Place) (fields : List (List ℕ)) (link : Link) → keyword_of (get_or fields 0 []) ≡ Some keywords.Link → link_line place fields ≡ Ok link → IsLinkLine place fields link
-unfolding link_line
-link_taken place [] link begins e = absurd cc
-link_taken place (a ∷ []) link begins e = absurd cc
-link_taken place (a ∷ b ∷ []) link begins e = absurd cc
-link_taken place (keyword ∷ target ∷ name ∷ []) link begins e =
-    let a = guarded (not (is_name target)) (fault_at place Name) _ link e in
-    let b = guarded (not (is_name name)) (fault_at place Name) _ link a.1 in
-    let made : Link = record { place = place; target = target; name = name } in
-    let is : IsLinkLine place (keyword ∷ target ∷ name ∷ []) made = record {
-      keyword = keyword;
-      three = refl;
-      is_link = begins;
-      has_target = not-false _ a.0;
-      named = not-false _ b.0;
-      stands = refl;
-    } in
-    subst (IsLinkLine place (keyword ∷ target ∷ name ∷ [])) (same_ok made link b.1) is
-link_taken place (a ∷ b ∷ c ∷ d ∷ others) link begins e = absurd cc
+-- three fields say one link
+links_same : (p p' : Place) (t t' n n' : List ℕ) → p ≡ p' → t ≡ t' → n ≡ n' → ◌≡◌ {A = Link} (record { place = p; target = t; name = n }) (record { place = p'; target = t'; name = n' })
+links_same p p' t t' n n' a b c = rw (a, b, c) refl
 
-pub link_again : (place : Place) (fields : List (List ℕ)) (link : Link) → IsLinkLine place fields link → link_line place fields ≡ Ok link
-unfolding link_line
-link_again place fields link is =
-    ap (link_line place) is.three ∙ rw (is.has_target, is.named) (ap (λ (p : Place). Ok (record { place = p; target = link.target; name = link.name })) (sym is.stands))
+pub link_once : (place : Place) (texts : List (List ℕ)) (link other : Link) → IsLinkLine place texts link → IsLinkLine place texts other → link ≡ other
+link_once place texts link other is also = links_same link.place other.place link.target other.target link.name other.name (cc) (cc) (cc)
+
+-- what the code makes of three fields is what they say
+pub link_made : {E : Type 0} (place : Place) {texts : List (List ℕ)} {keyword target name : List ℕ} (made : Result Link E) (made_target made_name : Result (List ℕ) E)
+    → texts ≡ keyword ∷ target ∷ name ∷ [] → keyword_of keyword ≡ Some keywords.Link → is_name target ≡ true → is_name name ≡ true
+    → IfOk made_target (λ t. t ≡ target) → IfOk made_name (λ n. n ≡ name)
+    → IfOk made (λ link. link.place ≡ place) → IfOk made (λ link. made_target ≡ Ok link.target) → IfOk made (λ link. made_name ≡ Ok link.name) → IfOk made (IsLinkLine place texts)
+link_made place {texts} {keyword} {target} {name} (Ok link) made_target made_name are begins t n p q stands a b =
+    let first : link.target ≡ target = kept made_target target link.target a p in
+    let second : link.name ≡ name = kept made_name name link.name b q in
+    record { keyword = keyword; three = are ∙ rw (first, second) refl; is_link = begins; has_target = rw first t; named = rw second n; stands = stands }
+link_made place {texts} {keyword} {target} {name} (Err e) made_target made_name are begins t n p q stands a b = tt

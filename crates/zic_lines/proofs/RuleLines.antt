@@ -1,16 +1,17 @@
--- What ten fields say of a rule.
-use Rattle.std.proofs.Common.{◌≡◌, ℕ, Bool, true, false, not, List, [], ◌∷◌, length, get_or, Some, Ok, refl, sym, ap, subst, ◌∙◌, arith}
-use Rattle.std.specs.Prelude.{ok_or}
-use Rattle.std.proofs.lemmas.Bool.{not-false}
+-- What the fields of a Rule line say, where no check fails.
+use Rattle.std.proofs.Common.{◌≡◌, ℕ, true, false, List, [], ◌∷◌, Option, Some, None, Result, Ok, Err, refl, sym, ap, subst, ◌∙◌}
+use Rattle.std.specs.Prelude.{not, is_some, IfOk}
+use Rattle.zic_base.specs.Check.{check, first_failed}
+use Rattle.zic_base.specs.declared.fault.Kind.{Kind}
+use Rattle.zic_base.specs.declared.fault.Kind.TheVariants.{Name, Reserved, Month, Day, Time, Save, Letter}
+use Rattle.zic_base.specs.Option.{some_and}
+use Rattle.zic_calendar.specs.declared.day_form.On.{On}
 use Rattle.zic_base.specs.declared.place.Place.{Place}
-use Rattle.zic_base.specs.declared.fault.Kind.TheVariants.{Name, Year, YearOrder, Reserved, Month, Day, Time, Save, Letter}
+use Rattle.zic_base.proofs.Checks.{each_passes, first_failed-stops}
 use Rattle.zic_lines.specs.declared.rule.Rule.{Rule}
-use Rattle.zic_lines.specs.declared.rule_line.Years.{Years}
 use Rattle.zic_lines.specs.declared.moment.Moment.{Moment}
-use Rattle.zic_words.specs.Dash.{is_dash}
 use Rattle.zic_words.specs.declared.keyword.Keyword.TheVariants as keywords
 use Rattle.zic_words.specs.Keyword.{keyword_of}
-use Rattle.zic_words.specs.SetName.{is_set_name}
 use Rattle.zic_words.specs.Year.{year_of, last_year_of, ends_before, is_one_leap_year}
 use Rattle.zic_words.specs.Month.{month_of}
 use Rattle.zic_words.specs.DayForm.{day_form_of}
@@ -18,91 +19,60 @@ use Rattle.zic_words.specs.Clock.{clock_time_of}
 use Rattle.zic_words.specs.Saving.{saving_of}
 use Rattle.zic_words.specs.Letter.{letter_of}
 use Rattle.zic_lines.specs.RuleLine.{IsRuleLine}
-use Rattle.zic_base.specs.Fault.{fault_at}
-use Rattle.zic_lines.specs.Reading.{rule_years, rule_moment, rule_with, rule_of, rule_line}
-use Rattle.zic_lines.proofs.Steps.{bound, guarded, present, same_ok}
+use Rattle.zic_lines.specs.Checks.{rule_checks, years_of, rule_day_of}
+use Rattle.zic_words.specs.Dash.{is_dash}
+use Rattle.zic_words.specs.SetName.{is_set_name}
+use Rattle.zic_words.specs.declared.clock.ClockTime.{ClockTime}
+use Rattle.zic_words.specs.declared.saving.Saving.{Saving}
+use Rattle.zic_lines.specs.declared.rule_line.Years.{Years}
+use Rattle.zic_lines.specs.code.LineParts.{SayYears, year_checks, SayMoment, moment_checks, rule_with}
+use Rattle.zic_lines.proofs.Parsed.{kept}
+use Rattle.zic_lines.proofs.Options.{there, bound}
 
--- ten fields
-pub rule_at : (place : Place) (fields : List (List ℕ)) → length fields ≡ 10
-    → rule_line place fields ≡ rule_of place (get_or fields 1 []) (get_or fields 2 []) (get_or fields 3 []) (get_or fields 4 []) (get_or fields 5 []) (get_or fields 6 []) (get_or fields 7 []) (get_or fields 8 []) (get_or fields 9 [])
-unfolding rule_line
-rule_at place [] ten = absurd (omega arith)
-rule_at place (a ∷ []) ten = absurd (omega arith)
-rule_at place (a ∷ b ∷ []) ten = absurd (omega arith)
-rule_at place (a ∷ b ∷ c ∷ []) ten = absurd (omega arith)
-rule_at place (a ∷ b ∷ c ∷ d ∷ []) ten = absurd (omega arith)
-rule_at place (a ∷ b ∷ c ∷ d ∷ f ∷ []) ten = absurd (omega arith)
-rule_at place (a ∷ b ∷ c ∷ d ∷ f ∷ g ∷ []) ten = absurd (omega arith)
-rule_at place (a ∷ b ∷ c ∷ d ∷ f ∷ g ∷ h ∷ []) ten = absurd (omega arith)
-rule_at place (a ∷ b ∷ c ∷ d ∷ f ∷ g ∷ h ∷ i ∷ []) ten = absurd (omega arith)
-rule_at place (a ∷ b ∷ c ∷ d ∷ f ∷ g ∷ h ∷ i ∷ j ∷ []) ten = absurd (omega arith)
-rule_at place (a ∷ b ∷ c ∷ d ∷ f ∷ g ∷ h ∷ i ∷ j ∷ k ∷ []) ten = refl
-rule_at place (a ∷ b ∷ c ∷ d ∷ f ∷ g ∷ h ∷ i ∷ j ∷ k ∷ m ∷ others) ten = absurd (omega arith)
+-- the years that FROM and TO say
+years_are : (from to : List ℕ) (first : ℕ) (last : Option ℕ) → year_of from ≡ Some first → last_year_of first to ≡ Some last → years_of from to ≡ Some (first, last)
+years_are from to first last e e' = rw (e, e') refl
 
--- FROM and TO say these years.
-record SayYears (from to : List ℕ) (years : Years) : Type 0 where
-  begins : year_of from ≡ Some years.first
-  ends : last_year_of years.first to ≡ Some years.last
-  in_order : ends_before years.last years.first ≡ false
+-- they are in order
+order : (years : Option (ℕ × Option ℕ)) (first : ℕ) (last : Option ℕ) → years ≡ Some (first, last) → some_and years (λ y. not (ends_before y.1 y.0)) ≡ true → not (ends_before last first) ≡ true
+order years first last e h = rw e at h
 
-years_taken : (place : Place) (from to : List ℕ) (years : Years) → rule_years place from to ≡ Ok years → SayYears from to years
-unfolding rule_years
-years_taken place from to years e =
-    let first = bound (ok_or (year_of from) (fault_at place Year)) _ years e in
-    let last = bound (ok_or (last_year_of first.0 to) (fault_at place Year)) _ years first.2 in
-    let order = guarded (ends_before last.0 first.0) (fault_at place YearOrder) _ years last.2 in
-    let made : Years = record { first = first.0; last = last.0 } in
-    let say : SayYears from to made = record {
-      begins = present (year_of from) _ first.0 first.1;
-      ends = present (last_year_of first.0 to) _ last.0 last.1;
-      in_order = order.0;
+-- the day of these years and this month
+day_is : (from to month day : List ℕ) (first : ℕ) (last : Option ℕ) (in_month : ℕ) (on : On) → years_of from to ≡ Some (first, last) → month_of month ≡ Some in_month → rule_day_of from to month day ≡ Some on
+    → day_form_of (is_one_leap_year first last) in_month day ≡ Some on
+day_is from to month day first last in_month on years m e = rw (years, m) at e
+
+-- the fields of a Rule line that fails no check say a rule
+pub rule_said : (place : Place) (field : List ℕ) (fields : List (List ℕ)) → keyword_of field ≡ Some keywords.Rule → first_failed (rule_checks (field ∷ fields)) ≡ None → (rule : Rule) × IsRuleLine place (field ∷ fields) rule
+rule_said place keyword (name ∷ from ∷ to ∷ reserved ∷ month ∷ day ∷ time ∷ save ∷ letter ∷ []) begins e =
+    let named = each_passes (rule_checks (keyword ∷ name ∷ from ∷ to ∷ reserved ∷ month ∷ day ∷ time ∷ save ∷ letter ∷ [])) e in
+    let from_year = named.1 in
+    let to_year = from_year.1 in
+    let in_order = to_year.1 in
+    let unused = in_order.1 in
+    let in_month = unused.1 in
+    let on_day = in_month.1 in
+    let at_time = on_day.1 in
+    let saves = at_time.1 in
+    let abbreviates = saves.1 in
+    let years = there (years_of from to) to_year.0 in
+    let first = bound (year_of from) _ years.0 years.1 in
+    let last = bound (last_year_of first.0 to) _ years.0 first.2 in
+    let m = there (month_of month) in_month.0 in
+    let on = there (rule_day_of from to month day) on_day.0 in
+    let clock = there (clock_time_of time) at_time.0 in
+    let saving = there (saving_of save) saves.0 in
+    let text = there (letter_of letter) abbreviates.0 in
+    let rule : Rule = record {
+      place = place;
+      name = name;
+      first = first.0;
+      last = last.0;
+      moment = record { month = m.0; on = on.0; at = clock.0 };
+      saving = saving.0;
+      letter = text.0;
     } in
-    subst (SayYears from to) (same_ok made years order.1) say
-
--- IN, ON and AT of a rule for these years say when it begins.
-record SayWhen (years : Years) (month day time : List ℕ) (when : Moment) : Type 0 where
-  in_month : month_of month ≡ Some when.month
-  on_day : day_form_of (is_one_leap_year years.first years.last) when.month day ≡ Some when.on
-  at_time : clock_time_of time ≡ Some when.at
-
-when_taken : (place : Place) (years : Years) (month day time : List ℕ) (when : Moment) → rule_moment place years month day time ≡ Ok when → SayWhen years month day time when
-unfolding rule_moment
-when_taken place years month day time when e =
-    let in_month = bound (ok_or (month_of month) (fault_at place Month)) _ when e in
-    let on = bound (ok_or (day_form_of (is_one_leap_year years.first years.last) in_month.0 day) (fault_at place Day)) _ when in_month.2 in
-    let at = bound (ok_or (clock_time_of time) (fault_at place Time)) _ when on.2 in
-    let made : Moment = record { month = in_month.0; on = on.0; at = at.0 } in
-    let say : SayWhen years month day time made = record {
-      in_month = present (month_of month) _ in_month.0 in_month.1;
-      on_day = present (day_form_of (is_one_leap_year years.first years.last) in_month.0 day) _ on.0 on.1;
-      at_time = present (clock_time_of time) _ at.0 at.1;
-    } in
-    subst (SayWhen years month day time) (same_ok made when at.2) say
-
-pub line_taken : (place : Place) (fields : List (List ℕ)) (rule : Rule) → keyword_of (get_or fields 0 []) ≡ Some keywords.Rule → rule_line place fields ≡ Ok rule → IsRuleLine place fields rule
-unfolding rule_line rule_of
-line_taken place [] rule begins e = absurd cc
-line_taken place (a ∷ []) rule begins e = absurd cc
-line_taken place (a ∷ b ∷ []) rule begins e = absurd cc
-line_taken place (a ∷ b ∷ c ∷ []) rule begins e = absurd cc
-line_taken place (a ∷ b ∷ c ∷ d ∷ []) rule begins e = absurd cc
-line_taken place (a ∷ b ∷ c ∷ d ∷ f ∷ []) rule begins e = absurd cc
-line_taken place (a ∷ b ∷ c ∷ d ∷ f ∷ g ∷ []) rule begins e = absurd cc
-line_taken place (a ∷ b ∷ c ∷ d ∷ f ∷ g ∷ h ∷ []) rule begins e = absurd cc
-line_taken place (a ∷ b ∷ c ∷ d ∷ f ∷ g ∷ h ∷ i ∷ []) rule begins e = absurd cc
-line_taken place (a ∷ b ∷ c ∷ d ∷ f ∷ g ∷ h ∷ i ∷ j ∷ []) rule begins e = absurd cc
-line_taken place (keyword ∷ name ∷ from ∷ to ∷ reserved ∷ month ∷ day ∷ time ∷ save ∷ letter ∷ []) rule begins e =
-    let fields : List (List ℕ) = keyword ∷ name ∷ from ∷ to ∷ reserved ∷ month ∷ day ∷ time ∷ save ∷ letter ∷ [] in
-    let named = guarded (not (is_set_name name)) (fault_at place Name) _ rule e in
-    let years = bound (rule_years place from to) _ rule named.1 in
-    let unused = guarded (not (is_dash reserved)) (fault_at place Reserved) _ rule years.2 in
-    let when = bound (rule_moment place years.0 month day time) _ rule unused.1 in
-    let saving = bound (ok_or (saving_of save) (fault_at place Save)) _ rule when.2 in
-    let text = bound (ok_or (letter_of letter) (fault_at place Letter)) _ rule saving.2 in
-    let say_years = years_taken place from to years.0 years.1 in
-    let say_when = when_taken place years.0 month day time when.0 when.1 in
-    let made : Rule = rule_with place name years.0 when.0 saving.0 text.0 in
-    let is : IsRuleLine place fields made = record {
+    let said : IsRuleLine place (keyword ∷ name ∷ from ∷ to ∷ reserved ∷ month ∷ day ∷ time ∷ save ∷ letter ∷ []) rule = record {
       keyword = keyword;
       from = from;
       to = to;
@@ -114,31 +84,105 @@ line_taken place (keyword ∷ name ∷ from ∷ to ∷ reserved ∷ month ∷ da
       letter = letter;
       ten = refl;
       is_rule = begins;
-      named = not-false (is_set_name name) named.0;
+      named = named.0;
+      begins = first.1;
+      ends = last.1;
+      in_order = order (years_of from to) first.0 last.0 (years_are from to first.0 last.0 first.1 last.1) in_order.0;
+      unused = unused.0;
+      in_month = m.1;
+      on_day = day_is from to month day first.0 last.0 m.0 on.0 (years_are from to first.0 last.0 first.1 last.1) m.1 on.1;
+      at_time = clock.1;
+      saves = saving.1;
+      abbreviates = text.1;
+      stands = refl;
+    } in
+    (rule, said)
+rule_said place keyword fields begins e = absurd cc
+
+-- a rule that is said fails no check
+pub rule_passes : (place : Place) (fields : List (List ℕ)) (rule : Rule) → IsRuleLine place fields rule → first_failed (rule_checks fields) ≡ None
+rule_passes place fields rule is =
+    ap (λ (fs : List (List ℕ)). first_failed (rule_checks fs)) is.ten
+    ∙ rw (is.named, is.begins, is.ends, is.in_order, is.unused, is.in_month, is.on_day, is.at_time, is.saves, is.abbreviates) refl
+
+-- ten fields say one rule
+rules_same : (p p' : Place) (n n' : List ℕ) (a a' : ℕ) (z z' : Option ℕ) (m m' : ℕ) (o o' : On) (t t' : ClockTime) (s s' : Saving) (l l' : List ℕ)
+    → p ≡ p' → n ≡ n' → a ≡ a' → z ≡ z' → m ≡ m' → o ≡ o' → t ≡ t' → s ≡ s' → l ≡ l'
+    → rule_with p n (record { first = a; last = z }) (record { month = m; on = o; at = t }) s l ≡ rule_with p' n' (record { first = a'; last = z' }) (record { month = m'; on = o'; at = t' }) s' l'
+rules_same p p' n n' a a' z z' m m' o o' t t' s s' l l' e1 e2 e3 e4 e5 e6 e7 e8 e9 = rw (e1, e2, e3, e4, e5, e6, e7, e8, e9) refl
+
+pub rule_once : (place : Place) (texts : List (List ℕ)) (rule other : Rule) → IsRuleLine place texts rule → IsRuleLine place texts other → rule ≡ other
+rule_once place texts rule other is also =
+    let first : rule.first ≡ other.first = cc in
+    let last : rule.last ≡ other.last = cc in
+    let month : rule.moment.month ≡ other.moment.month = cc in
+    rules_same rule.place other.place rule.name other.name rule.first other.first rule.last other.last rule.moment.month other.moment.month rule.moment.on other.moment.on rule.moment.at other.moment.at
+    rule.saving other.saving rule.letter other.letter (cc) (cc) first last month (cc) (cc) (cc) (cc)
+
+-- what the code makes of ten fields is what they say
+pub rule_made : {E : Type 0} (place : Place) {texts : List (List ℕ)} {keyword name from to reserved month day time save letter : List ℕ} (years : Years) (moment : Moment) (saving : Saving) (text : List ℕ) (made : Result Rule E) (made_name : Result (List ℕ) E)
+    → texts ≡ keyword ∷ name ∷ from ∷ to ∷ reserved ∷ month ∷ day ∷ time ∷ save ∷ letter ∷ []
+    → keyword_of keyword ≡ Some keywords.Rule → is_set_name name ≡ true → SayYears from to years → is_dash reserved ≡ true → SayMoment years month day time moment
+    → saving_of save ≡ Some saving → letter_of letter ≡ Some text
+    → IfOk made_name (λ n. n ≡ name) → IfOk made (λ rule. made_name ≡ Ok rule.name) → IfOk made (λ rule. rule ≡ rule_with place rule.name years moment saving text) → IfOk made (IsRuleLine place texts)
+rule_made place {texts} {keyword} {name} {from} {to} {reserved} {month} {day} {time} {save} {letter} years moment saving text (Ok rule) made_name are begins n say_years unused say_moment saves abbreviates kept_name named parts =
+    let same : rule.name ≡ name = kept made_name name rule.name named kept_name in
+    let is : IsRuleLine place texts (rule_with place name years moment saving text) = record {
+      keyword = keyword;
+      from = from;
+      to = to;
+      reserved = reserved;
+      month = month;
+      day = day;
+      time = time;
+      save = save;
+      letter = letter;
+      ten = are;
+      is_rule = begins;
+      named = n;
       begins = say_years.begins;
       ends = say_years.ends;
-      in_order = rw say_years.in_order refl;
-      unused = not-false (is_dash reserved) unused.0;
-      in_month = say_when.in_month;
-      on_day = say_when.on_day;
-      at_time = say_when.at_time;
-      saves = present (saving_of save) _ saving.0 saving.1;
-      abbreviates = present (letter_of letter) _ text.0 text.1;
-      stands = refl {a = place};
+      in_order = say_years.in_order;
+      unused = unused;
+      in_month = say_moment.in_month;
+      on_day = say_moment.on_day;
+      at_time = say_moment.at_time;
+      saves = saves;
+      abbreviates = abbreviates;
+      stands = refl;
     } in
-    subst (IsRuleLine place fields) {x = made} (same_ok made rule text.2) is
-line_taken place (a ∷ b ∷ c ∷ d ∷ f ∷ g ∷ h ∷ i ∷ j ∷ k ∷ m ∷ others) rule begins e = absurd cc
+    subst (IsRuleLine place texts) (sym (parts ∙ ap (λ (t : List ℕ). rule_with place t years moment saving text) same)) is
+rule_made place {texts} {keyword} {name} {from} {to} {reserved} {month} {day} {time} {save} {letter} years moment saving text (Err e) made_name are begins n say_years unused say_moment saves abbreviates kept_name named parts = tt
 
-order_kept : (b : Bool) → not b ≡ true → b ≡ false
-order_kept true e = absurd cc
-order_kept false e = refl
+-- ---- the first that fails, step by step
 
-pub line_again : (place : Place) (fields : List (List ℕ)) (rule : Rule) → IsRuleLine place fields rule → rule_line place fields ≡ Ok rule
-unfolding rule_line rule_of rule_years rule_moment
-line_again place fields rule is =
-    let years : Years = record { first = rule.first; last = rule.last } in
-    let when : Moment = rule.moment in
-    let made : rule_with place rule.name years when rule.saving rule.letter ≡ rule =
-    ap (λ (p : Place). rule_with p rule.name years when rule.saving rule.letter) (sym is.stands) in
-    let order : ends_before rule.last rule.first ≡ false = order_kept _ is.in_order in
-    ap (rule_line place) is.ten ∙ rw (is.named, is.begins, is.ends, order, is.unused, is.in_month, is.on_day, is.at_time, is.saves, is.abbreviates) (ap (λ (r : Rule). Ok r) made)
+module _ {texts : List (List ℕ)} {keyword name from to reserved month day time save letter : List ℕ} (are : texts ≡ keyword ∷ name ∷ from ∷ to ∷ reserved ∷ month ∷ day ∷ time ∷ save ∷ letter ∷ []) where
+  checks_are : (o : Option Kind) → first_failed (rule_checks (keyword ∷ name ∷ from ∷ to ∷ reserved ∷ month ∷ day ∷ time ∷ save ∷ letter ∷ [])) ≡ o → first_failed (rule_checks texts) ≡ o
+  checks_are o e = ap (λ (ts : List (List ℕ)). first_failed (rule_checks ts)) are ∙ e
+
+  pub no_name : is_set_name name ≡ false → first_failed (rule_checks texts) ≡ Some Name
+  no_name bad = checks_are (Some Name) (rw bad refl)
+
+  module _ (named : is_set_name name ≡ true) where
+    pub years_fail : (kind : Kind) → first_failed (year_checks from to) ≡ Some kind → first_failed (rule_checks texts) ≡ Some kind
+    years_fail kind e = checks_are (Some kind) (rw named (first_failed-stops (year_checks from to)
+        (check (is_dash reserved) Reserved
+        ∷ check (is_some (month_of month)) Month
+        ∷ check (is_some (rule_day_of from to month day)) Day
+        ∷ check (is_some (clock_time_of time)) Time
+        ∷ check (is_some (saving_of save)) Save
+        ∷ check (is_some (letter_of letter)) Letter
+        ∷ []) kind e))
+
+    module _ (years : Years) (say_years : SayYears from to years) where
+      pub not_reserved : is_dash reserved ≡ false → first_failed (rule_checks texts) ≡ Some Reserved
+      not_reserved e = checks_are (Some Reserved) (rw (named, say_years.begins, say_years.ends, say_years.in_order, e) refl)
+
+      module _ (unused : is_dash reserved ≡ true) where
+        pub moment_fails : (kind : Kind) → first_failed (moment_checks years month day time) ≡ Some kind → first_failed (rule_checks texts) ≡ Some kind
+        moment_fails kind e = checks_are (Some kind) (rw (named, say_years.begins, say_years.ends, say_years.in_order, unused)
+            (first_failed-stops (moment_checks years month day time) (check (is_some (saving_of save)) Save ∷ check (is_some (letter_of letter)) Letter ∷ []) kind e))
+
+        -- the checks after those of IN, ON and AT decide
+        pub last_checks : (moment : Moment) → SayMoment years month day time moment → first_failed (rule_checks texts) ≡ first_failed (check (is_some (saving_of save)) Save ∷ check (is_some (letter_of letter)) Letter ∷ [])
+        last_checks moment say = checks_are _ (rw (named, say_years.begins, say_years.ends, say_years.in_order, unused, say.in_month, say.on_day, say.at_time) refl)

@@ -1,21 +1,22 @@
 -- Taking a line apart byte by byte gives the fields of its code.
-use Rattle.std.proofs.Common.{◌≡◌, ℕ, ◌+◌, ◌%◌, Bool, true, false, not, cond, eqb, List, [], ◌∷◌, ◌++◌, length, take, map, Option, Some, None, Result, Ok, Err, refl, sym, ap, ◌∙◌, append_assoc, zero-add, arith, inl, inr}
+use Rattle.std.proofs.Common.{◌≡◌, ℕ, ◌+◌, ◌%◌, ◌≤◌, Bool, true, false, not, cond, eqb, List, [], ◌∷◌, ◌++◌, length, take, map, Option, Some, None, Result, Ok, Err, refl, sym, ap, ◌∙◌, append_assoc, zero-add, arith, inl, inr}
 use Rattle.std.specs.Prelude.{◌&&◌, filter, count_by, take_while, unwrap_or}
 use Rattle.std.specs.List.{slice_split, enumerate_from, list_all, onto_first}
-use Rattle.std.proofs.lemmas.Bool.{cases_Bool, cases_eq, eqb-true, eq-eqb, ne_eqb, and_parts, not-true}
+use Rattle.std.proofs.lemmas.Bool.{cases_Bool, cases_eq, eqb-true, eq-eqb, ne_eqb, and_parts, not-true, le-leb}
 use Rattle.std.proofs.lemmas.List.{append-nil, map-append, take_at, length_push}
 use Rattle.std.proofs.lemmas.List.Elements.{filter-append}
 use Rattle.std.proofs.lemmas.List.Splits.{slice_split-cons_yes, slice_split-cons_no}
 use Rattle.std.proofs.lemmas.List.Sums.{sum_by_push, sum_by-cons, take_while-cons}
-use Rattle.zic_base.specs.declared.place.Place.{Place}
-use Rattle.zic_base.specs.declared.fault.Fault.{Fault}
+use Rattle.zic_base.specs.declared.fault.Kind.{Kind}
 use Rattle.zic_base.specs.declared.fault.Kind.TheVariants.{NotAscii, Quote}
 use Rattle.zic_lines.specs.declared.field.Role.{Role}
 use Rattle.zic_lines.specs.declared.field.Role.TheVariants as role
-use Rattle.zic_lines.specs.Field.{Mark, code, fields, field_text, is_quote, is_allowed, is_odd, is_gap, is_some_part, starts_comment, is_ascii_code}
-use Rattle.zic_lines.specs.Taken.{TakenFields, nothing_taken, role_of, begun, with_byte, ended, ended_fields, scan}
-use Rattle.zic_base.specs.Fault.{fault_at}
-use Rattle.zic_lines.specs.Reading.{code_fields}
+use Rattle.zic_lines.specs.Field.{Mark, code, fields, field_text, is_quote, is_allowed, is_odd, is_gap, is_some_part, starts_comment, is_ascii_code, is_closed}
+use Rattle.zic_lines.specs.declared.field.TheConstants.{LONGEST_LINE}
+use Rattle.zic_lines.specs.Grammar.{IsLine}
+use Rattle.zic_lines.specs.Checks.{byte_checks}
+use Rattle.zic_base.specs.Check.{first_failed}
+use Rattle.zic_lines.specs.code.Taken.{TakenFields, nothing_taken, role_of, begun, with_byte, ended, ended_fields, scan, taken_fields}
 
 -- ---- marks, one after the other
 
@@ -156,58 +157,58 @@ taken_text whole piece mark e =
 
 -- ---- the whole line
 
-answer : Place → Bool → Bool → List (List ℕ) → Result (List (List ℕ)) Fault
-answer place ascii open' texts = cond (not ascii) (Err (fault_at place NotAscii)) (cond open' (Err (fault_at place Quote)) (Ok texts))
+answer : Bool → Bool → List (List ℕ) → Result (List (List ℕ)) Kind
+answer ascii open' texts = cond (not ascii) (Err NotAscii) (cond open' (Err Quote) (Ok texts))
 
 -- what the code that is left gives
-abbrev outcome : Place → Bool → List (List ℕ) → List Mark → List Mark → Result (List (List ℕ)) Fault
-outcome place quoted whole piece part = answer place (list_all (λ mark. is_allowed mark.byte) part) (open_after quoted part) (whole ++ texts_from piece part)
+abbrev outcome : Bool → List (List ℕ) → List Mark → List Mark → Result (List (List ℕ)) Kind
+outcome quoted whole piece part = answer (list_all (λ mark. is_allowed mark.byte) part) (open_after quoted part) (whole ++ texts_from piece part)
 
-outcome-end : (place : Place) (quoted : Bool) (whole : List (List ℕ)) (piece : List Mark) → outcome place quoted whole piece [] ≡ cond quoted (Err (fault_at place Quote)) (Ok (ended_fields whole (current_of piece)))
+outcome-end : (quoted : Bool) (whole : List (List ℕ)) (piece : List Mark) → outcome quoted whole piece [] ≡ cond quoted (Err Quote) (Ok (ended_fields whole (current_of piece)))
 unfolding answer
-outcome-end place quoted whole piece = ap (λ (ts : List (List ℕ)). cond quoted (Err (fault_at place Quote)) (Ok ts)) (ended_is whole piece [] ∙ append-nil (ended_fields whole (current_of piece)))
+outcome-end quoted whole piece = ap (λ (ts : List (List ℕ)). cond quoted (Err Quote) (Ok ts)) (ended_is whole piece [] ∙ append-nil (ended_fields whole (current_of piece)))
 
 -- a byte that is taken
-taken_on : (place : Place) (quoted : Bool) (whole whole' : List (List ℕ)) (piece piece' : List Mark) (mark : Mark) (part : List Mark) (next : Bool) → flipped mark.byte quoted ≡ next
-    → is_allowed mark.byte ≡ true → whole ++ texts_from piece (mark ∷ part) ≡ whole' ++ texts_from piece' part → outcome place quoted whole piece (mark ∷ part) ≡ outcome place next whole' piece' part
-taken_on place quoted whole whole' piece piece' mark part next e ok same =
+taken_on : (quoted : Bool) (whole whole' : List (List ℕ)) (piece piece' : List Mark) (mark : Mark) (part : List Mark) (next : Bool) → flipped mark.byte quoted ≡ next
+    → is_allowed mark.byte ≡ true → whole ++ texts_from piece (mark ∷ part) ≡ whole' ++ texts_from piece' part → outcome quoted whole piece (mark ∷ part) ≡ outcome next whole' piece' part
+taken_on quoted whole whole' piece piece' mark part next e ok same =
     let ascii : list_all (λ m. is_allowed m.byte) (mark ∷ part) ≡ list_all (λ m. is_allowed m.byte) part = ap (λ (b : Bool). b && list_all (λ m. is_allowed m.byte) part) ok in
     let opens : open_after quoted (mark ∷ part) ≡ open_after next part = ap (λ (b : Bool). open_after b part) e in
-    ap (λ (b : Bool). answer place b (open_after quoted (mark ∷ part)) (whole ++ texts_from piece (mark ∷ part))) ascii
-    ∙ ap (λ (b : Bool). answer place (list_all (λ m. is_allowed m.byte) part) b (whole ++ texts_from piece (mark ∷ part))) opens
-    ∙ ap (answer place (list_all (λ m. is_allowed m.byte) part) (open_after next part)) same
+    ap (λ (b : Bool). answer b (open_after quoted (mark ∷ part)) (whole ++ texts_from piece (mark ∷ part))) ascii
+    ∙ ap (λ (b : Bool). answer (list_all (λ m. is_allowed m.byte) part) b (whole ++ texts_from piece (mark ∷ part))) opens
+    ∙ ap (answer (list_all (λ m. is_allowed m.byte) part) (open_after next part)) same
 
-refused_on : (place : Place) (quoted : Bool) (whole : List (List ℕ)) (piece : List Mark) (mark : Mark) (part : List Mark) → is_allowed mark.byte ≡ false → outcome place quoted whole piece (mark ∷ part) ≡ Err (fault_at place NotAscii)
+refused_on : (quoted : Bool) (whole : List (List ℕ)) (piece : List Mark) (mark : Mark) (part : List Mark) → is_allowed mark.byte ≡ false → outcome quoted whole piece (mark ∷ part) ≡ Err NotAscii
 unfolding answer
-refused_on place quoted whole piece mark part bad =
-    ap (λ (b : Bool). answer place (b && list_all (λ m. is_allowed m.byte) part) (open_after quoted (mark ∷ part)) (whole ++ texts_from piece (mark ∷ part))) bad
+refused_on quoted whole piece mark part bad =
+    ap (λ (b : Bool). answer (b && list_all (λ m. is_allowed m.byte) part) (open_after quoted (mark ∷ part)) (whole ++ texts_from piece (mark ∷ part))) bad
 
 quote_is : (byte : ℕ) (quoted : Bool) → is_quote byte ≡ true → (is_allowed byte ≡ true) × (is_gap (mark_of byte quoted) ≡ false)
 quote_is byte quoted e = let at : byte ≡ 34 = eqb-true byte 34 e in (ap is_allowed at, ap (λ (b : ℕ). is_gap (mark_of b quoted)) at)
 
-abbrev pub dispatch : Role → Place → Bool → TakenFields → ℕ → List ℕ → Result (List (List ℕ)) Fault
-dispatch role.Comment place quoted taken byte bytes = Ok (ended taken).whole
-dispatch role.DoubleQuote place quoted taken byte bytes = scan place (not quoted) (begun taken) bytes
-dispatch role.Refused place quoted taken byte bytes = Err (fault_at place NotAscii)
-dispatch role.Gap place quoted taken byte bytes = scan place quoted (ended taken) bytes
-dispatch role.Text place quoted taken byte bytes = scan place quoted (with_byte taken byte) bytes
+abbrev pub dispatch : Role → Bool → TakenFields → ℕ → List ℕ → Result (List (List ℕ)) Kind
+dispatch role.Comment quoted taken byte bytes = Ok (ended taken).whole
+dispatch role.DoubleQuote quoted taken byte bytes = scan (not quoted) (begun taken) bytes
+dispatch role.Refused quoted taken byte bytes = Err NotAscii
+dispatch role.Gap quoted taken byte bytes = scan quoted (ended taken) bytes
+dispatch role.Text quoted taken byte bytes = scan quoted (with_byte taken byte) bytes
 
-pub dispatched : (r : Role) (place : Place) (quoted : Bool) (taken : TakenFields) (byte : ℕ) (bytes : List ℕ) → role_of byte quoted ≡ r → scan place quoted taken (byte ∷ bytes) ≡ dispatch r place quoted taken byte bytes
-dispatched role.Comment place quoted taken byte bytes e = rw (e, scan) refl
-dispatched role.DoubleQuote place quoted taken byte bytes e = rw (e, scan) refl
-dispatched role.Refused place quoted taken byte bytes e = rw (e, scan) refl
-dispatched role.Gap place quoted taken byte bytes e = rw (e, scan) refl
-dispatched role.Text place quoted taken byte bytes e = rw (e, scan) refl
+pub dispatched : (r : Role) (quoted : Bool) (taken : TakenFields) (byte : ℕ) (bytes : List ℕ) → role_of byte quoted ≡ r → scan quoted taken (byte ∷ bytes) ≡ dispatch r quoted taken byte bytes
+dispatched role.Comment quoted taken byte bytes e = rw (e, scan) refl
+dispatched role.DoubleQuote quoted taken byte bytes e = rw (e, scan) refl
+dispatched role.Refused quoted taken byte bytes e = rw (e, scan) refl
+dispatched role.Gap quoted taken byte bytes e = rw (e, scan) refl
+dispatched role.Text quoted taken byte bytes e = rw (e, scan) refl
 
 -- a byte that is taken leaves what the bytes after it give
-step_on : (place : Place) (quoted : Bool) (whole whole' : List (List ℕ)) (piece piece' : List Mark) (byte : ℕ) (bytes : List ℕ) (next : Bool) → starts_comment (mark_of byte quoted) ≡ false
+step_on : (quoted : Bool) (whole whole' : List (List ℕ)) (piece piece' : List Mark) (byte : ℕ) (bytes : List ℕ) (next : Bool) → starts_comment (mark_of byte quoted) ≡ false
     → flipped byte quoted ≡ next → is_allowed byte ≡ true → ((part : List Mark) → whole ++ texts_from piece (mark_of byte quoted ∷ part) ≡ whole' ++ texts_from piece' part)
-    → scan place next (taken_of whole' piece') bytes ≡ outcome place next whole' piece' (code_from next bytes)
-    → scan place next (taken_of whole' piece') bytes ≡ outcome place quoted whole piece (code_from quoted (byte ∷ bytes))
-step_on place quoted whole whole' piece piece' byte bytes next plain flips ok same rest =
-    let first : outcome place quoted whole piece (code_from quoted (byte ∷ bytes)) ≡ outcome place quoted whole piece (mark_of byte quoted ∷ code_from (flipped byte quoted) bytes) = ap (outcome place quoted whole piece) (code_from-other quoted byte bytes plain) in
-    let second = taken_on place quoted whole whole' piece piece' (mark_of byte quoted) (code_from (flipped byte quoted) bytes) next flips ok (same (code_from (flipped byte quoted) bytes)) in
-    let third : outcome place next whole' piece' (code_from (flipped byte quoted) bytes) ≡ outcome place next whole' piece' (code_from next bytes) = ap (λ (b : Bool). outcome place next whole' piece' (code_from b bytes)) flips in
+    → scan next (taken_of whole' piece') bytes ≡ outcome next whole' piece' (code_from next bytes)
+    → scan next (taken_of whole' piece') bytes ≡ outcome quoted whole piece (code_from quoted (byte ∷ bytes))
+step_on quoted whole whole' piece piece' byte bytes next plain flips ok same rest =
+    let first : outcome quoted whole piece (code_from quoted (byte ∷ bytes)) ≡ outcome quoted whole piece (mark_of byte quoted ∷ code_from (flipped byte quoted) bytes) = ap (outcome quoted whole piece) (code_from-other quoted byte bytes plain) in
+    let second = taken_on quoted whole whole' piece piece' (mark_of byte quoted) (code_from (flipped byte quoted) bytes) next flips ok (same (code_from (flipped byte quoted) bytes)) in
+    let third : outcome next whole' piece' (code_from (flipped byte quoted) bytes) ≡ outcome next whole' piece' (code_from next bytes) = ap (λ (b : Bool). outcome next whole' piece' (code_from b bytes)) flips in
     rest ∙ sym (first ∙ second ∙ third)
 
 module _ (byte : ℕ) (quoted : Bool) where
@@ -231,59 +232,83 @@ module _ (byte : ℕ) (quoted : Bool) where
   unfolding role_of
   role-text e q a g = rw (e, q, a, g) refl
 
-scan_from : (place : Place) (quoted : Bool) (whole : List (List ℕ)) (piece : List Mark) (bytes : List ℕ) → scan place quoted (taken_of whole piece) bytes ≡ outcome place quoted whole piece (code_from quoted bytes)
-scan_from place quoted whole piece [] = sym (outcome-end place quoted whole piece)
-scan_from place quoted whole piece (byte ∷ bytes) =
+scan_from : (quoted : Bool) (whole : List (List ℕ)) (piece : List Mark) (bytes : List ℕ) → scan quoted (taken_of whole piece) bytes ≡ outcome quoted whole piece (code_from quoted bytes)
+scan_from quoted whole piece [] = sym (outcome-end quoted whole piece)
+scan_from quoted whole piece (byte ∷ bytes) =
     let mark : Mark = mark_of byte quoted in
     let taken : TakenFields = taken_of whole piece in
     elim (cases_Bool (starts_comment mark)) [
       | inl comment ↦
           let outside : quoted ≡ false = not-true quoted (and_parts (eqb byte 35) (not quoted) comment).1 in
-          dispatched role.Comment place quoted taken byte bytes (role-comment byte quoted comment)
-          ∙ sym (ap (outcome place quoted whole piece) (code_from-comment quoted byte bytes comment) ∙ outcome-end place quoted whole piece ∙ ap (λ (b : Bool). cond b (Err (fault_at place Quote)) (Ok (ended taken).whole)) outside)
+          dispatched role.Comment quoted taken byte bytes (role-comment byte quoted comment)
+          ∙ sym (ap (outcome quoted whole piece) (code_from-comment quoted byte bytes comment) ∙ outcome-end quoted whole piece ∙ ap (λ (b : Bool). cond b (Err Quote) (Ok (ended taken).whole)) outside)
       | inr plain ↦ elim (cases_Bool (is_quote byte)) [
         | inl quote ↦
             let flips : flipped byte quoted ≡ not quoted = ap (λ (b : Bool). cond b (not quoted) quoted) quote in
-            dispatched role.DoubleQuote place quoted taken byte bytes (role-quote byte quoted plain quote)
-            ∙ ap (λ (t : TakenFields). scan place (not quoted) t bytes) (taken_quote whole piece mark quote)
-            ∙ step_on place quoted whole whole piece (piece ++ mark ∷ []) byte bytes (not quoted) plain flips (quote_is byte quoted quote).0
+            dispatched role.DoubleQuote quoted taken byte bytes (role-quote byte quoted plain quote)
+            ∙ ap (λ (t : TakenFields). scan (not quoted) t bytes) (taken_quote whole piece mark quote)
+            ∙ step_on quoted whole whole piece (piece ++ mark ∷ []) byte bytes (not quoted) plain flips (quote_is byte quoted quote).0
             (λ part. ap (λ (ts : List (List ℕ)). whole ++ ts) (texts_from-text piece mark part (quote_is byte quoted quote).1))
-            (scan_from place (not quoted) whole (piece ++ mark ∷ []) bytes)
+            (scan_from (not quoted) whole (piece ++ mark ∷ []) bytes)
         | inr other ↦
             let flips : flipped byte quoted ≡ quoted = ap (λ (b : Bool). cond b (not quoted) quoted) other in
             elim (cases_Bool (is_allowed byte)) [
               | inl allowed ↦ elim (cases_Bool (is_gap mark)) [
                 | inl gap ↦
-                    dispatched role.Gap place quoted taken byte bytes (role-gap byte quoted plain other allowed gap)
-                    ∙ step_on place quoted whole (ended_fields whole (current_of piece)) piece [] byte bytes quoted plain flips allowed
+                    dispatched role.Gap quoted taken byte bytes (role-gap byte quoted plain other allowed gap)
+                    ∙ step_on quoted whole (ended_fields whole (current_of piece)) piece [] byte bytes quoted plain flips allowed
                     (λ part. texts_from-gap whole piece mark part gap)
-                    (scan_from place quoted (ended_fields whole (current_of piece)) [] bytes)
+                    (scan_from quoted (ended_fields whole (current_of piece)) [] bytes)
                 | inr inside ↦
-                    dispatched role.Text place quoted taken byte bytes (role-text byte quoted plain other allowed inside)
-                    ∙ ap (λ (t : TakenFields). scan place quoted t bytes) (taken_text whole piece mark other)
-                    ∙ step_on place quoted whole whole piece (piece ++ mark ∷ []) byte bytes quoted plain flips allowed
+                    dispatched role.Text quoted taken byte bytes (role-text byte quoted plain other allowed inside)
+                    ∙ ap (λ (t : TakenFields). scan quoted t bytes) (taken_text whole piece mark other)
+                    ∙ step_on quoted whole whole piece (piece ++ mark ∷ []) byte bytes quoted plain flips allowed
                     (λ part. ap (λ (ts : List (List ℕ)). whole ++ ts) (texts_from-text piece mark part inside))
-                    (scan_from place quoted whole (piece ++ mark ∷ []) bytes)
+                    (scan_from quoted whole (piece ++ mark ∷ []) bytes)
               ]
               | inr refused ↦
-                  dispatched role.Refused place quoted taken byte bytes (role-refused byte quoted plain other refused)
-                  ∙ sym (ap (outcome place quoted whole piece) (code_from-other quoted byte bytes plain) ∙ refused_on place quoted whole piece mark (code_from (flipped byte quoted) bytes) refused)
+                  dispatched role.Refused quoted taken byte bytes (role-refused byte quoted plain other refused)
+                  ∙ sym (ap (outcome quoted whole piece) (code_from-other quoted byte bytes plain) ∙ refused_on quoted whole piece mark (code_from (flipped byte quoted) bytes) refused)
             ]
       ]
     ]
 
-answer_is : (place : Place) (ascii odd : Bool) (texts : List (List ℕ)) → answer place ascii odd texts ≡ cond (not ascii) (Err (fault_at place NotAscii)) (cond (not (not odd)) (Err (fault_at place Quote)) (Ok texts))
+answer_is : (ascii odd : Bool) (texts : List (List ℕ)) → answer ascii odd texts ≡ cond (not ascii) (Err NotAscii) (cond (not (not odd)) (Err Quote) (Ok texts))
 unfolding answer
-answer_is place ascii true texts = refl
-answer_is place ascii false texts = refl
+answer_is ascii true texts = refl
+answer_is ascii false texts = refl
 
 -- all of the line
-pub scan_is : (place : Place) (line : List ℕ) → scan place false nothing_taken line ≡ code_fields place line
-unfolding code_fields
-scan_is place line =
+pub scan_is : (line : List ℕ) → scan false nothing_taken line ≡ taken_fields line
+unfolding taken_fields
+scan_is line =
     let opens : open_after false (code line) ≡ is_odd (count_by (λ m. is_quote m.byte) (code line)) = open_after_is 0 (code line) ∙ ap is_odd (zero-add (count_by (λ m. is_quote m.byte) (code line))) in
-    scan_from place false [] [] line
-    ∙ ap (λ (part : List Mark). outcome place false [] [] part) (sym (code_is line))
-    ∙ ap (λ (b : Bool). answer place (is_ascii_code line) b (texts_from [] (code line))) opens
-    ∙ ap (answer place (is_ascii_code line) (is_odd (count_by (λ m. is_quote m.byte) (code line)))) (texts_from-nothing (slice_split is_gap (code line)))
-    ∙ answer_is place (is_ascii_code line) (is_odd (count_by (λ m. is_quote m.byte) (code line))) (fields line)
+    scan_from false [] [] line
+    ∙ ap (λ (part : List Mark). outcome false [] [] part) (sym (code_is line))
+    ∙ ap (λ (b : Bool). answer (is_ascii_code line) b (texts_from [] (code line))) opens
+    ∙ ap (answer (is_ascii_code line) (is_odd (count_by (λ m. is_quote m.byte) (code line)))) (texts_from-nothing (slice_split is_gap (code line)))
+    ∙ answer_is (is_ascii_code line) (is_odd (count_by (λ m. is_quote m.byte) (code line))) (fields line)
+
+-- ---- what is wrong with a line's bytes, or its fields
+
+-- the bytes that are refused fail this check first
+fault_by : (ascii closed : Bool) (texts : List (List ℕ)) (kind : Kind) → cond (not ascii) (Err NotAscii) (cond (not closed) (Err Quote) (Ok texts)) ≡ Err kind → cond ascii (cond closed None (Some Quote)) (Some NotAscii) ≡ Some kind
+fault_by true true texts kind e = absurd cc
+fault_by true false texts kind e = cc
+fault_by false closed texts kind e = cc
+
+pub fault_taken : (line : List ℕ) (kind : Kind) → length line ≤ LONGEST_LINE → taken_fields line ≡ Err kind → first_failed (byte_checks line) ≡ Some kind
+unfolding taken_fields
+fault_taken line kind short e = rw (le-leb (length line) LONGEST_LINE short) (fault_by (is_ascii_code line) (is_closed line) (fields line) kind e)
+
+line_by : (ascii closed : Bool) (texts found : List (List ℕ)) → answer ascii (not closed) texts ≡ Ok found → (ascii ≡ true) × (closed ≡ true) × (found ≡ texts)
+unfolding answer
+line_by true true texts found e = (refl, refl, cc)
+line_by true false texts found e = absurd cc
+line_by false closed texts found e = absurd cc
+
+pub line_taken : (line : List ℕ) (found : List (List ℕ)) → length line ≤ LONGEST_LINE → taken_fields line ≡ Ok found → IsLine line × (found ≡ fields line)
+unfolding taken_fields answer
+line_taken line found short e =
+    let by = line_by (is_ascii_code line) (is_closed line) (fields line) found e in
+    (record { short = short; ascii = by.0; closed = by.1 }, by.2)

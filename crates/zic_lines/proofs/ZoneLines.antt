@@ -1,71 +1,78 @@
--- What the fields of Zone and continuation lines say.
-use Rattle.std.proofs.Common.{◌≡◌, ℕ, ◌≤◌, false, not, cond, ltb, List, [], ◌∷◌, length, get_or, drop, Option, Some, Result, Ok, Err, refl, sym, ap, subst, ◌∙◌, arith}
-use Rattle.std.specs.Prelude.{ok_or}
-use Rattle.std.proofs.lemmas.Bool.{le-ltb, not-false}
+-- What the fields of Zone and continuation lines say, where no check fails.
+use Rattle.std.proofs.Common.{◌≡◌, ◌≤◌, leb, ℕ, List, [], ◌∷◌, length, Option, Some, None, Result, Ok, Err, true, false, refl, ap, subst, ◌∙◌, arith}
+use Rattle.std.proofs.lemmas.Bool.{le-leb}
+use Rattle.zic_base.specs.Check.{check, first_failed}
 use Rattle.zic_base.specs.declared.place.Place.{Place}
-use Rattle.zic_base.specs.declared.fault.Fault.{Fault}
-use Rattle.zic_base.specs.declared.fault.Kind.TheVariants.{FieldCount, Name, Offset, Format, Until}
-use Rattle.zic_words.specs.declared.keyword.Keyword.TheVariants as keywords
-use Rattle.zic_lines.specs.declared.until as declared
-use Rattle.zic_lines.specs.declared.zone_line.ZoneLine.{ZoneLine}
-use Rattle.zic_words.specs.Keyword.{keyword_of}
+use Rattle.zic_base.proofs.Checks.{passes, each_passes}
+use Rattle.zic_base.specs.declared.fault.Kind.TheVariants.{FieldCount, Name}
 use Rattle.zic_words.specs.Name.{is_name}
+use Rattle.zic_words.specs.declared.keyword.Keyword.TheVariants as keywords
+use Rattle.zic_words.specs.Keyword.{keyword_of}
 use Rattle.zic_words.specs.Time.{offset_of}
-use Rattle.zic_lines.specs.RulesField.{rules_of, rules_kind}
+use Rattle.zic_lines.specs.declared.until.Until.{Until}
+use Rattle.zic_lines.specs.declared.zone_line.ZoneLine.{ZoneLine}
+use Rattle.zic_lines.specs.RulesField.{rules_of}
 use Rattle.zic_lines.specs.Format.{format_of}
 use Rattle.zic_lines.specs.Until.{until_of}
 use Rattle.zic_lines.specs.ZoneLine.{IsZoneLine, IsContinuationLine}
-use Rattle.zic_base.specs.Fault.{fault_at}
-use Rattle.zic_lines.specs.Reading.{◌>>=◌, zone_fields, zone_line, continuation_line}
-use Rattle.zic_lines.proofs.Steps.{bound, guarded, present, same_ok}
+use Rattle.zic_lines.specs.Checks.{zone_part_checks, zone_checks, continuation_checks}
+use Rattle.std.specs.Prelude.{IfOk, ℤ}
+use Rattle.zic_lines.specs.declared.rules.Rules.{Rules}
+use Rattle.zic_lines.specs.declared.format.Format.{Format}
+use Rattle.zic_lines.proofs.Parsed.{kept}
+use Rattle.zic_lines.proofs.Options.{there}
 
--- the zone of this name, and its first line as the fields behind the name give it
-abbrev pub zone_of : Place → List ℕ → Result ZoneLine Fault → Result (List ℕ × ZoneLine) Fault
-zone_of place name line = cond (not (is_name name)) (Err (fault_at place Name)) (line >>= λ l. Ok (name, l))
-
--- five to nine fields
-pub zone_at : (place : Place) (fields : List (List ℕ)) (name : List ℕ) → 5 ≤ length fields → length fields ≤ 9 → name ≡ get_or fields 1 []
-    → zone_line place fields ≡ zone_of place name (zone_fields place (get_or fields 2 []) (get_or fields 3 []) (get_or fields 4 []) (drop 5 fields))
-unfolding zone_line
-zone_at place [] name least most is = absurd (omega arith)
-zone_at place (a ∷ []) name least most is = absurd (omega arith)
-zone_at place (a ∷ b ∷ []) name least most is = absurd (omega arith)
-zone_at place (a ∷ b ∷ c ∷ []) name least most is = absurd (omega arith)
-zone_at place (a ∷ b ∷ c ∷ d ∷ []) name least most is = absurd (omega arith)
-zone_at place (a ∷ b ∷ c ∷ d ∷ f ∷ until) name least most is =
-    let few : length until ≤ 4 = omega arith in
-    rw (is, le-ltb 4 (length until) few) refl
-
-fields_taken : (place : Place) (stdoff rules format : List ℕ) (until : List (List ℕ)) (line : ZoneLine) → zone_fields place stdoff rules format until ≡ Ok line → IsContinuationLine place (stdoff ∷ rules ∷ format ∷ until) line
-unfolding zone_fields
-fields_taken place stdoff rules format until line e =
-    let offset = bound (ok_or (offset_of stdoff) (fault_at place Offset)) _ line e in
-    let saving = bound (ok_or (rules_of rules) (fault_at place (rules_kind rules))) _ line offset.2 in
-    let form = bound (ok_or (format_of format) (fault_at place Format)) _ line saving.2 in
-    let ends = bound (ok_or (until_of until) (fault_at place Until)) _ line form.2 in
-    let made : ZoneLine = record { place = place; offset = offset.0; rules = saving.0; format = form.0; until = ends.0 } in
-    let is : IsContinuationLine place (stdoff ∷ rules ∷ format ∷ until) made = record {
+-- `STDOFF RULES FORMAT` and the fields of an UNTIL that fail no check say a line of a zone
+part_said : (place : Place) (stdoff rules format : List ℕ) (until : List (List ℕ)) → first_failed (zone_part_checks stdoff rules format until) ≡ None → (line : ZoneLine) × IsContinuationLine place (stdoff ∷ rules ∷ format ∷ until) line
+part_said place stdoff rules format until e =
+    let offset = each_passes (zone_part_checks stdoff rules format until) e in
+    let keeps = offset.1 in
+    let abbreviates = keeps.1 in
+    let ends = abbreviates.1 in
+    let seconds = there (offset_of stdoff) offset.0 in
+    let saving = there (rules_of rules) keeps.0 in
+    let form = there (format_of format) abbreviates.0 in
+    let last = there (until_of until) ends.0 in
+    let line : ZoneLine = record { place = place; offset = seconds.0; rules = saving.0; format = form.0; until = last.0 } in
+    let said : IsContinuationLine place (stdoff ∷ rules ∷ format ∷ until) line = record {
       stdoff = stdoff;
       rules = rules;
       format = format;
       until = until;
       are = refl;
-      offset = present (offset_of stdoff) _ offset.0 offset.1;
-      keeps = present (rules_of rules) _ saving.0 saving.1;
-      abbreviates = present (format_of format) _ form.0 form.1;
-      ends = present (until_of until) _ ends.0 ends.1;
+      offset = seconds.1;
+      keeps = saving.1;
+      abbreviates = form.1;
+      ends = last.1;
       stands = refl;
     } in
-    subst (IsContinuationLine place (stdoff ∷ rules ∷ format ∷ until)) (same_ok made line ends.2) is
+    (line, said)
 
-fields_again : (place : Place) (fields : List (List ℕ)) (line : ZoneLine) (is : IsContinuationLine place fields line) → zone_fields place is.stdoff is.rules is.format is.until ≡ Ok line
-unfolding zone_fields
-fields_again place fields line is =
-    rw (is.offset, is.keeps, is.abbreviates, is.ends)
-    (ap (λ (p : Place). Ok (record { place = p; offset = line.offset; rules = line.rules; format = line.format; until = line.until })) (sym is.stands))
+-- the fields of a continuation line that fails no check say one
+pub continuation_said : (place : Place) (fields : List (List ℕ)) → first_failed (continuation_checks fields) ≡ None → (line : ZoneLine) × IsContinuationLine place fields line
+continuation_said place (stdoff ∷ rules ∷ format ∷ until) e = part_said place stdoff rules format until (passes (leb (length until) 4) FieldCount (zone_part_checks stdoff rules format until) e).1
+continuation_said place fields e = absurd cc
+
+-- the fields of a Zone line that fails no check say a zone
+pub zone_said : (place : Place) (field : List ℕ) (fields : List (List ℕ)) → keyword_of field ≡ Some keywords.Zone → first_failed (zone_checks (field ∷ fields)) ≡ None
+    → (name : List ℕ) × (line : ZoneLine) × IsZoneLine place (field ∷ fields) name line
+zone_said place keyword (name ∷ stdoff ∷ rules ∷ format ∷ until) begins e =
+    let few = passes (leb (length until) 4) FieldCount (check (is_name name) Name ∷ zone_part_checks stdoff rules format until) e in
+    let named = passes (is_name name) Name (zone_part_checks stdoff rules format until) few.1 in
+    let line = part_said place stdoff rules format until named.1 in
+    let said : IsZoneLine place (keyword ∷ name ∷ stdoff ∷ rules ∷ format ∷ until) name line.0 = record {
+      keyword = keyword;
+      others = stdoff ∷ rules ∷ format ∷ until;
+      are = refl;
+      is_zone = begins;
+      named = named.0;
+      says = line.1;
+    } in
+    (name, line.0, said)
+zone_said place keyword fields begins e = absurd cc
 
 -- an UNTIL has at most four fields
-few_fields : (until : List (List ℕ)) (o : Option declared.Until.Until) → until_of until ≡ Some o → length until ≤ 4
+few_fields : (until : List (List ℕ)) (o : Option Until) → until_of until ≡ Some o → length until ≤ 4
 unfolding until_of
 few_fields [] o e = omega arith
 few_fields (a ∷ []) o e = omega arith
@@ -74,46 +81,47 @@ few_fields (a ∷ b ∷ c ∷ []) o e = omega arith
 few_fields (a ∷ b ∷ c ∷ d ∷ []) o e = omega arith
 few_fields (a ∷ b ∷ c ∷ d ∷ f ∷ others) o e = absurd cc
 
-not_more : (place : Place) (fields : List (List ℕ)) (line : ZoneLine) (is : IsContinuationLine place fields line) → ltb 4 (length is.until) ≡ false
-not_more place fields line is = le-ltb 4 (length is.until) (few_fields is.until line.until is.ends)
+-- a line of a zone that is said fails no check
+pub continuation_passes : (place : Place) (fields : List (List ℕ)) (line : ZoneLine) → IsContinuationLine place fields line → first_failed (continuation_checks fields) ≡ None
+continuation_passes place fields line is =
+    ap (λ (fs : List (List ℕ)). first_failed (continuation_checks fs)) is.are
+    ∙ rw (le-leb (length is.until) 4 (few_fields is.until line.until is.ends), is.offset, is.keeps, is.abbreviates, is.ends) refl
 
-pub continuation_taken : (place : Place) (fields : List (List ℕ)) (line : ZoneLine) → continuation_line place fields ≡ Ok line → IsContinuationLine place fields line
-unfolding continuation_line
-continuation_taken place [] line e = absurd cc
-continuation_taken place (a ∷ []) line e = absurd cc
-continuation_taken place (a ∷ b ∷ []) line e = absurd cc
-continuation_taken place (stdoff ∷ rules ∷ format ∷ until) line e =
-    let few = guarded (ltb 4 (length until)) (fault_at place FieldCount) _ line e in
-    fields_taken place stdoff rules format until line few.1
+-- a zone that is said fails no check
+pub zone_passes : (place : Place) (fields : List (List ℕ)) (name : List ℕ) (line : ZoneLine) → IsZoneLine place fields name line → first_failed (zone_checks fields) ≡ None
+zone_passes place fields name line is =
+    ap (λ (fs : List (List ℕ)). first_failed (zone_checks fs)) (is.are ∙ ap (λ (others : List (List ℕ)). is.keyword ∷ name ∷ others) is.says.are)
+    ∙ rw (le-leb (length is.says.until) 4 (few_fields is.says.until line.until is.says.ends), is.named, is.says.offset, is.says.keeps, is.says.abbreviates, is.says.ends) refl
 
-pub continuation_again : (place : Place) (fields : List (List ℕ)) (line : ZoneLine) → IsContinuationLine place fields line → continuation_line place fields ≡ Ok line
-unfolding continuation_line
-continuation_again place fields line is = ap (continuation_line place) is.are ∙ rw (not_more place fields line is) (fields_again place fields line is)
+-- ---- fields say one line
 
-pub zone_taken : (place : Place) (fields : List (List ℕ)) (zone : List ℕ × ZoneLine) → keyword_of (get_or fields 0 []) ≡ Some keywords.Zone → zone_line place fields ≡ Ok zone → IsZoneLine place fields zone.0 zone.1
-unfolding zone_line
-zone_taken place [] zone begins e = absurd cc
-zone_taken place (a ∷ []) zone begins e = absurd cc
-zone_taken place (a ∷ b ∷ []) zone begins e = absurd cc
-zone_taken place (a ∷ b ∷ c ∷ []) zone begins e = absurd cc
-zone_taken place (a ∷ b ∷ c ∷ d ∷ []) zone begins e = absurd cc
-zone_taken place (keyword ∷ name ∷ stdoff ∷ rules ∷ format ∷ until) zone begins e =
-    let few = guarded (ltb 4 (length until)) (fault_at place FieldCount) _ zone e in
-    let named = guarded (not (is_name name)) (fault_at place Name) _ zone few.1 in
-    let line = bound (zone_fields place stdoff rules format until) _ zone named.1 in
-    let fields : List (List ℕ) = keyword ∷ name ∷ stdoff ∷ rules ∷ format ∷ until in
-    let is : IsZoneLine place fields name line.0 = record {
-      keyword = keyword;
-      others = stdoff ∷ rules ∷ format ∷ until;
-      are = refl;
-      is_zone = begins;
-      named = not-false _ named.0;
-      says = fields_taken place stdoff rules format until line.0 line.1;
-    } in
-    subst (λ (z : List ℕ × ZoneLine). IsZoneLine place fields z.0 z.1) (same_ok (name, line.0) zone line.2) is
+lines_same : (p p' : Place) (o o' : ℤ) (r r' : Rules) (f f' : Format) (u u' : Option Until) → p ≡ p' → o ≡ o' → r ≡ r' → f ≡ f' → u ≡ u'
+    → ◌≡◌ {A = ZoneLine} (record { place = p; offset = o; rules = r; format = f; until = u }) (record { place = p'; offset = o'; rules = r'; format = f'; until = u' })
+lines_same p p' o o' r r' f f' u u' a b c d e = rw (a, b, c, d, e) refl
 
-pub zone_again : (place : Place) (fields : List (List ℕ)) (name : List ℕ) (line : ZoneLine) → IsZoneLine place fields name line → zone_line place fields ≡ Ok (name, line)
-unfolding zone_line
-zone_again place fields name line is =
-    ap (zone_line place) (is.are ∙ ap (λ (others : List (List ℕ)). is.keyword ∷ name ∷ others) is.says.are)
-    ∙ rw (not_more place is.others line is.says, is.named, fields_again place is.others line is.says) refl
+pub continuation_once : (place : Place) (texts : List (List ℕ)) (line other : ZoneLine) → IsContinuationLine place texts line → IsContinuationLine place texts other → line ≡ other
+continuation_once place texts line other is also = lines_same line.place other.place line.offset other.offset line.rules other.rules line.format other.format line.until other.until (cc) (cc) (cc) (cc) (cc)
+
+-- ---- what the code makes of the fields of a Zone line
+
+module _ {texts : List (List ℕ)} {keyword name stdoff rules format : List ℕ} {until : List (List ℕ)} (are : texts ≡ keyword ∷ name ∷ stdoff ∷ rules ∷ format ∷ until) (few : length until ≤ 4) where
+  pub no_zone_name : is_name name ≡ false → first_failed (zone_checks texts) ≡ Some Name
+  no_zone_name bad = ap (λ (ts : List (List ℕ)). first_failed (zone_checks ts)) are ∙ rw (le-leb (length until) 4 few, bad) refl
+
+  pub part_decides : is_name name ≡ true → first_failed (zone_checks texts) ≡ first_failed (zone_part_checks stdoff rules format until)
+  part_decides named = ap (λ (ts : List (List ℕ)). first_failed (zone_checks ts)) are ∙ rw (le-leb (length until) 4 few, named) refl
+
+  pub zone_made : {E : Type 0} (place : Place) (made : Result (List ℕ × ZoneLine) E) (made_name : Result (List ℕ) E) (made_line : Result ZoneLine E) → keyword_of keyword ≡ Some keywords.Zone → is_name name ≡ true
+      → IfOk made_name (λ n. n ≡ name) → IfOk made_line (IsContinuationLine place (stdoff ∷ rules ∷ format ∷ until))
+      → IfOk made (λ zone. made_name ≡ Ok zone.0) → IfOk made (λ zone. made_line ≡ Ok zone.1) → IfOk made (λ zone. IsZoneLine place texts zone.0 zone.1)
+  zone_made {E = E} place (Ok zone) made_name made_line begins named n is a b =
+      let same : zone.0 ≡ name = kept made_name name zone.0 a n in
+      record {
+        keyword = keyword;
+        others = stdoff ∷ rules ∷ format ∷ until;
+        are = are ∙ rw same refl;
+        is_zone = begins;
+        named = rw same named;
+        says = subst (λ (l : Result ZoneLine E). IfOk l (IsContinuationLine place (stdoff ∷ rules ∷ format ∷ until))) b is;
+      }
+  zone_made {E = E} place (Err e) made_name made_line begins named n is a b = tt

@@ -1,6 +1,6 @@
 -- The checks of a line in order, each with the kind of fault of a line that fails it; the first that fails decides. The order is
 -- own choice. `Grammar` tells what a line says: one that fails no check says just one thing.
-use Rattle.std.specs.Prelude.{ℕ, ◌≤◌, Bool, true, false, not, List, [], ◌∷◌, ◌++◌, length, is_some, Option, Some, None, nat_le}
+use Rattle.std.specs.Prelude.{ℕ, Bool, true, false, not, List, [], ◌∷◌, ◌++◌, length, is_some, Option, Some, None, nat_le}
 use Rattle.zic_base.specs.declared.fault.Kind.{Kind}
 use Rattle.zic_base.specs.declared.fault.Kind.TheVariants.{NotAscii, Quote, LineTooLong, Keyword, FieldCount, Name, Year, YearOrder, Reserved, Month, Day, Time, Save, Letter, Offset, Format, Until}
 use Rattle.zic_base.specs.Check.{Check, check}
@@ -19,6 +19,7 @@ use Rattle.zic_words.specs.Clock.{clock_time_of}
 use Rattle.zic_words.specs.Saving.{saving_of}
 use Rattle.zic_words.specs.Letter.{letter_of}
 use Rattle.zic_words.specs.Time.{offset_of}
+use Rattle.zic_lines.specs.declared.field.TheConstants.{LONGEST_LINE}
 use Rattle.zic_lines.specs.Field.{is_ascii_code, is_closed, fields}
 use Rattle.zic_lines.specs.RulesField.{rules_of, rules_kind}
 use Rattle.zic_lines.specs.Format.{format_of}
@@ -27,7 +28,7 @@ use Rattle.zic_lines.specs.Until.{until_of}
 -- the checks of any line's bytes
 abbrev pub byte_checks : List ℕ → List (Check Kind)
 byte_checks bytes =
-    check (nat_le (length bytes) 2048) LineTooLong
+    check (nat_le (length bytes) LONGEST_LINE) LineTooLong
     ∷ check (is_ascii_code bytes) NotAscii
     ∷ check (is_closed bytes) Quote
     ∷ []

@@ -1,6 +1,7 @@
 -- The grammar of a line: zic(8), FILES, with own limits.
 use Rattle.std.specs.Prelude.{◌≡◌, ◌≤◌, ℕ, List, [], length, Option, Some, None, IsTrue}
 use Rattle.zic_base.specs.declared.place.Place.{Place}
+use Rattle.zic_lines.specs.declared.field.TheConstants.{LONGEST_LINE}
 use Rattle.zic_lines.specs.Line.{PlacedLine}
 use Rattle.zic_lines.specs.Field.{is_ascii_code, is_closed, fields}
 use Rattle.zic_lines.specs.declared.entry.Entry.{Entry}
@@ -9,9 +10,9 @@ use Rattle.zic_lines.specs.RuleLine.{IsRuleLine}
 use Rattle.zic_lines.specs.ZoneLine.{IsZoneLine, IsContinuationLine}
 use Rattle.zic_lines.specs.LinkLine.{IsLinkLine}
 
--- a line that can be cut into fields; 2,048 bytes without the newline is an own choice
+-- a line that can be cut into fields; that it has at most 2,048 bytes without its newline is own choice
 pub record IsLine (bytes : List ℕ) : Type 0 where
-  pub short : length bytes ≤ 2048
+  pub short : length bytes ≤ LONGEST_LINE
   pub ascii : IsTrue (is_ascii_code bytes)
   pub closed : IsTrue (is_closed bytes)
 

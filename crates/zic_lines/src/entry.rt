@@ -1,18 +1,21 @@
 //! What one line says.
 
-ghost use Rattle.std.specs.Prelude.{Some};
-ghost use Rattle.zic_lines.specs.Stop.{Gives};
-ghost use Rattle.zic_lines.specs.Seen as lines;
-ghost use Rattle.zic_lines.specs.Reading.{entry_of, keyword_line};
-ghost use Rattle.zic_words.specs.Keyword.{keyword_of};
-ghost use Rattle.std.specs.Prelude.{◌<◌, length, slice_index_or, []};
+ghost use Rattle.std.specs.Prelude.{◌≡◌, ◌<◌, OnOk, IfOk, IfErr, Some, None, length};
+ghost use Rattle.zic_base.specs.Check.{first_failed};
+ghost use Rattle.zic_base.specs.Fault.{fault_of, IsFirstFailed};
+ghost use Rattle.zic_base.specs.Memory.{IfRefusal, OnWantOfMemory};
+ghost use Rattle.zic_lines.specs.Entry.{is_continuation};
+ghost use Rattle.zic_lines.specs.Grammar.{FieldsSay};
+ghost use Rattle.zic_lines.specs.Checks.{field_checks, keyword_checks};
+ghost use Rattle.zic_lines.specs.code.Texts.{texts_of};
 
 use crate::field::Fields;
 use crate::link::{Link, link_line};
 use crate::rule::Rule;
 use crate::rule_line::rule_line;
 use crate::zone_line::{ZoneLine, continuation_line, zone_line};
-use std::alloc::Global;
+use std::alloc::{AllocError, Global};
+use std::borrow::CowSlice;
 use zic_base::{Kind, Place, Stop};
 use zic_words::{Keyword, Name, parse_keyword};
 
@@ -26,26 +29,35 @@ pub enum Entry {
     Link(Link),
 }
 
-/// What the fields of a line say that begins with a keyword.
-fn keyword_line(alloc: Global, place: Place, fields: &Fields) -> Result<Entry, Stop>
+/// What fields say, or the kind of their fault.
+fn parse_entry(
+    alloc: Global,
+    awaited: bool,
+    place: Place,
+    fields: &[CowSlice<'_, u8>],
+) -> Result<Result<Entry, AllocError>, Kind>
     requires { 0 < length fields.now }
-    ensures { Gives lines.line_entry result (keyword_line place (keyword_of (slice_index_or fields.now 0 [])) fields.now) }
+    ensures ok { OnOk result (first_failed (field_checks awaited (texts_of fields.now)) ≡ None) }
+    ensures says { IfOk result
+        (λ made. IfOk made (λ entry. FieldsSay place (texts_of fields.now) (Some entry))) }
+    ensures awaited { IfOk result (λ made. IfOk made (λ entry. is_continuation entry ≡ awaited)) }
+    ensures fault { IfErr result
+        (λ kind. first_failed (field_checks awaited (texts_of fields.now)) ≡ Some kind) }
 {
-    let Some(keyword) = parse_keyword(fields.get(0)) else {
-        return Err(Stop::at(place, Kind::Keyword));
-    };
-    match keyword {
-        Keyword::Rule => Ok(Entry::Rule(rule_line(alloc, place, fields)?)),
-        Keyword::Zone => {
-            let (name, line) = zone_line(alloc, place, fields)?;
-            Ok(Entry::Zone(name, line))
-        }
-        Keyword::Link => Ok(Entry::Link(link_line(alloc, place, fields)?)),
+    if awaited {
+        return Ok(continuation_line(alloc, place, fields)?.map(Entry::Continuation));
+    }
+    match parse_keyword(fields[0].as_slice()) {
+        Some(Keyword::Rule) => Ok(rule_line(alloc, place, fields)?.map(Entry::Rule)),
+        Some(Keyword::Zone) => Ok(zone_line(alloc, place, fields)?.map(|zone| Entry::Zone(
+            zone.0, zone.1,
+        ))),
+        Some(Keyword::Link) => Ok(link_line(alloc, place, fields)?.map(Entry::Link)),
+        None => Err(Kind::Keyword),
     }
 }
 
 /// What fields say. Where a continuation line is awaited they are its fields.
-#[tactic(auto, unfolding(crate::specs::Reading::entry_of))]
 pub fn line_entry(
     alloc: Global,
     awaited: bool,
@@ -53,10 +65,14 @@ pub fn line_entry(
     fields: &Fields,
 ) -> Result<Entry, Stop>
     requires { 0 < length fields.now }
-    ensures { Gives (λ entry. Some (lines.line_entry entry)) result (entry_of awaited place fields.now) }
+    ensures says { IfOk result
+        (λ entry. FieldsSay place fields.now (Some entry) × (is_continuation entry ≡ awaited)) }
+    ensures fault { IfRefusal fault_of result (IsFirstFailed place (field_checks awaited fields.now)) }
+    ensures memory { OnWantOfMemory fault_of result
+        (first_failed (field_checks awaited fields.now) ≡ None) }
 {
-    if awaited {
-        return Ok(Entry::Continuation(continuation_line(alloc, place, fields)?));
+    match parse_entry(alloc, awaited, place, fields.texts()) {
+        Ok(entry) => Ok(entry?),
+        Err(kind) => Err(Stop::at(place, kind)),
     }
-    keyword_line(alloc, place, fields)
 }

@@ -1,11 +1,14 @@
 //! The fields of a line.
 
-ghost use Rattle.std.specs.Prelude.{◌≡◌, ◌<◌, ◌≤◌, false, [], length, slice_index_or, slice_range, IfOk, OnOk};
+ghost use Rattle.std.specs.Prelude.{◌≡◌, ◌≤◌, false, [], length, slice_range, IfOk, OnOk};
 ghost use Rattle.std.specs.Cow.{cow_slice_items};
-ghost use Rattle.zic_lines.specs.Field.{is_space, is_allowed, dash_if_empty};
-ghost use Rattle.zic_lines.specs.Stop.{Gives};
-ghost use Rattle.zic_lines.specs.Reading.{line_fields, code_fields};
-ghost use Rattle.zic_lines.specs.Taken.{role_of, is_plain, ArePlain, without_quotes, begun_text, ended_fields};
+ghost use Rattle.zic_base.specs.Fault.{fault_of, IsFirstFailed};
+ghost use Rattle.zic_base.specs.Memory.{IfRefusal, OnWantOfMemory};
+ghost use Rattle.zic_lines.specs.Field.{is_space, is_allowed, dash_if_empty, fields};
+ghost use Rattle.zic_lines.specs.Grammar.{IsLine};
+ghost use Rattle.zic_lines.specs.Checks.{byte_checks};
+ghost use Rattle.zic_lines.specs.code.Texts.{texts_of};
+ghost use Rattle.zic_lines.specs.code.Taken.{role_of, is_plain, ArePlain, without_quotes, begun_text, ended_fields};
 
 use std::alloc::{AllocError, Global};
 use std::borrow::CowSlice;
@@ -13,7 +16,7 @@ use std::marker::Model;
 use zic_base::{Kind, Place, Stop};
 
 /// How many bytes a line may have without its newline.
-const LONGEST_LINE: usize = 2048;
+pub const LONGEST_LINE: usize = 2048;
 
 /// White space in a line.
 fn is_space(byte: u8) -> bool
@@ -52,7 +55,7 @@ enum Role {
 }
 
 /// What a byte is, where it is quoted or not.
-#[tactic(auto, unfolding(crate::specs::Taken::role_of))]
+#[tactic(auto, unfolding(crate::specs::code::Taken::role_of))]
 fn role_of(byte: u8, quoted: bool) -> Role
     ensures { result ≡ role_of byte quoted }
 {
@@ -130,18 +133,18 @@ impl<'a> Fields<'a> {
         self.texts.len()
     }
 
-    /// A field, counted from 0.
-    pub(crate) fn get(&self, index: usize) -> &[u8]
-        requires { index < length self.now }
-        ensures { result.now ≡ slice_index_or self.now index [] }
+    /// The texts of the fields.
+    pub(crate) fn texts(&self) -> &[CowSlice<'a, u8>]
+        ensures { texts_of result.now ≡ self.now }
     {
-        self.texts[index].as_slice()
+        &self.texts
     }
 
     /// Takes a line apart: the fields up to its comment.
-    #[tactic(auto, unfolding(crate::specs::Reading::line_fields))]
     pub fn take_line(&mut self, alloc: Global, place: Place, line: &'a [u8]) -> Result<(), Stop>
-        ensures { Gives (λ _. self.new) result (line_fields (record { place = place; bytes = line.now })) }
+        ensures ok { OnOk result (IsLine line.now × (self.new ≡ fields line.now)) }
+        ensures fault { IfRefusal fault_of result (IsFirstFailed place (byte_checks line.now)) }
+        ensures memory { OnWantOfMemory fault_of result (length line.now ≤ LONGEST_LINE) }
     {
         if line.len() > LONGEST_LINE {
             return Err(Stop::at(place, Kind::LineTooLong));
@@ -151,7 +154,9 @@ impl<'a> Fields<'a> {
 
     /// Takes the bytes of a line up to its comment.
     fn take_code(&mut self, alloc: Global, place: Place, line: &'a [u8]) -> Result<(), Stop>
-        ensures { Gives (λ _. self.new) result (code_fields place line.now) }
+        requires { length line.now ≤ LONGEST_LINE }
+        ensures ok { OnOk result (IsLine line.now × (self.new ≡ fields line.now)) }
+        ensures fault { IfRefusal fault_of result (IsFirstFailed place (byte_checks line.now)) }
     {
         self.texts.clear();
         let mut quoted = false;

@@ -1,51 +1,15 @@
 //! The FORMAT of a zone's line.
 
-ghost use Rattle.std.specs.Prelude.{◌≡◌, ◌==◌, ok_or};
+ghost use Rattle.std.specs.Prelude.{◌≡◌, ◌==◌, ◌∷◌, is_some, IfSome, IfOk, Some};
 ghost use Rattle.std.specs.List.{slice_split};
-ghost use Rattle.zic_base.specs.declared.fault.Kind.TheVariants as kind;
-ghost use Rattle.zic_lines.specs.Stop.{Gives};
-ghost use Rattle.zic_base.specs.Fault.{fault_at};
 ghost use Rattle.zic_lines.specs.Format.{format_of, has_slash, slashed, conversion};
 
-use smallvec::SmallVec;
 use std::alloc::{AllocError, Global};
-use std::marker::Model;
-use zic_base::{Kind, Place, Stop};
+use zic_base::ShortText;
 use zic_words::{is_dash, split_once};
 
-/// A part of a FORMAT; clauses see its octets, which are printable ASCII and white space.
-#[derive(Debug, Drop)]
-pub struct FormatPart {
-    text: SmallVec<u8, 16>,
-}
-
-impl Model for FormatPart {
-    ghost use Rattle.std.specs.Prelude.{List, ℕ};
-
-    ghost Value = { List ℕ };
-
-    ghost view = { λ p. p.text.items };
-}
-
-impl FormatPart {
-    ghost use Rattle.std.specs.Prelude.{OnOk, IfOk};
-
-    /// The part of these octets.
-    fn new(alloc: Global, octets: &[u8]) -> Result<Self, AllocError>
-        ensures { IfOk result (λ part. part ≡ octets.now) }
-    {
-        Ok(FormatPart {
-            text: SmallVec::from_slice(alloc, octets)?,
-        })
-    }
-
-    /// The octets.
-    pub fn octets(&self) -> &[u8]
-        ensures { result.now ≡ self.now }
-    {
-        &self.text
-    }
-}
+/// A part of a FORMAT, printable ASCII and white space; up to 16 octets are kept inline.
+pub type FormatPart = ShortText<16>;
 
 /// The FORMAT of a Zone or continuation line: how times are abbreviated.
 #[derive(Debug, Drop)]
@@ -67,55 +31,63 @@ fn has_slash(text: &[u8]) -> bool
     text.contains(&b'/')
 }
 
+/// Two parts.
+fn parts(alloc: Global, first: &[u8], second: &[u8]) -> Result<(FormatPart, FormatPart), AllocError>
+    ensures { IfOk result (λ parts. (parts.0 ≡ first.now) × (parts.1 ≡ second.now)) }
+{
+    let first = ShortText::new(alloc, first)?;
+    let second = ShortText::new(alloc, second)?;
+    Ok((first, second))
+}
+
 /// A FORMAT without `%`: one abbreviation, or two with `/` between them.
-fn slashed(alloc: Global, place: Place, text: &[u8]) -> Result<Format, Stop>
-    ensures { Gives (λ format. format) result (ok_or (slashed (slice_split (λ byte. byte == 47) text.now)) (fault_at place kind.Format)) }
+fn slashed(alloc: Global, text: &[u8]) -> Option<Result<Format, AllocError>>
+    ensures just { is_some result ≡ is_some (slashed (slice_split (λ byte. byte == 47) text.now)) }
+    ensures format { IfSome result (λ made. IfOk made (λ format. slashed (slice_split (λ byte. byte == 47) text.now) ≡ Some format)) }
 {
     let (standard, daylight) = split_once(text, b'/');
     let Some(daylight) = daylight else {
-        return Ok(Format::Plain(FormatPart::new(alloc, standard)?));
+        return Some(ShortText::new(alloc, standard).map(Format::Plain));
     };
     let (daylight, more) = split_once(daylight, b'/');
     if more.is_some() {
-        return Err(Stop::at(place, Kind::Format));
+        return None;
     }
-    let standard = FormatPart::new(alloc, standard)?;
-    let daylight = FormatPart::new(alloc, daylight)?;
-    Ok(Format::Pair(standard, daylight))
+    Some(parts(alloc, standard, daylight).map(|parts| Format::Pair(parts.0, parts.1)))
 }
 
-/// A FORMAT with these parts before and behind its `%`.
-fn conversion(alloc: Global, place: Place, before: &[u8], behind: &[u8]) -> Result<Format, Stop>
-    ensures { Gives (λ format. format) result (ok_or (conversion before.now behind.now) (fault_at place kind.Format)) }
+/// A FORMAT with these texts before and after its `%`.
+fn conversion(alloc: Global, before: &[u8], rest: &[u8]) -> Option<Result<Format, AllocError>>
+    ensures just { is_some result ≡ is_some (conversion before.now rest.now) }
+    ensures format { IfSome result (λ made. IfOk made (λ format. conversion before.now rest.now ≡ Some format)) }
 {
-    match behind {
-        [b's', after @ ..] => {
-            let before = FormatPart::new(alloc, before)?;
-            Ok(Format::Letter(before, FormatPart::new(alloc, after)?))
-        }
-        [b'z', after @ ..] => {
-            let before = FormatPart::new(alloc, before)?;
-            Ok(Format::Offset(before, FormatPart::new(alloc, after)?))
-        }
-        _ => Err(Stop::at(place, Kind::Format)),
+    match rest {
+        [b's', after @ ..] => Some(parts(alloc, before, after).map(|parts| Format::Letter(
+            parts.0, parts.1,
+        ))),
+        [b'z', after @ ..] => Some(parts(alloc, before, after).map(|parts| Format::Offset(
+            parts.0, parts.1,
+        ))),
+        _ => None,
     }
 }
 
-/// What a FORMAT says.
+/// What a FORMAT says, or none where it is wrong.
 #[tactic(auto, unfolding(crate::specs::Format::format_of))]
-pub(crate) fn parse_format(alloc: Global, place: Place, field: &[u8]) -> Result<Format, Stop>
-    ensures { Gives (λ format. format) result (ok_or (format_of field.now) (fault_at place kind.Format)) }
+pub(crate) fn parse_format(alloc: Global, field: &[u8]) -> Option<Result<Format, AllocError>>
+    ensures just { is_some result ≡ is_some (format_of field.now) }
+    ensures format { IfSome result (λ made. IfOk made (λ format. format_of field.now ≡ Some format)) }
 {
     if is_dash(field) {
-        return Ok(Format::Plain(FormatPart::new(alloc, &field[..0])?));
+        return Some(ShortText::new(alloc, &[]).map(Format::Plain));
     }
     let (before, rest) = split_once(field, b'%');
     let Some(rest) = rest else {
-        return slashed(alloc, place, before);
+        return slashed(alloc, before);
     };
-    let (behind, more) = split_once(rest, b'%');
-    if more.is_some() || has_slash(before) || has_slash(behind) {
-        return Err(Stop::at(place, Kind::Format));
+    let (rest, more) = split_once(rest, b'%');
+    if more.is_some() || has_slash(before) || has_slash(rest) {
+        return None;
     }
-    conversion(alloc, place, before, behind)
+    conversion(alloc, before, rest)
 }

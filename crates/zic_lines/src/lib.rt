@@ -6,6 +6,7 @@
 mod entry;
 mod field;
 mod format;
+pub mod laws;
 mod link;
 mod moment;
 mod rule;
@@ -15,7 +16,7 @@ mod until;
 mod zone_line;
 
 pub use entry::{Entry, line_entry};
-pub use field::Fields;
+pub use field::{Fields, LONGEST_LINE};
 pub use format::{Format, FormatPart};
 pub use link::Link;
 pub use moment::Moment;

@@ -1,12 +1,16 @@
 //! Link lines.
 
-ghost use Rattle.zic_lines.specs.Stop.{Gives};
-ghost use Rattle.zic_lines.specs.Reading.{link_line};
+ghost use Rattle.std.specs.Prelude.{◌≡◌, OnOk, IfOk, IfErr, Some, None};
+ghost use Rattle.zic_base.specs.Check.{first_failed};
+ghost use Rattle.zic_words.specs.declared.keyword.Keyword.TheVariants as keywords;
+ghost use Rattle.zic_lines.specs.Checks.{link_checks};
+ghost use Rattle.zic_lines.specs.LinkLine.{IsLinkLine};
+ghost use Rattle.zic_lines.specs.code.Texts.{texts_of, BeginsWith};
 
-use crate::field::Fields;
-use std::alloc::Global;
-use zic_base::{Kind, Place, Stop};
-use zic_words::{Name, is_name};
+use std::alloc::{AllocError, Global};
+use std::borrow::CowSlice;
+use zic_base::{Kind, Place};
+use zic_words::Name;
 
 /// A Link line: one more name for a zone.
 #[derive(Debug, Drop)]
@@ -19,25 +23,43 @@ pub struct Link {
     pub name: Name,
 }
 
-/// What the fields of a Link line say.
-#[tactic(auto, unfolding(crate::specs::Reading::link_line))]
-pub(crate) fn link_line(alloc: Global, place: Place, fields: &Fields) -> Result<Link, Stop>
-    ensures { Gives (λ link. link) result (link_line place fields.now) }
+/// The link of these names, where there was memory for both.
+fn link_of(
+    place: Place,
+    target: Result<Name, AllocError>,
+    name: Result<Name, AllocError>,
+) -> Result<Link, AllocError>
+    ensures place { IfOk result (λ link. link.place ≡ place) }
+    ensures target { IfOk result (λ link. target ≡ Ok link.target) }
+    ensures name { IfOk result (λ link. name ≡ Ok link.name) }
 {
-    if fields.len() != 3 {
-        return Err(Stop::at(place, Kind::FieldCount));
-    }
-    let target = fields.get(1);
-    if !is_name(target) {
-        return Err(Stop::at(place, Kind::Name));
-    }
-    let name = fields.get(2);
-    if !is_name(name) {
-        return Err(Stop::at(place, Kind::Name));
-    }
     Ok(Link {
         place,
-        target: Name::new(alloc, target)?,
-        name: Name::new(alloc, name)?,
+        target: target?,
+        name: name?,
     })
+}
+
+/// What the fields of a Link line say.
+pub(crate) fn link_line(
+    alloc: Global,
+    place: Place,
+    fields: &[CowSlice<'_, u8>],
+) -> Result<Result<Link, AllocError>, Kind>
+    requires { BeginsWith keywords.Link (texts_of fields.now) }
+    ensures ok { OnOk result (first_failed (link_checks (texts_of fields.now)) ≡ None) }
+    ensures says { IfOk result (λ made. IfOk made (IsLinkLine place (texts_of fields.now))) }
+    ensures fault { IfErr result
+        (λ kind. first_failed (link_checks (texts_of fields.now)) ≡ Some kind) }
+{
+    let [_, target, name] = fields else {
+        return Err(Kind::FieldCount);
+    };
+    let Some(target) = Name::parse(alloc, target.as_slice()) else {
+        return Err(Kind::Name);
+    };
+    let Some(name) = Name::parse(alloc, name.as_slice()) else {
+        return Err(Kind::Name);
+    };
+    Ok(link_of(place, target, name))
 }

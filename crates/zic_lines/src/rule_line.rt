@@ -1,16 +1,21 @@
 //! Rule lines.
 
-ghost use Rattle.zic_lines.specs.Stop.{Gives};
-ghost use Rattle.zic_lines.specs.Reading.{rule_years, rule_moment, rule_line};
+ghost use Rattle.std.specs.Prelude.{◌≡◌, OnOk, IfOk, IfErr, Some, None};
+ghost use Rattle.zic_base.specs.Check.{first_failed};
+ghost use Rattle.zic_words.specs.declared.keyword.Keyword.TheVariants as keywords;
+ghost use Rattle.zic_lines.specs.Checks.{rule_checks};
+ghost use Rattle.zic_lines.specs.RuleLine.{IsRuleLine};
+ghost use Rattle.zic_lines.specs.code.LineParts.{year_checks, SayYears, moment_checks, SayMoment, rule_with};
+ghost use Rattle.zic_lines.specs.code.Texts.{texts_of, BeginsWith};
 
-use crate::field::Fields;
 use crate::moment::Moment;
 use crate::rule::Rule;
-use std::alloc::Global;
-use zic_base::{Kind, Place, Stop};
+use std::alloc::{AllocError, Global};
+use std::borrow::CowSlice;
+use zic_base::{Kind, Place};
 use zic_words::{
-    SetName, clock_time, ends_before, is_dash, is_one_leap_year, is_set_name, last_year,
-    parse_day_form, parse_letter, parse_month, parse_year, save,
+    Letter, Saving, SetName, clock_time, ends_before, is_dash, is_one_leap_year, last_year,
+    parse_day_form, parse_month, parse_year, save,
 };
 
 /// The years of a rule.
@@ -22,76 +27,92 @@ struct Years {
 }
 
 /// FROM and TO.
-#[tactic(auto, unfolding(crate::specs::Reading::rule_years))]
-fn rule_years(place: Place, from: &[u8], to: &[u8]) -> Result<Years, Stop>
-    ensures { Gives (λ years. years) result (rule_years place from.now to.now) }
+fn rule_years(from: &[u8], to: &[u8]) -> Result<Years, Kind>
+    ensures says { IfOk result (SayYears from.now to.now) }
+    ensures fault { IfErr result (λ kind. first_failed (year_checks from.now to.now) ≡ Some kind) }
 {
     let Some(first) = parse_year(from) else {
-        return Err(Stop::at(place, Kind::Year));
+        return Err(Kind::Year);
     };
     let Some(last) = last_year(first, to) else {
-        return Err(Stop::at(place, Kind::Year));
+        return Err(Kind::Year);
     };
     if ends_before(last, first) {
-        return Err(Stop::at(place, Kind::YearOrder));
+        return Err(Kind::YearOrder);
     }
     Ok(Years { first, last })
 }
 
 /// IN, ON and AT of a rule for these years.
-#[tactic(auto, unfolding(crate::specs::Reading::rule_moment))]
-fn rule_moment(
-    place: Place,
-    years: Years,
-    month_field: &[u8],
-    day_field: &[u8],
-    time_field: &[u8],
-) -> Result<Moment, Stop>
-    ensures { Gives (λ moment. moment) result (rule_moment place years month_field.now day_field.now time_field.now) }
+fn rule_moment(years: Years, month: &[u8], day: &[u8], time: &[u8]) -> Result<Moment, Kind>
+    ensures says { IfOk result (SayMoment years month.now day.now time.now) }
+    ensures fault { IfErr result
+        (λ kind. first_failed (moment_checks years month.now day.now time.now) ≡ Some kind) }
 {
-    let Some(month) = parse_month(month_field) else {
-        return Err(Stop::at(place, Kind::Month));
+    let Some(month) = parse_month(month) else {
+        return Err(Kind::Month);
     };
-    let Some(on) = parse_day_form(is_one_leap_year(years.first, years.last), month, day_field)
-    else {
-        return Err(Stop::at(place, Kind::Day));
+    let Some(on) = parse_day_form(is_one_leap_year(years.first, years.last), month, day) else {
+        return Err(Kind::Day);
     };
-    let Some(at) = clock_time(time_field) else {
-        return Err(Stop::at(place, Kind::Time));
+    let Some(at) = clock_time(time) else {
+        return Err(Kind::Time);
     };
     Ok(Moment { month, on, at })
 }
 
-/// What the fields of a Rule line say.
-#[tactic(auto, unfolding(crate::specs::Reading::rule_line, crate::specs::Reading::rule_of))]
-pub(crate) fn rule_line(alloc: Global, place: Place, fields: &Fields) -> Result<Rule, Stop>
-    ensures { Gives (λ rule. rule) result (rule_line place fields.now) }
+/// The rule of these parts, where there was memory for its name.
+fn rule_of(
+    place: Place,
+    name: Result<SetName, AllocError>,
+    years: Years,
+    moment: Moment,
+    saving: Saving,
+    letter: Letter,
+) -> Result<Rule, AllocError>
+    ensures name { IfOk result (λ rule. name ≡ Ok rule.name) }
+    ensures parts { IfOk result
+        (λ rule. rule ≡ rule_with place rule.name years moment saving letter) }
 {
-    if fields.len() != 10 {
-        return Err(Stop::at(place, Kind::FieldCount));
-    }
-    let name = fields.get(1);
-    if !is_set_name(name) {
-        return Err(Stop::at(place, Kind::Name));
-    }
-    let years = rule_years(place, fields.get(2), fields.get(3))?;
-    if !is_dash(fields.get(4)) {
-        return Err(Stop::at(place, Kind::Reserved));
-    }
-    let moment = rule_moment(place, years, fields.get(5), fields.get(6), fields.get(7))?;
-    let Some(saving) = save(fields.get(8)) else {
-        return Err(Stop::at(place, Kind::Save));
-    };
-    let Some(letter) = parse_letter(fields.get(9)) else {
-        return Err(Stop::at(place, Kind::Letter));
-    };
     Ok(Rule {
         place,
-        name: SetName::new(alloc, name)?,
+        name: name?,
         first: years.first,
         last: years.last,
         moment,
         saving,
         letter,
     })
+}
+
+/// What the fields of a Rule line say.
+pub(crate) fn rule_line(
+    alloc: Global,
+    place: Place,
+    fields: &[CowSlice<'_, u8>],
+) -> Result<Result<Rule, AllocError>, Kind>
+    requires { BeginsWith keywords.Rule (texts_of fields.now) }
+    ensures ok { OnOk result (first_failed (rule_checks (texts_of fields.now)) ≡ None) }
+    ensures says { IfOk result (λ made. IfOk made (IsRuleLine place (texts_of fields.now))) }
+    ensures fault { IfErr result
+        (λ kind. first_failed (rule_checks (texts_of fields.now)) ≡ Some kind) }
+{
+    let [_, name, from, to, reserved, month, day, time, saved, letter] = fields else {
+        return Err(Kind::FieldCount);
+    };
+    let Some(name) = SetName::parse(alloc, name.as_slice()) else {
+        return Err(Kind::Name);
+    };
+    let years = rule_years(from.as_slice(), to.as_slice())?;
+    if !is_dash(reserved.as_slice()) {
+        return Err(Kind::Reserved);
+    }
+    let moment = rule_moment(years, month.as_slice(), day.as_slice(), time.as_slice())?;
+    let Some(saving) = save(saved.as_slice()) else {
+        return Err(Kind::Save);
+    };
+    let Some(letter) = Letter::parse(alloc, letter.as_slice()) else {
+        return Err(Kind::Letter);
+    };
+    Ok(rule_of(place, name, years, moment, saving, letter))
 }

@@ -1,13 +1,11 @@
 //! The RULES of a zone's line.
 
-ghost use Rattle.std.specs.Prelude.{◌≡◌, ok_or};
-ghost use Rattle.zic_lines.specs.Stop.{Gives};
-ghost use Rattle.zic_base.specs.Fault.{fault_at};
+ghost use Rattle.std.specs.Prelude.{◌≡◌, OnOk, IfOk, IfErr, is_some, Some, None, true};
 ghost use Rattle.zic_lines.specs.RulesField.{begins_amount, rules_of, rules_kind};
 
-use std::alloc::Global;
-use zic_base::{Kind, Place, Stop};
-use zic_words::{Saving, SetName, is_dash, is_set_name, save};
+use std::alloc::{AllocError, Global};
+use zic_base::Kind;
+use zic_words::{Saving, SetName, is_dash, save};
 
 /// What the RULES of a Zone or continuation line say.
 #[derive(Debug, Drop)]
@@ -32,20 +30,19 @@ fn begins_amount(field: &[u8]) -> bool
 
 /// What RULES say.
 #[tactic(auto, unfolding(crate::specs::RulesField::rules_of))]
-pub(crate) fn parse_rules(alloc: Global, place: Place, field: &[u8]) -> Result<Rules, Stop>
-    ensures { Gives (λ rules. rules) result (ok_or (rules_of field.now) (fault_at place (rules_kind field.now))) }
+pub(crate) fn parse_rules(alloc: Global, field: &[u8]) -> Result<Result<Rules, AllocError>, Kind>
+    ensures ok { OnOk result (is_some (rules_of field.now) ≡ true) }
+    ensures says { IfOk result (λ made. IfOk made (λ rules. rules_of field.now ≡ Some rules)) }
+    ensures wrong { IfErr result (λ _. rules_of field.now ≡ None) }
+    ensures fault { IfErr result (λ kind. kind ≡ rules_kind field.now) }
 {
     if is_dash(field) {
-        return Ok(Rules::Standard);
+        return Ok(Ok(Rules::Standard));
     }
     if begins_amount(field) {
-        return match save(field) {
-            Some(saving) => Ok(Rules::Amount(saving)),
-            None => Err(Stop::at(place, Kind::Save)),
-        };
+        let saving = save(field).ok_or(Kind::Save)?;
+        return Ok(Ok(Rules::Amount(saving)));
     }
-    if !is_set_name(field) {
-        return Err(Stop::at(place, Kind::Name));
-    }
-    Ok(Rules::Set(SetName::new(alloc, field)?))
+    let name = SetName::parse(alloc, field).ok_or(Kind::Name)?;
+    Ok(name.map(Rules::Set))
 }

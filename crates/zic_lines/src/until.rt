@@ -1,10 +1,11 @@
 //! The UNTIL of a zone's line.
 
-ghost use Rattle.std.specs.Prelude.{◌≡◌, ◌+◌, ◌≤◌, length, drop, slice_index_or};
+ghost use Rattle.std.specs.Prelude.{◌≡◌, ◌≤◌, length};
 ghost use Rattle.zic_lines.specs.Until.{until_of, until_at};
+ghost use Rattle.zic_lines.specs.code.Texts.{texts_of};
 
-use crate::field::Fields;
 use crate::moment::Moment;
+use std::borrow::CowSlice;
 use zic_calendar::is_leap_year;
 use zic_words::{clock_time, parse_day_form, parse_month, parse_year};
 
@@ -17,42 +18,36 @@ pub struct Until {
     pub moment: Moment,
 }
 
-/// The field so many behind the first, or what a missing one means.
-fn field_or<'a>(fields: &'a Fields<'a>, first: usize, behind: usize, missing: &'a [u8]) -> &'a [u8]
-    requires { first ≤ length fields.now }
-    ensures { result.now ≡ slice_index_or fields.now (first + behind) missing.now }
-{
-    if behind < fields.len() - first {
-        fields.get(first + behind)
-    } else {
-        missing
-    }
-}
-
 /// YEAR MONTH DAY TIME.
 #[tactic(auto, unfolding(crate::specs::Until::until_at))]
-fn until_at(year_field: &[u8], month_field: &[u8], day: &[u8], time: &[u8]) -> Option<Until>
-    ensures { result ≡ until_at year_field.now month_field.now day.now time.now }
+fn until_at(year: &[u8], month: &[u8], day: &[u8], time: &[u8]) -> Option<Until>
+    ensures { result ≡ until_at year.now month.now day.now time.now }
 {
-    let year = parse_year(year_field)?;
-    let month = parse_month(month_field)?;
+    let year = parse_year(year)?;
+    let month = parse_month(month)?;
     let on = parse_day_form(is_leap_year(i64::from(year)), month, day)?;
     let at = clock_time(time)?;
     let moment = Moment { month, on, at };
     Some(Until { year, moment })
 }
 
-/// The UNTIL whose fields begin at this one: YEAR [MONTH [DAY [TIME]]], or none where there is no such field.
+/// The UNTIL of these fields: YEAR [MONTH [DAY [TIME]]], or none where there is no field.
 #[tactic(auto, unfolding(crate::specs::Until::until_of))]
-pub(crate) fn parse_until(fields: &Fields, first: usize) -> Option<Option<Until>>
-    requires { length (drop first fields.now) ≤ 4 }
-    ensures { result ≡ until_of (drop first fields.now) }
+pub(crate) fn parse_until(fields: &[CowSlice<'_, u8>]) -> Option<Option<Until>>
+    requires { length fields.now ≤ 4 }
+    ensures { result ≡ until_of (texts_of fields.now) }
 {
-    if first >= fields.len() {
-        return Some(None);
-    }
-    let month = field_or(fields, first, 1, b"Jan");
-    let day = field_or(fields, first, 2, b"1");
-    let time = field_or(fields, first, 3, b"-");
-    Some(Some(until_at(fields.get(first), month, day, time)?))
+    let until = match fields {
+        [] => return Some(None),
+        [year] => until_at(year.as_slice(), b"Jan", b"1", b"-")?,
+        [year, month] => until_at(year.as_slice(), month.as_slice(), b"1", b"-")?,
+        [year, month, day] => until_at(year.as_slice(), month.as_slice(), day.as_slice(), b"-")?,
+        [year, month, day, time, ..] => until_at(
+            year.as_slice(),
+            month.as_slice(),
+            day.as_slice(),
+            time.as_slice(),
+        )?,
+    };
+    Some(Some(until))
 }

@@ -1,16 +1,19 @@
 //! Zone lines and continuation lines.
 
-ghost use Rattle.std.specs.Prelude.{◌≡◌, ◌+◌, ◌-◌, ◌≤◌, length, drop, slice_index_or, []};
-ghost use Rattle.zic_lines.specs.Stop.{Gives};
-ghost use Rattle.zic_lines.specs.Reading.{zone_fields, zone_line, continuation_line};
+ghost use Rattle.std.specs.Prelude.{◌≡◌, ◌≤◌, ◌∷◌, OnOk, IfOk, IfErr, Some, None, length};
+ghost use Rattle.zic_base.specs.Check.{first_failed};
+ghost use Rattle.zic_words.specs.declared.keyword.Keyword.TheVariants as keywords;
+ghost use Rattle.zic_lines.specs.Checks.{zone_part_checks, zone_checks, continuation_checks};
+ghost use Rattle.zic_lines.specs.ZoneLine.{IsZoneLine, IsContinuationLine};
+ghost use Rattle.zic_lines.specs.code.Texts.{texts_of, BeginsWith};
 
-use crate::field::Fields;
 use crate::format::{Format, parse_format};
 use crate::rules::{Rules, parse_rules};
 use crate::until::{Until, parse_until};
-use std::alloc::Global;
-use zic_base::{Kind, Place, Stop};
-use zic_words::{Name, is_name, offset};
+use std::alloc::{AllocError, Global};
+use std::borrow::CowSlice;
+use zic_base::{Kind, Place};
+use zic_words::{Name, offset};
 
 /// A Zone or continuation line: what holds from the UNTIL of the line before it, if there is one, up to its own.
 #[derive(Debug, Drop)]
@@ -27,64 +30,127 @@ pub struct ZoneLine {
     pub until: Option<Until>,
 }
 
-/// What the three fields before this one and those from it on say: STDOFF RULES FORMAT [UNTIL].
-#[tactic(auto, unfolding(crate::specs::Reading::zone_fields))]
-fn zone_fields(alloc: Global, place: Place, fields: &Fields, until: usize) -> Result<ZoneLine, Stop>
-    requires three { 3 ≤ until }
-    requires least { until ≤ length fields.now }
-    requires most { length fields.now ≤ until + 4 }
-    ensures { Gives (λ line. line) result (zone_fields place (slice_index_or fields.now (until - 3) [])
-        (slice_index_or fields.now (until - 2) []) (slice_index_or fields.now (until - 1) [])
-        (drop until fields.now)) }
+/// What Zone and continuation lines have in common: STDOFF RULES FORMAT and the fields of an UNTIL.
+fn zone_part(
+    alloc: Global,
+    place: Place,
+    stdoff: &[u8],
+    rules: &[u8],
+    format: &[u8],
+    until: &[CowSlice<'_, u8>],
+) -> Result<Result<ZoneLine, AllocError>, Kind>
+    requires { length until.now ≤ 4 }
+    ensures ok { OnOk result
+        (first_failed (zone_part_checks stdoff.now rules.now format.now (texts_of until.now)) ≡ None) }
+    ensures says { IfOk result
+        (λ made. IfOk made (IsContinuationLine place (stdoff.now ∷ rules.now ∷ format.now ∷ texts_of until.now))) }
+    ensures fault { IfErr result
+        (λ kind. first_failed (zone_part_checks stdoff.now rules.now format.now (texts_of until.now)) ≡ Some kind) }
 {
-    let Some(offset) = offset(fields.get(until - 3)) else {
-        return Err(Stop::at(place, Kind::Offset));
+    let Some(offset) = offset(stdoff) else {
+        return Err(Kind::Offset);
     };
-    let rules = parse_rules(alloc, place, fields.get(until - 2))?;
-    let format = parse_format(alloc, place, fields.get(until - 1))?;
-    let Some(until) = parse_until(fields, until) else {
-        return Err(Stop::at(place, Kind::Until));
+    let rules = parse_rules(alloc, rules)?;
+    let Some(format) = parse_format(alloc, format) else {
+        return Err(Kind::Format);
     };
+    let Some(until) = parse_until(until) else {
+        return Err(Kind::Until);
+    };
+    Ok(zone_line_of(place, offset, rules, format, until))
+}
+
+/// The line of these parts, where there was memory for all.
+fn zone_line_of(
+    place: Place,
+    offset: i32,
+    rules: Result<Rules, AllocError>,
+    format: Result<Format, AllocError>,
+    until: Option<Until>,
+) -> Result<ZoneLine, AllocError>
+    ensures place { IfOk result (λ line. line.place ≡ place) }
+    ensures offset { IfOk result (λ line. line.offset ≡ offset) }
+    ensures rules { IfOk result (λ line. rules ≡ Ok line.rules) }
+    ensures format { IfOk result (λ line. format ≡ Ok line.format) }
+    ensures until { IfOk result (λ line. line.until ≡ until) }
+{
     Ok(ZoneLine {
         place,
         offset,
-        rules,
-        format,
+        rules: rules?,
+        format: format?,
         until,
     })
 }
 
 /// What the fields of a continuation line say.
-#[tactic(auto, unfolding(crate::specs::Reading::continuation_line))]
 pub(crate) fn continuation_line(
     alloc: Global,
     place: Place,
-    fields: &Fields,
-) -> Result<ZoneLine, Stop>
-    ensures { Gives (λ line. line) result (continuation_line place fields.now) }
+    fields: &[CowSlice<'_, u8>],
+) -> Result<Result<ZoneLine, AllocError>, Kind>
+    ensures ok { OnOk result (first_failed (continuation_checks (texts_of fields.now)) ≡ None) }
+    ensures says { IfOk result
+        (λ made. IfOk made (IsContinuationLine place (texts_of fields.now))) }
+    ensures fault { IfErr result
+        (λ kind. first_failed (continuation_checks (texts_of fields.now)) ≡ Some kind) }
 {
-    if fields.len() < 3 || fields.len() > 7 {
-        return Err(Stop::at(place, Kind::FieldCount));
+    let [stdoff, rules, format, until @ ..] = fields else {
+        return Err(Kind::FieldCount);
+    };
+    if until.len() > 4 {
+        return Err(Kind::FieldCount);
     }
-    zone_fields(alloc, place, fields, 3)
+    zone_part(
+        alloc,
+        place,
+        stdoff.as_slice(),
+        rules.as_slice(),
+        format.as_slice(),
+        until,
+    )
 }
 
 /// What the fields of a Zone line say: the zone's name, and its first line.
-#[tactic(auto, unfolding(crate::specs::Reading::zone_line))]
 pub(crate) fn zone_line(
     alloc: Global,
     place: Place,
-    fields: &Fields,
-) -> Result<(Name, ZoneLine), Stop>
-    ensures { Gives (λ zone. (zone.0, zone.1)) result (zone_line place fields.now) }
+    fields: &[CowSlice<'_, u8>],
+) -> Result<Result<(Name, ZoneLine), AllocError>, Kind>
+    requires { BeginsWith keywords.Zone (texts_of fields.now) }
+    ensures ok { OnOk result (first_failed (zone_checks (texts_of fields.now)) ≡ None) }
+    ensures says { IfOk result
+        (λ made. IfOk made (λ zone. IsZoneLine place (texts_of fields.now) zone.0 zone.1)) }
+    ensures fault { IfErr result
+        (λ kind. first_failed (zone_checks (texts_of fields.now)) ≡ Some kind) }
 {
-    if fields.len() < 5 || fields.len() > 9 {
-        return Err(Stop::at(place, Kind::FieldCount));
+    let [_, name, stdoff, rules, format, until @ ..] = fields else {
+        return Err(Kind::FieldCount);
+    };
+    if until.len() > 4 {
+        return Err(Kind::FieldCount);
     }
-    let name = fields.get(1);
-    if !is_name(name) {
-        return Err(Stop::at(place, Kind::Name));
-    }
-    let line = zone_fields(alloc, place, fields, 5)?;
-    Ok((Name::new(alloc, name)?, line))
+    let Some(name) = Name::parse(alloc, name.as_slice()) else {
+        return Err(Kind::Name);
+    };
+    let line = zone_part(
+        alloc,
+        place,
+        stdoff.as_slice(),
+        rules.as_slice(),
+        format.as_slice(),
+        until,
+    )?;
+    Ok(named(name, line))
+}
+
+/// The zone of this name with this line, where there was memory for both.
+fn named(
+    name: Result<Name, AllocError>,
+    line: Result<ZoneLine, AllocError>,
+) -> Result<(Name, ZoneLine), AllocError>
+    ensures name { IfOk result (λ zone. name ≡ Ok zone.0) }
+    ensures line { IfOk result (λ zone. line ≡ Ok zone.1) }
+{
+    Ok((name?, line?))
 }

@@ -2,6 +2,7 @@
 use Rattle.std.specs.Prelude.{ℕ, Bool, true, false, not, ◌&&◌, ◌||◌, List, [], ◌∷◌, length, nat_le, ◌==◌}
 use Rattle.std.specs.List.{slice_split, list_all}
 use Rattle.std.specs.Char.{is_ascii_alphanumeric}
+use Rattle.zic_words.specs.declared.name.TheConstants.{LONGEST_NAME}
 use Rattle.zic_words.specs.Dash.{is_dash}
 
 -- a letter, a digit, or one of `_ - + . /`
@@ -17,4 +18,4 @@ is_name_part (a ∷ b ∷ c ∷ bytes) = true
 
 -- A name has 1 to 255 bytes of the allowed ones, and between its `/` proper parts. The field `-` is no name.
 abbrev pub is_name : List ℕ → Bool
-is_name field = nat_le (length field) 255 && not (is_dash field) && list_all is_name_byte field && list_all is_name_part (slice_split (λ byte. byte == 47) field)
+is_name field = nat_le (length field) LONGEST_NAME && not (is_dash field) && list_all is_name_byte field && list_all is_name_part (slice_split (λ byte. byte == 47) field)

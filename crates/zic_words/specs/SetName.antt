@@ -2,6 +2,7 @@
 use Rattle.std.specs.Prelude.{ℕ, Bool, not, false, ◌&&◌, ◌||◌, List, [], ◌∷◌, length, nat_le, ◌==◌}
 use Rattle.std.specs.List.{list_all}
 use Rattle.std.specs.Char.{is_ascii_digit}
+use Rattle.zic_words.specs.declared.name.TheConstants.{LONGEST_NAME}
 
 -- printable ASCII, no space
 abbrev pub is_visible : ℕ → Bool
@@ -14,4 +15,4 @@ begins_name (byte ∷ bytes) = not (is_ascii_digit byte || byte == 45 || byte ==
 
 -- A set's name has 1 to 255 visible bytes, and does not begin as an amount does; so `-` is no name.
 abbrev pub is_set_name : List ℕ → Bool
-is_set_name field = nat_le (length field) 255 && begins_name field && list_all is_visible field
+is_set_name field = nat_le (length field) LONGEST_NAME && begins_name field && list_all is_visible field

@@ -1,63 +1,63 @@
 //! Letters of rules.
 
 ghost use Rattle.std.specs.Prelude.{◌≡◌};
-ghost use Rattle.std.specs.List.{list_all};
-ghost use Rattle.zic_words.specs.Letter.{is_letter_byte, letter_of};
+ghost use Rattle.zic_words.specs.Letter.{letter_of, is_letter};
 
 use crate::dash::is_dash;
-use arrayvec::ArrayVec;
+use std::alloc::Global;
 use std::marker::Model;
+use zic_base::{ShortText, are_abbreviation_bytes};
 
 /// How many bytes a letter may have.
-const LONGEST_LETTER: usize = 16;
+pub const LONGEST_LETTER: usize = 16;
 
-/// What `%s` of a FORMAT stands for: at most 16 ASCII letters, digits, `+` and `-`; clauses see its octets.
+/// What `%s` of a FORMAT stands for: at most 16 ASCII letters, digits, `+` and `-`, all kept inline; clauses see its octets.
 #[derive(Debug, Drop)]
 pub struct Letter {
-    text: ArrayVec<u8, LONGEST_LETTER>,
+    text: ShortText<LONGEST_LETTER>,
 }
 
 impl Model for Letter {
-    ghost use Rattle.std.specs.Prelude.{List, ℕ};
+    ghost use Rattle.std.specs.Prelude.{◌≡◌, List, ℕ, true};
+    ghost use Rattle.zic_words.specs.Letter.{is_letter};
 
     ghost Value = { List ℕ };
 
-    ghost view = { λ l. l.text.items };
+    ghost view = { λ l. l.text };
+
+    ghost invariant = { λ l. is_letter l.text ≡ true };
 }
 
 impl Letter {
+    ghost use Rattle.std.specs.Prelude.{true};
+
+    /// The letter that the field is, or none where it isn't one; the field `-` is the empty letter. Takes no memory.
+    #[tactic(auto, unfolding(crate::specs::Letter::letter_of))]
+    pub fn parse(alloc: Global, field: &[u8]) -> Option<Letter>
+        ensures { result ≡ letter_of field.now }
+    {
+        let octets = if is_dash(field) { &[] } else { field };
+        if !is_letter(octets) {
+            return None;
+        }
+        match ShortText::new(alloc, octets) {
+            Ok(text) => Some(Letter { text }),
+            Err(_) => unreachable!(),
+        }
+    }
+
     /// The octets, empty where the field is `-`.
     pub fn octets(&self) -> &[u8]
-        ensures { result.now ≡ self.now }
+        ensures octets { result.now ≡ self.now }
+        ensures letter { is_letter self.now ≡ true }
     {
-        &self.text
+        self.text.octets()
     }
 }
 
-fn is_letter_byte(byte: u8) -> bool
-    ensures { result ≡ is_letter_byte byte }
+/// Whether there are at most 16 bytes, and each is one that abbreviations are made of.
+fn is_letter(octets: &[u8]) -> bool
+    ensures { result ≡ is_letter octets.now }
 {
-    byte.is_ascii_alphanumeric() || matches!(byte, b'+' | b'-')
-}
-
-/// Whether each byte may stand in a letter.
-fn are_letter_bytes(field: &[u8]) -> bool
-    ensures { result ≡ list_all is_letter_byte field.now }
-{
-    field.iter().all(|byte| is_letter_byte(*byte))
-}
-
-/// LETTER: at most 16 of the allowed bytes; the field `-` is the empty letter.
-#[tactic(auto, unfolding(crate::specs::Letter::letter_of))]
-pub fn parse_letter(field: &[u8]) -> Option<Letter>
-    ensures { result ≡ letter_of field.now }
-{
-    let mut text = ArrayVec::new();
-    if is_dash(field) {
-        return Some(Letter { text });
-    }
-    if !are_letter_bytes(field) || text.try_extend_from_slice(field).is_err() {
-        return None;
-    }
-    Some(Letter { text })
+    octets.len() <= LONGEST_LETTER && are_abbreviation_bytes(octets)
 }

@@ -1,83 +1,60 @@
 //! Names of zones and links.
 
-ghost use Rattle.std.specs.Prelude.{◌≡◌, ◌==◌, IfOk, bytes_eq};
-ghost use Rattle.std.specs.Hash as fed;
-ghost use Rattle.std.specs.Cmp.{partial_equiv_from_equiv};
-ghost use Rattle.std.specs.Cmp.Lexicographic.{nat_list_eq_equiv};
-ghost use Rattle.std.specs.Cmp.Rules.{hashing};
-ghost use Rattle.std.proofs.Common.{rules};
+ghost use Rattle.std.specs.Prelude.{◌≡◌, ◌==◌, Some, IsSome, IfSome, IfOk};
 ghost use Rattle.std.specs.List.{list_all, slice_split};
 ghost use Rattle.zic_words.specs.Name.{is_name, is_name_byte, is_name_part};
 
 use crate::dash::is_dash;
-use smallvec::SmallVec;
 use std::alloc::{AllocError, Global};
-use std::hash::{Hash, Hasher};
 use std::marker::Model;
+use zic_base::ShortText;
 
-/// How many bytes a name may have.
-pub(crate) const LONGEST_NAME: usize = 255;
+/// How many bytes the name of a zone, a link or a rule set may have.
+pub const LONGEST_NAME: usize = 255;
 
-/// The name of a zone or a link: 1 to 255 ASCII letters, digits, `_`, `-`, `+`, `.` and `/`; clauses see its octets.
-#[derive(Debug, Drop)]
+/// The name of a zone or a link: 1 to 255 ASCII letters, digits, `_`, `-`, `+`, `.` and `/`, and no part between slashes
+/// is empty, `.` or `..`; clauses see its octets. Up to 32 octets are kept inline.
+#[derive(Debug, Drop, Clone, PartialEq, Eq, Hash)]
 pub struct Name {
-    text: SmallVec<u8, 32>,
+    text: ShortText<32>,
 }
 
 impl Model for Name {
-    ghost use Rattle.std.specs.Prelude.{List, ℕ};
+    ghost use Rattle.std.specs.Prelude.{◌≡◌, List, ℕ, true};
+    ghost use Rattle.zic_words.specs.Name.{is_name};
 
     ghost Value = { List ℕ };
 
-    ghost view = { λ n. n.text.items };
+    ghost view = { λ n. n.text };
+
+    ghost invariant = { λ n. is_name n.text ≡ true };
+
+    ghost inverse = { λ octets. record { text = octets } };
 }
 
 impl Name {
-    /// The name of these octets.
-    pub fn new(alloc: Global, octets: &[u8]) -> Result<Self, AllocError>
-        ensures { IfOk result (λ name. name ≡ octets.now) }
+    ghost use Rattle.std.specs.Prelude.{◌↔◌, true};
+
+    /// The name that the field is, or none where it isn't one; memory is asked for only where it is.
+    pub fn parse(alloc: Global, field: &[u8]) -> Option<Result<Name, AllocError>>
+        ensures just { IsSome result ↔ (is_name field.now ≡ true) }
+        ensures name { IfSome result (λ made. IfOk made (λ name. name ≡ field.now)) }
     {
-        let text = SmallVec::from_slice(alloc, octets)?;
-        Ok(Name { text })
+        if !is_name(field) {
+            return None;
+        }
+        match ShortText::new(alloc, field) {
+            Ok(text) => Some(Ok(Name { text })),
+            Err(error) => Some(Err(error)),
+        }
     }
 
     /// The octets.
     pub fn octets(&self) -> &[u8]
-        ensures { result.now ≡ self.now }
+        ensures octets { result.now ≡ self.now }
+        ensures name { is_name self.now ≡ true }
     {
-        &self.text
-    }
-}
-
-impl Clone for Name {
-    ghost is_clone = { λ name copy. copy ≡ name };
-
-    fn clone(&self) -> Result<Name, AllocError> {
-        Name::new(*self.text.allocator(), self.octets())
-    }
-}
-
-impl PartialEq for Name {
-    ghost eq = { bytes_eq };
-
-    ghost laws = { partial_equiv_from_equiv nat_list_eq_equiv };
-
-    fn eq(&self, other: &Name) -> bool {
-        self.octets() == other.octets()
-    }
-}
-
-impl Eq for Name {
-    ghost laws = { nat_list_eq_equiv };
-}
-
-impl Hash for Name {
-    ghost hash_input = { fed.slice fed.u8 };
-
-    ghost respects_eq = { Prim.search (hashing, rules) };
-
-    fn hash<H: Hasher>(&self, state: &mut H) {
-        self.octets().hash(state);
+        self.text.octets()
     }
 }
 
@@ -116,7 +93,7 @@ fn are_name_parts(field: &[u8]) -> bool
 }
 
 /// Whether the field is the name of a zone or a link.
-pub fn is_name(field: &[u8]) -> bool
+fn is_name(field: &[u8]) -> bool
     ensures { result ≡ is_name field.now }
 {
     field.len() <= LONGEST_NAME && !is_dash(field) && are_name_bytes(field) && are_name_parts(field)

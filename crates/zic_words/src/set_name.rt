@@ -1,80 +1,57 @@
 //! Names of rule sets.
 
-ghost use Rattle.std.specs.Prelude.{◌≡◌, IfOk, bytes_eq};
-ghost use Rattle.std.specs.Hash as fed;
-ghost use Rattle.std.specs.Cmp.{partial_equiv_from_equiv};
-ghost use Rattle.std.specs.Cmp.Lexicographic.{nat_list_eq_equiv};
-ghost use Rattle.std.specs.Cmp.Rules.{hashing};
-ghost use Rattle.std.proofs.Common.{rules};
+ghost use Rattle.std.specs.Prelude.{◌≡◌, IsSome, IfSome, IfOk};
 ghost use Rattle.std.specs.List.{list_all};
 ghost use Rattle.zic_words.specs.SetName.{is_visible, begins_name, is_set_name};
 
 use crate::name::LONGEST_NAME;
-use smallvec::SmallVec;
 use std::alloc::{AllocError, Global};
-use std::hash::{Hash, Hasher};
 use std::marker::Model;
+use zic_base::ShortText;
 
-/// The name of a rule set: 1 to 255 octets from 0x21 to 0x7E, the first no digit, `-` or `+`; clauses see its octets.
-#[derive(Debug, Drop)]
+/// The name of a rule set: 1 to 255 octets from 0x21 to 0x7E, the first no digit, `-` or `+`; clauses see its octets. Up
+/// to 16 octets are kept inline.
+#[derive(Debug, Drop, Clone, PartialEq, Eq, Hash)]
 pub struct SetName {
-    text: SmallVec<u8, 16>,
+    text: ShortText<16>,
 }
 
 impl Model for SetName {
-    ghost use Rattle.std.specs.Prelude.{List, ℕ};
+    ghost use Rattle.std.specs.Prelude.{◌≡◌, List, ℕ, true};
+    ghost use Rattle.zic_words.specs.SetName.{is_set_name};
 
     ghost Value = { List ℕ };
 
-    ghost view = { λ n. n.text.items };
+    ghost view = { λ n. n.text };
+
+    ghost invariant = { λ n. is_set_name n.text ≡ true };
+
+    ghost inverse = { λ octets. record { text = octets } };
 }
 
 impl SetName {
-    /// The name of these octets.
-    pub fn new(alloc: Global, octets: &[u8]) -> Result<Self, AllocError>
-        ensures { IfOk result (λ name. name ≡ octets.now) }
+    ghost use Rattle.std.specs.Prelude.{◌↔◌, true};
+
+    /// The name that the field is, or none where it isn't one; memory is asked for only where it is.
+    pub fn parse(alloc: Global, field: &[u8]) -> Option<Result<SetName, AllocError>>
+        ensures just { IsSome result ↔ (is_set_name field.now ≡ true) }
+        ensures name { IfSome result (λ made. IfOk made (λ name. name ≡ field.now)) }
     {
-        let text = SmallVec::from_slice(alloc, octets)?;
-        Ok(SetName { text })
+        if !is_set_name(field) {
+            return None;
+        }
+        match ShortText::new(alloc, field) {
+            Ok(text) => Some(Ok(SetName { text })),
+            Err(error) => Some(Err(error)),
+        }
     }
 
     /// The octets.
     pub fn octets(&self) -> &[u8]
-        ensures { result.now ≡ self.now }
+        ensures octets { result.now ≡ self.now }
+        ensures name { is_set_name self.now ≡ true }
     {
-        &self.text
-    }
-}
-
-impl Clone for SetName {
-    ghost is_clone = { λ name copy. copy ≡ name };
-
-    fn clone(&self) -> Result<SetName, AllocError> {
-        SetName::new(*self.text.allocator(), self.octets())
-    }
-}
-
-impl PartialEq for SetName {
-    ghost eq = { bytes_eq };
-
-    ghost laws = { partial_equiv_from_equiv nat_list_eq_equiv };
-
-    fn eq(&self, other: &SetName) -> bool {
-        self.octets() == other.octets()
-    }
-}
-
-impl Eq for SetName {
-    ghost laws = { nat_list_eq_equiv };
-}
-
-impl Hash for SetName {
-    ghost hash_input = { fed.slice fed.u8 };
-
-    ghost respects_eq = { Prim.search (hashing, rules) };
-
-    fn hash<H: Hasher>(&self, state: &mut H) {
-        self.octets().hash(state);
+        self.text.octets()
     }
 }
 
@@ -101,7 +78,7 @@ fn begins_name(field: &[u8]) -> bool
 }
 
 /// Whether the field is the name of a rule set.
-pub fn is_set_name(field: &[u8]) -> bool
+fn is_set_name(field: &[u8]) -> bool
     ensures { result ≡ is_set_name field.now }
 {
     field.len() <= LONGEST_NAME && begins_name(field) && are_visible(field)

@@ -1,6 +1,6 @@
 use Rattle.std.proofs.Common.{◌≤◌, ◌-◌, length}
 use Rattle.std.specs.Prelude.{slice_range}
-use Rattle.zic_lines.specs.Taken.{ArePlain}
+use Rattle.zic_lines.specs.code.Taken.{ArePlain}
 use Rattle.zic_lines.proofs.field.plain_end.Given as goal
 
 abbrev pub invariant-loop-end : goal.invariant-loop-end

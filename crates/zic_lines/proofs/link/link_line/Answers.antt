@@ -1,16 +1,30 @@
-use Rattle.std.proofs.Common.{◌≡◌, ◌∙◌, sym, length, refl}
-use Rattle.zic_lines.proofs.LinkLines.{link_at}
+use Rattle.std.proofs.Common.{◌∙◌, arith, refl, ap, List, ℕ}
+use Rattle.std.specs.Cow.{cow_slice_items}
+use Rattle.zic_base.specs.Check.{first_failed}
+use Rattle.zic_lines.specs.Checks.{link_checks}
+use Rattle.zic_lines.proofs.Parsed.{refused}
+use Rattle.zic_lines.proofs.Shapes.{three_texts}
+use Rattle.zic_lines.proofs.LinkLines.{link_made}
 use Rattle.zic_lines.proofs.link.link_line.Goals as goal
 
-pub returns-then-not-is_name-2 : goal.returns-then-not-is_name-2
-returns-then-not-is_name-2 c =
-    let three : length c.args.fields.now ≡ 3 = sym c.len.ensures ∙ c.if-len-ne3.false in
-    rw c.at-then-not-is_name-2.ensures
-    (link_at c.args.place c.args.fields.now c.get-target.result.now c.get-name.result.now three c.get-target.ensures c.get-name.ensures
-    ∙ rw (sym c.if-not-is_name.ensures, sym c.if-not-is_name-2.ensures) refl)
+pub returns-in_default-parse-clause-fault : goal.returns-in_default-parse-clause-fault
+returns-in_default-parse-clause-fault c =
+    ap (λ (ts : List (List ℕ)). first_failed (link_checks ts)) (three_texts cow_slice_items c.args.fields.now (omega arith) (omega arith) c.target-item.is c.name-item.is c.as_slice.ensures.value refl)
+    ∙ rw (refused _ c.in_default-parse.ensures.just) refl
 
-pub returns : goal.returns
-returns c =
-    let three : length c.args.fields.now ≡ 3 = sym c.len.ensures ∙ c.if-len-ne3.false in
-    link_at c.args.place c.args.fields.now c.get-target.result.now c.get-name.result.now three c.get-target.ensures c.get-name.ensures
-    ∙ rw (sym c.if-not-is_name.ensures, sym c.if-not-is_name-2.ensures, c.in_ok-new.ensures, c.in_ok-new-2.ensures) refl
+pub returns-in_default-parse-2-clause-fault : goal.returns-in_default-parse-2-clause-fault
+returns-in_default-parse-2-clause-fault c =
+    ap (λ (ts : List (List ℕ)). first_failed (link_checks ts)) (three_texts cow_slice_items c.args.fields.now (omega arith) (omega arith) c.target-item.is c.name-item.is c.as_slice.ensures.value c.as_slice-2.ensures.value)
+    ∙ rw (c.in-Some.ensures.just.0 refl, refused _ c.in_default-parse-2.ensures.just) refl
+
+pub returns-clause-ok : goal.returns-clause-ok
+returns-clause-ok c =
+    ap (λ (ts : List (List ℕ)). first_failed (link_checks ts)) (three_texts cow_slice_items c.args.fields.now (omega arith) (omega arith) c.target-item.is c.name-item.is c.as_slice.ensures.value c.as_slice-2.ensures.value)
+    ∙ rw (c.in-Some.ensures.just.0 refl, c.in-Some-parse.ensures.just.0 refl) refl
+
+pub returns-clause-says : goal.returns-clause-says
+returns-clause-says c =
+    link_made c.args.place c.link_of.result c.in-Some.target c.in-Some-parse.name
+    (three_texts cow_slice_items c.args.fields.now (omega arith) (omega arith) c.target-item.is c.name-item.is c.as_slice.ensures.value c.as_slice-2.ensures.value)
+    c.requires (c.in-Some.ensures.just.0 refl) (c.in-Some-parse.ensures.just.0 refl) c.in-Some.ensures.name c.in-Some-parse.ensures.name
+    c.link_of.ensures.place c.link_of.ensures.target c.link_of.ensures.name

@@ -1,34 +1,27 @@
-use Rattle.std.proofs.Common.{◌≡◌, ◌∙◌, ◌≤◌, sym, length, [], Ok, refl, arith, get_or, drop}
+use Rattle.std.proofs.Common.{◌∙◌, arith, refl}
 use Rattle.std.proofs.lemmas.Result.{err_from_is_err_and}
-use Rattle.zic_lines.specs.declared.zone_line.ZoneLine.{ZoneLine}
-use Rattle.zic_lines.specs.Reading.{◌>>=◌, zone_fields, zone_line}
-use Rattle.zic_lines.proofs.Binds.{bind_stops, stops_at}
-use Rattle.zic_lines.proofs.ZoneLines.{zone_at}
+use Rattle.std.specs.Cow.{cow_slice_items}
+use Rattle.zic_lines.proofs.Parsed.{refused}
+use Rattle.zic_lines.proofs.Shapes.{five_texts, few}
+use Rattle.zic_lines.proofs.ZoneLines.{no_zone_name, part_decides, zone_made}
 use Rattle.zic_lines.proofs.zone_line.zone_line.Goals as goal
 
-pub returns-then-not-is_name : goal.returns-then-not-is_name
-returns-then-not-is_name c =
-    let fields = c.args.fields.now in
-    let least : 5 ≤ length fields = omega arith in
-    let most : length fields ≤ 9 = omega arith in
-    rw c.at-then-not-is_name.ensures (zone_at c.args.place fields c.get-name.result.now least most c.get-name.ensures ∙ rw (sym c.if-not-is_name.ensures) refl)
+pub returns-in_default-parse-clause-fault : goal.returns-in_default-parse-clause-fault
+returns-in_default-parse-clause-fault c =
+    no_zone_name (five_texts cow_slice_items c.args.fields.now (omega arith) c.name-item.is c.stdoff-item.is c.rules-item.is c.format-item.is c.as_slice.ensures.value refl refl refl) (few cow_slice_items _ c.if-until-gt4.false) (refused _ c.in_default-parse.ensures.just)
 
-pub returns-in_err-line : goal.returns-in_err-line
-returns-in_err-line c =
+pub returns-in_err-line-clause-fault : goal.returns-in_err-line-clause-fault
+returns-in_err-line-clause-fault c =
     let p = err_from_is_err_and c.from_residual.result c.from_residual.ensures.1 in
-    let fields = c.args.fields.now in
-    let name = c.get-name.result.now in
-    let least : 5 ≤ length fields = omega arith in
-    let most : length fields ≤ 9 = omega arith in
-    let behind = zone_fields c.args.place (get_or fields 2 []) (get_or fields 3 []) (get_or fields 4 []) (drop 5 fields) in
-    let says : zone_line c.args.place fields ≡ (behind >>= λ line. Ok (name, line)) = zone_at c.args.place fields name least most c.get-name.ensures ∙ rw (sym c.if-not-is_name.ensures) refl in
-    rw (p.1, p.2) (stops_at c.in_err-line.field-0.0 _ _ (sym says)
-    (bind_stops c.in_err-line.field-0.0 behind (λ (line : ZoneLine). Ok (name, line)) c.in_err-line.ensures))
+    rw (p.1, p.2) (part_decides (five_texts cow_slice_items c.args.fields.now (omega arith) c.name-item.is c.stdoff-item.is c.rules-item.is c.format-item.is c.as_slice.ensures.value c.as_slice-2.ensures.value c.as_slice-3.ensures.value c.as_slice-4.ensures.value) (few cow_slice_items _ c.if-until-gt4.false)
+    (c.in-Some.ensures.just.0 refl) ∙ c.in_err-line.ensures.fault)
 
-pub returns : goal.returns
-returns c =
-    let fields = c.args.fields.now in
-    let name = c.get-name.result.now in
-    let least : 5 ≤ length fields = omega arith in
-    let most : length fields ≤ 9 = omega arith in
-    zone_at c.args.place fields name least most c.get-name.ensures ∙ rw (sym c.if-not-is_name.ensures, c.in_ok-line.ensures, c.in_ok-new.ensures) refl
+pub returns-clause-ok : goal.returns-clause-ok
+returns-clause-ok c =
+    part_decides (five_texts cow_slice_items c.args.fields.now (omega arith) c.name-item.is c.stdoff-item.is c.rules-item.is c.format-item.is c.as_slice.ensures.value c.as_slice-2.ensures.value c.as_slice-3.ensures.value c.as_slice-4.ensures.value) (few cow_slice_items _ c.if-until-gt4.false)
+    (c.in-Some.ensures.just.0 refl) ∙ c.in_ok-line.ensures.ok
+
+pub returns-clause-says : goal.returns-clause-says
+returns-clause-says c =
+    zone_made (five_texts cow_slice_items c.args.fields.now (omega arith) c.name-item.is c.stdoff-item.is c.rules-item.is c.format-item.is c.as_slice.ensures.value c.as_slice-2.ensures.value c.as_slice-3.ensures.value c.as_slice-4.ensures.value) (few cow_slice_items _ c.if-until-gt4.false)
+    c.args.place c.named.result c.in-Some.name c.in_ok-line.line c.requires (c.in-Some.ensures.just.0 refl) c.in-Some.ensures.name c.in_ok-line.ensures.says c.named.ensures.name c.named.ensures.line

@@ -1,7 +1,6 @@
 use Rattle.std.proofs.Common.{◌≡◌, ◌≤◌, ◌-◌, length, drop, false}
 use Rattle.std.specs.Prelude.{slice_range}
-use Rattle.zic_lines.specs.Taken.{scan, without_quotes}
-use Rattle.zic_lines.specs.Reading.{code_fields}
+use Rattle.zic_lines.specs.code.Taken.{scan, without_quotes, taken_fields}
 use Rattle.zic_lines.proofs.FieldEnds.{with_begun}
 use Rattle.zic_lines.proofs.field.Fields.take_code.Given as goal
 
@@ -10,7 +9,7 @@ invariant-loop-end l = record {
   rises : l.start ≤ l.«end»;
   inside : l.«end» ≤ length l.line;
   bare : l.has_quotes ≡ false → without_quotes (slice_range l.line l.start l.«end») ≡ slice_range l.line l.start l.«end»;
-  so_far : scan l.place l.quoted (with_begun l.self (slice_range l.line l.start l.«end»)) (drop l.«end» l.line) ≡ code_fields l.place l.line;
+  so_far : scan l.quoted (with_begun l.self (slice_range l.line l.start l.«end»)) (drop l.«end» l.line) ≡ taken_fields l.line;
 }
 
 abbrev pub decreases-loop-end : goal.decreases-loop-end

@@ -1,12 +1,10 @@
--- How the code takes a line apart, byte by byte; no public contract cites it.
+-- How the code takes a line apart, byte by byte.
 use Rattle.std.specs.Prelude.{◌≡◌, ℕ, Bool, true, not, ◌&&◌, List, [], ◌∷◌, ◌++◌, filter, All, Option, Some, None, Result, Ok, Err, unwrap_or, if◌then◌else◌, nat_le}
-use Rattle.zic_base.specs.declared.place.Place.{Place}
-use Rattle.zic_base.specs.declared.fault.Fault.{Fault}
+use Rattle.zic_base.specs.declared.fault.Kind.{Kind}
 use Rattle.zic_base.specs.declared.fault.Kind.TheVariants.{NotAscii, Quote}
 use Rattle.zic_lines.specs.declared.field.Role.{Role}
 use Rattle.zic_lines.specs.declared.field.Role.TheVariants as role
-use Rattle.zic_lines.specs.Field.{Mark, is_quote, is_allowed, starts_comment, is_gap, dash_if_empty}
-use Rattle.zic_base.specs.Fault.{fault_at}
+use Rattle.zic_lines.specs.Field.{Mark, is_quote, is_allowed, starts_comment, is_gap, is_ascii_code, is_closed, fields, dash_if_empty}
 
 -- the fields that are whole, and the text so far of one that isn't
 pub record TakenFields : Type 0 where
@@ -59,12 +57,19 @@ begun_text [] = None
 begun_text (byte ∷ bytes) = Some (without_quotes (byte ∷ bytes))
 
 -- the fields of the bytes that are left, from what was taken before them
-abbrev pub scan : Place → Bool → TakenFields → List ℕ → Result (List (List ℕ)) Fault
-scan place quoted taken [] = if quoted then Err (fault_at place Quote) else Ok (ended taken).whole
-scan place quoted taken (byte ∷ bytes) = elim (role_of byte quoted) [
+abbrev pub scan : Bool → TakenFields → List ℕ → Result (List (List ℕ)) Kind
+scan quoted taken [] = if quoted then Err Quote else Ok (ended taken).whole
+scan quoted taken (byte ∷ bytes) = elim (role_of byte quoted) [
   | role.Comment ↦ Ok (ended taken).whole
-  | role.DoubleQuote ↦ scan place (not quoted) (begun taken) bytes
-  | role.Refused ↦ Err (fault_at place NotAscii)
-  | role.Gap ↦ scan place quoted (ended taken) bytes
-  | role.Text ↦ scan place quoted (with_byte taken byte) bytes
+  | role.DoubleQuote ↦ scan (not quoted) (begun taken) bytes
+  | role.Refused ↦ Err NotAscii
+  | role.Gap ↦ scan quoted (ended taken) bytes
+  | role.Text ↦ scan quoted (with_byte taken byte) bytes
 ]
+
+-- the fields of a line, or what is wrong with its bytes
+unfoldable pub taken_fields : List ℕ → Result (List (List ℕ)) Kind
+taken_fields line =
+    if not (is_ascii_code line) then Err NotAscii
+    else (if not (is_closed line) then Err Quote
+    else Ok (fields line))

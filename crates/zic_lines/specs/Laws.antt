@@ -1,0 +1,20 @@
+-- Laws of lines: the checks and the grammar agree, and a line says one thing.
+use Rattle.std.specs.Prelude.{◌≡◌, ◌↔◌, Bool, Option, None, IfSome}
+use Rattle.zic_base.specs.Check.{first_failed}
+use Rattle.zic_lines.specs.Line.{PlacedLine}
+use Rattle.zic_lines.specs.declared.entry.Entry.{Entry}
+use Rattle.zic_lines.specs.Entry.{is_continuation}
+use Rattle.zic_lines.specs.Grammar.{Says}
+use Rattle.zic_lines.specs.Checks.{line_checks}
+
+-- Where a continuation line is awaited or not, a line says something just where no check fails.
+abbrev pub SaysWherePassing : Type 0
+SaysWherePassing = (awaited : Bool) (line : PlacedLine)
+    → ((entry : Option Entry) × Says line entry × IfSome entry (λ said. is_continuation said ≡ awaited)) ↔ (first_failed (line_checks awaited line.bytes) ≡ None)
+
+-- Where a continuation line is awaited or not, a line says at most one thing.
+abbrev pub SaysOneThing : Type 0
+SaysOneThing = (awaited : Bool) (line : PlacedLine) (entry other : Option Entry)
+    → Says line entry → IfSome entry (λ said. is_continuation said ≡ awaited)
+    → Says line other → IfSome other (λ said. is_continuation said ≡ awaited)
+    → entry ≡ other

@@ -1,0 +1,63 @@
+-- Parts of lines that functions of their own read.
+use Rattle.std.specs.Prelude.{◌≡◌, ℕ, not, List, [], ◌∷◌, is_some, Option, Some, IsTrue}
+use Rattle.zic_base.specs.Check.{Check, check}
+use Rattle.zic_base.specs.Option.{◌>>=◌, some_and}
+use Rattle.zic_base.specs.declared.place.Place.{Place}
+use Rattle.zic_base.specs.declared.fault.Kind.{Kind}
+use Rattle.zic_base.specs.declared.fault.Kind.TheVariants.{Year, YearOrder, Month, Day, Time}
+use Rattle.zic_calendar.specs.declared.day_form.On.{On}
+use Rattle.zic_words.specs.Year.{year_of, last_year_of, ends_before, is_one_leap_year}
+use Rattle.zic_words.specs.Month.{month_of}
+use Rattle.zic_words.specs.DayForm.{day_form_of}
+use Rattle.zic_words.specs.Clock.{clock_time_of}
+use Rattle.zic_words.specs.declared.saving.Saving.{Saving}
+use Rattle.zic_lines.specs.declared.moment.Moment.{Moment}
+use Rattle.zic_lines.specs.declared.rule_line.Years.{Years}
+use Rattle.zic_lines.specs.declared.rule.Rule.{Rule}
+use Rattle.zic_lines.specs.Checks.{years_of}
+
+-- the checks of FROM and TO
+abbrev pub year_checks : List ℕ → List ℕ → List (Check Kind)
+year_checks from to =
+    check (is_some (year_of from)) Year
+    ∷ check (is_some (years_of from to)) Year
+    ∷ check (some_and (years_of from to) (λ years. not (ends_before years.1 years.0))) YearOrder
+    ∷ []
+
+-- FROM and TO say these years
+pub record SayYears (from to : List ℕ) (years : Years) : Type 0 where
+  pub begins : year_of from ≡ Some years.first
+  pub ends : last_year_of years.first to ≡ Some years.last
+  pub in_order : IsTrue (not (ends_before years.last years.first))
+
+-- the form of the day that ON says in these years and in the month that IN says
+abbrev pub day_of : Years → List ℕ → List ℕ → Option On
+day_of years month day = do
+  in_month ← month_of month
+  day_form_of (is_one_leap_year years.first years.last) in_month day
+
+-- the checks of IN, ON and AT of a rule for these years
+abbrev pub moment_checks : Years → List ℕ → List ℕ → List ℕ → List (Check Kind)
+moment_checks years month day time =
+    check (is_some (month_of month)) Month
+    ∷ check (is_some (day_of years month day)) Day
+    ∷ check (is_some (clock_time_of time)) Time
+    ∷ []
+
+-- IN, ON and AT of a rule for these years say this moment
+pub record SayMoment (years : Years) (month day time : List ℕ) (moment : Moment) : Type 0 where
+  pub in_month : month_of month ≡ Some moment.month
+  pub on_day : day_form_of (is_one_leap_year years.first years.last) moment.month day ≡ Some moment.on
+  pub at_time : clock_time_of time ≡ Some moment.at
+
+-- a rule of these parts
+abbrev pub rule_with : Place → List ℕ → Years → Moment → Saving → List ℕ → Rule
+rule_with place name years moment saving letter = record {
+  place = place;
+  name = name;
+  first = years.first;
+  last = years.last;
+  moment = moment;
+  saving = saving;
+  letter = letter;
+}

@@ -1,0 +1,13 @@
+//! Laws of lines as contracts: no function here does anything. The crates above cite the lemmas in `proofs/` that prove
+//! them.
+ghost use Rattle.zic_lines.specs.Laws.{SaysWherePassing, SaysOneThing};
+
+/// A line says something just where no check fails.
+pub fn lines_say_where_checks_pass()
+    ensures { SaysWherePassing }
+{}
+
+/// A line says at most one thing.
+pub fn lines_say_one_thing()
+    ensures { SaysOneThing }
+{}
