@@ -8,6 +8,7 @@ ghost use Rattle.zic_base.specs.Memory.{IfRefusal, NeverRefuses, OnWantOfMemory}
 ghost use Rattle.zic_lines.specs.declared.entry.Entry.TheVariants as entries;
 ghost use Rattle.zic_lines.specs.Entry.{is_continuation};
 ghost use Rattle.zic_lines.specs.Line.{lines_of, text_lines};
+ghost use Rattle.zic_lines.specs.declared.field.TheConstants.{LONGEST_LINE};
 ghost use Rattle.zic_source.specs.Source.{SourceLines, no_lines};
 ghost use Rattle.zic_source.specs.Event.{Line, text_events, events_of};
 ghost use Rattle.zic_source.specs.Texts.{texts_of};

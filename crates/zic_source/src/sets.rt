@@ -69,9 +69,9 @@ impl Sets {
         ensures { OnOk result ((other : List ℕ) → numbers_of self.new other
             ≡ (if bytes_eq name.now other then rule ∷ [] else numbers_of self.old other)) }
     {
-        let mut numbers = SmallVec::new(alloc);
-        numbers.push(rule)?;
-        self.numbers.insert(name.clone()?, numbers)?;
+        let mut first = SmallVec::new(alloc);
+        first.push(rule)?;
+        self.numbers.insert(name.clone()?, first)?;
         Ok(())
     }
 }

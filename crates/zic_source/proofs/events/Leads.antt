@@ -1,6 +1,6 @@
 -- Reading on from what was read.
-use Rattle.std.proofs.Common.{◌≡◌, ◌≤◌, true, false, cond, ◌⊎◌, inl, inr, List, [], ◌∷◌, ◌++◌, length, Option, Some, None, refl, sym, ap, subst, ◌∙◌, append_assoc}
-use Rattle.std.specs.Prelude.{is_some, IsSomeAnd}
+use Rattle.std.proofs.Common.{◌≡◌, ◌≤◌, true, false, cond, ◌⊎◌, inl, inr, List, [], ◌∷◌, ◌++◌, length, Option, Some, None, Result, Ok, Err, refl, sym, ap, subst, ◌∙◌, append_assoc}
+use Rattle.std.specs.Prelude.{is_some, IsSomeAnd, OnOk}
 use Rattle.std.specs.Option.{option_map, IfSome, IfNone}
 use Rattle.std.proofs.lemmas.List.{append-nil}
 use Rattle.zic_base.specs.Check.{Check, first_failed}
@@ -8,10 +8,13 @@ use Rattle.zic_base.specs.declared.place.Place.{Place}
 use Rattle.zic_base.specs.declared.fault.Fault.{Fault}
 use Rattle.zic_base.specs.declared.fault.Kind.{Kind}
 use Rattle.zic_base.specs.declared.fault.Kind.TheVariants.{NoContinuation}
-use Rattle.zic_base.specs.Fault.{fault_at}
+use Rattle.zic_base.specs.declared.fault.Stop.{Stop}
+use Rattle.zic_base.specs.Fault.{fault_at, fault_of}
+use Rattle.zic_base.specs.Memory.{IfRefusal, OnWantOfMemory}
 use Rattle.zic_lines.specs.declared.entry.Entry.{Entry}
 use Rattle.zic_lines.specs.declared.zone_line.ZoneLine.{ZoneLine}
 use Rattle.zic_lines.specs.Line.{PlacedLine}
+use Rattle.zic_lines.specs.declared.field.TheConstants.{LONGEST_LINE}
 use Rattle.zic_lines.specs.Grammar.{Says}
 use Rattle.zic_source.specs.Event.{Event, Line, End}
 use Rattle.zic_source.specs.Source.{SourceLines, zone_lines_of}
@@ -80,7 +83,7 @@ met_now source event = record { before = []; after = []; stands = refl; leads = 
 pub fails_now : (source : SourceLines) (event : Event) (fault : Fault) → Fails source event fault → FailsIn source (event ∷ []) fault
 fails_now source event fault fails = (source, event, met_now source event, fails)
 
-pub wants_now : (source : SourceLines) (line : PlacedLine) → length line.bytes ≤ 2048 → WantsIn source (Line line ∷ [])
+pub wants_now : (source : SourceLines) (line : PlacedLine) → length line.bytes ≤ LONGEST_LINE → WantsIn source (Line line ∷ [])
 wants_now source line short = (source, line, met_now source (Line line), short)
 
 -- ---- the end of a text
@@ -92,7 +95,7 @@ open_is source found e = ap is_some e ∙ mapped (open_line source)
     mapped None = refl
     mapped (Some line) = refl
 
-open_fails : (open : Option ZoneLine) (place : Place) → Some place ≡ option_map (λ line. line.place) open → IsSomeAnd open (λ line. fault_at place NoContinuation ≡ fault_at line.place NoContinuation)
+open_fails : (found : Option ZoneLine) (place : Place) → Some place ≡ option_map (λ line. line.place) found → IsSomeAnd found (λ line. fault_at place NoContinuation ≡ fault_at line.place NoContinuation)
 open_fails None place e = absurd cc
 open_fails (Some line) place e = let same : place ≡ line.place = cc in ap (λ (p : Place). fault_at p NoContinuation) same
 
@@ -108,3 +111,15 @@ if_some_map (Some x) P Q f h = f x h
 pub if_none_map : {A : Type 0} (o : Option A) (P Q : Type 0) → (P → Q) → IfNone o P → IfNone o Q
 if_none_map None P Q f h = f h
 if_none_map (Some x) P Q f h = h
+
+pub on_ok_map : {X E : Type 0} (r : Result X E) (P Q : Type 0) → (P → Q) → OnOk r P → OnOk r Q
+on_ok_map (Ok x) P Q f h = f h
+on_ok_map (Err e) P Q f h = h
+
+pub refusal_map : {X : Type 0} (r : Result X Stop) (P Q : Fault → Type 0) → ((fault : Fault) → P fault → Q fault) → IfRefusal fault_of r P → IfRefusal fault_of r Q
+refusal_map (Ok x) P Q f h = h
+refusal_map (Err stop) P Q f h = if_some_map (fault_of stop) P Q f h
+
+pub want_map : {X : Type 0} (r : Result X Stop) (P Q : Type 0) → (P → Q) → OnWantOfMemory fault_of r P → OnWantOfMemory fault_of r Q
+want_map (Ok x) P Q f h = h
+want_map (Err stop) P Q f h = if_none_map (fault_of stop) P Q f h

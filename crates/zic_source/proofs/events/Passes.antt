@@ -10,8 +10,10 @@ use Rattle.zic_base.specs.declared.fault.Fault.{Fault}
 use Rattle.zic_base.specs.Fault.{fault_at, IsFirstFailed}
 use Rattle.zic_base.specs.declared.fault.Kind.{Kind}
 use Rattle.zic_base.specs.declared.fault.Kind.TheVariants.{DuplicateName, TooMany}
+use Rattle.zic_lines.specs.declared.field.TheConstants.{LONGEST_LINE}
 use Rattle.zic_lines.specs.Grammar.{IsLine}
-use Rattle.zic_lines.specs.Checks.{byte_checks}
+use Rattle.zic_lines.specs.Field.{fields}
+use Rattle.zic_lines.specs.Checks.{byte_checks, field_checks, line_checks}
 use Rattle.zic_lines.specs.declared.zone_line.ZoneLine.{ZoneLine}
 use Rattle.zic_lines.specs.declared.rule.Rule.{Rule}
 use Rattle.zic_lines.specs.declared.entry.Entry.TheVariants as entries
@@ -40,12 +42,19 @@ passes_first true k xs ys later e = later e
 passes_first false k xs ys later e = absurd cc
 
 -- where all of some checks pass, those behind them decide
-pub passes_before : (xs ys : List (Check Kind)) → first_failed xs ≡ None → first_failed (xs ++ ys) ≡ first_failed ys
+passes_before : (xs ys : List (Check Kind)) → first_failed xs ≡ None → first_failed (xs ++ ys) ≡ first_failed ys
 passes_before [] ys e = refl
 passes_before (x ∷ xs) ys e = passes_first x.passes x.reason xs ys (passes_before xs ys) e
 
-pub line_passes : (bytes : List ℕ) → IsLine bytes → first_failed (byte_checks bytes) ≡ None
-line_passes bytes is = rw (le-leb (length bytes) 2048 is.short, is.ascii, is.closed) refl
+line_passes : (bytes : List ℕ) → IsLine bytes → first_failed (byte_checks bytes) ≡ None
+line_passes bytes is = rw (le-leb (length bytes) LONGEST_LINE is.short, is.ascii, is.closed) refl
+
+-- a line whose fields fail fails
+pub fields_fail : (bytes : List ℕ) (taken : List (List ℕ)) (awaited follows : Bool) (kind : Kind) → IsLine bytes → taken ≡ fields bytes → awaited ≡ follows
+    → first_failed (field_checks awaited taken) ≡ Some kind → first_failed (line_checks follows bytes) ≡ Some kind
+fields_fail bytes taken awaited follows kind is same asked e =
+    passes_before (byte_checks bytes) (field_checks follows (fields bytes)) (line_passes bytes is)
+    ∙ sym (ap (λ (fs : List (List ℕ)). first_failed (field_checks awaited fs)) same ∙ ap (λ (b : Bool). first_failed (field_checks b (fields bytes))) asked) ∙ e
 
 -- ---- the checks of an entry
 

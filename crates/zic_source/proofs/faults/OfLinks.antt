@@ -24,7 +24,7 @@ pub none_found : (source : SourceLines) (zones : List ℕ) → zones ≡ [] → 
 none_found source zones none = record {
   first = λ link has. absurd (omega (arith, has.1));
   long = λ e. ap length none;
-  ends = λ e i zone there. absurd (let nowhere : slice_get {T = ℕ} [] i ≡ Some zone = ap (λ (zs : List ℕ). slice_get zs i) (sym none) ∙ there in cc);
+  ends = λ e i zone there. absurd (let nowhere = ap (λ (zs : List ℕ). slice_get zs i) (sym none) ∙ there in cc);
 }
 
 same_place : (source : SourceLines) (link : Link) (fault : Fault) → LinkHas source link fault → fault.place ≡ link.place

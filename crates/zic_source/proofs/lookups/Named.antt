@@ -5,7 +5,6 @@ use Rattle.std.specs.Option.{option_map}
 use Rattle.std.specs.List.{list_any}
 use Rattle.std.proofs.lemmas.Bool.{or_cases, or_left, or_right}
 use Rattle.zic_lines.specs.declared.link.Link.{Link}
-use Rattle.zic_lines.specs.declared.rule.Rule.{Rule}
 use Rattle.zic_lines.specs.declared.zone_line.ZoneLine.{ZoneLine}
 use Rattle.zic_source.specs.declared.names.Named.{Named}
 use Rattle.zic_source.specs.declared.names.Named.TheVariants as named
@@ -83,6 +82,14 @@ names_tell names source name is None e false h = refl
 pub nobody : (names : Names) (source : SourceLines) (name : List ℕ) → IndexesNames names source → is_some (who names name) ≡ is_named source name
 nobody names source name is = names_tell names source name is (who names name) refl (is_named source name) refl
 
+-- what a look-up tells of a name
+pub looked_up : (names : Names) (source : SourceLines) (name : List ℕ) (found : Option Named) (b : Bool) → IndexesNames names source → found ≡ who names name → b ≡ is_some found → is_named source name ≡ b
+looked_up names source name found b is at tells = sym (nobody names source name is) ∙ ap (λ (o : Option Named). is_some o) (sym at) ∙ sym tells
+
+pub nobody_found : (found : Option Named) (b : Bool) → b ≡ is_some found → b ≡ false → found ≡ None
+nobody_found None b tells no = refl
+nobody_found (Some one) b tells no = absurd cc
+
 -- what was told of names is told after a new name
 module _ (f g : List ℕ → Option Named) (name : List ℕ) (one : Named) (fresh : is_some (f name) ≡ false) (told : (other : List ℕ) → g other ≡ cond (bytes_eq name other) (Some one) (f other)) where
   told_new : g name ≡ Some one
@@ -152,10 +159,6 @@ link_kept names names' source link is new told =
           (λ before. let at = some_there _ _ (is.link_has i name before) in there_some _ _ at.0 (get_before source.links (link ∷ []) i at.0 at.1) at.2)
           (cases name (named.Link i) e);
     }
-
--- rules have no name of their own
-pub rules_kept : (names : Names) (source : SourceLines) (rules : List Rule) → IndexesNames names source → IndexesNames names (record source { rules = rules })
-rules_kept names source rules is = record { zones = is.zones; links = is.links; zone_has = is.zone_has; link_has = is.link_has }
 
 continued_names : (zones : List ZoneLines) (line : ZoneLine) (i : ℕ) → option_map (λ zone. zone.name) (slice_get (continued zones line) i) ≡ option_map (λ zone. zone.name) (slice_get zones i)
 continued_names [] line i = refl

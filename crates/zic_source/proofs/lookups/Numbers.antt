@@ -61,11 +61,12 @@ pub set_rules_none : (name : List ℕ) (rules : List Rule) → eqb (length (set_
 set_rules_none name rules = none_passes (is_of_set name) 0 rules
 
 -- the number of one rule more is the last of its set
-pub sets_kept : (old new : Sets) (rules : List Rule) (rule : Rule) → IndexesSets old rules
-    → ((other : List ℕ) → numbers_of new other ≡ cond (bytes_eq rule.name other) (numbers_of old other ++ length rules ∷ []) (numbers_of old other)) → IndexesSets new (rules ++ rule ∷ [])
-sets_kept old new rules rule is added = λ name.
-    let number : 0 + length rules ≡ length rules = omega arith in
+pub sets_kept : (old new : Sets) (rules : List Rule) (rule : Rule) (number : ℕ) → IndexesSets old rules → number ≡ length rules
+    → ((other : List ℕ) → numbers_of new other ≡ cond (bytes_eq rule.name other) (numbers_of old other ++ number ∷ []) (numbers_of old other)) → IndexesSets new (rules ++ rule ∷ [])
+sets_kept old new rules rule number is last added = λ name.
+    let at : number ≡ 0 + length rules = omega arith in
     added name
-    ∙ ap (λ (b : Bool). cond b (numbers_of old name ++ length rules ∷ []) (numbers_of old name)) (nat_list_eq_equiv.symm rule.name name)
-    ∙ ap (λ (ns : List ℕ). cond (is_of_set name rule) (ns ++ length rules ∷ []) ns) (is name)
-    ∙ sym (last_passes (is_of_set name) 0 rules rule ∙ ap (λ (n : ℕ). cond (is_of_set name rule) (set_rules name rules ++ n ∷ []) (set_rules name rules)) number)
+    ∙ ap (λ (b : Bool). cond b (numbers_of old name ++ number ∷ []) (numbers_of old name)) (nat_list_eq_equiv.symm rule.name name)
+    ∙ ap (λ (ns : List ℕ). cond (is_of_set name rule) (ns ++ number ∷ []) ns) (is name)
+    ∙ ap (λ (n : ℕ). cond (is_of_set name rule) (set_rules name rules ++ n ∷ []) (set_rules name rules)) at
+    ∙ sym (last_passes (is_of_set name) 0 rules rule)

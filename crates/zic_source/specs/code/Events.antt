@@ -3,6 +3,7 @@ use Rattle.std.specs.Prelude.{◌≡◌, ◌≤◌, List, ◌∷◌, ◌++◌, N
 use Rattle.zic_base.specs.Check.{first_failed}
 use Rattle.zic_base.specs.declared.fault.Fault.{Fault}
 use Rattle.zic_lines.specs.declared.entry.Entry.{Entry}
+use Rattle.zic_lines.specs.declared.field.TheConstants.{LONGEST_LINE}
 use Rattle.zic_lines.specs.Line.{PlacedLine}
 use Rattle.zic_source.specs.Event.{Event, Line}
 use Rattle.zic_source.specs.Source.{SourceLines}
@@ -33,4 +34,4 @@ FailsIn old events fault = (source : SourceLines) × (event : Event) × IsMet ol
 
 -- one of these events is a line that isn't too long
 abbrev pub WantsIn : SourceLines → List Event → Type 0
-WantsIn old events = (source : SourceLines) × (line : PlacedLine) × IsMet old events source (Line line) × (length line.bytes ≤ 2048)
+WantsIn old events = (source : SourceLines) × (line : PlacedLine) × IsMet old events source (Line line) × (length line.bytes ≤ LONGEST_LINE)
