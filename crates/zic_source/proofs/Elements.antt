@@ -30,6 +30,9 @@ pub cons_cases : {A : Type 0} (y : A) (xs : List A) (x : A) → Contains (y ∷ 
 cons_cases y xs x (zero, lt, e) = inl e
 cons_cases y xs x (suc k, lt, e) = inr (k, omega arith, e)
 
+pub only_one : {A : Type 0} (one x : A) → Contains (one ∷ []) x → one ≡ x
+only_one one x has = ⊎_elim (λ same. same) (λ none. absurd (omega (arith, none.1))) (cons_cases one [] x has)
+
 pub from_flat_map : {X A : Type 0} (f : X → List A) (xs : List X) (a : A) → Contains (flat_map f xs) a → (x : X) × Contains xs x × Contains (f x) a
 from_flat_map f [] a has = absurd (omega (arith, has.1))
 from_flat_map f (x ∷ xs) a has = ⊎_elim

@@ -1,5 +1,5 @@
 -- The events that are left in a loop over lines or texts.
-use Rattle.std.proofs.Common.{◌≡◌, ℕ, ◌+◌, ◌<◌, ◌≤◌, false, inl, List, [], ◌∷◌, ◌++◌, length, get_or, drop, map, sym, ap, subst, ◌∙◌}
+use Rattle.std.proofs.Common.{◌≡◌, ℕ, ◌+◌, ◌<◌, ◌≤◌, false, inl, inr, List, [], ◌∷◌, ◌++◌, length, get_or, drop, map, sym, ap, subst, ◌∙◌}
 use Rattle.std.specs.Prelude.{flat_map}
 use Rattle.std.specs.Option.{IfSome, IfNone}
 use Rattle.std.specs.Global.{Vec}
@@ -7,16 +7,19 @@ use Rattle.std.specs.List.{enumerate_from}
 use Rattle.std.proofs.lemmas.List.{drop_more, get_or-map}
 use Rattle.zic_base.specs.declared.fault.Fault.{Fault}
 use Rattle.zic_base.specs.declared.fault.Stop.{Stop}
+use Rattle.zic_base.specs.declared.fault.Stop.TheVariants as stops
 use Rattle.zic_base.specs.Fault.{fault_of}
 use Rattle.zic_lines.specs.declared.field.TheConstants.{LONGEST_LINE}
 use Rattle.zic_lines.specs.Line.{PlacedLine, lines_of}
 use Rattle.zic_source.specs.Event.{Event, Line, End, text_events, events_of}
 use Rattle.zic_source.specs.Source.{SourceLines, no_lines}
-use Rattle.zic_source.specs.Grammar.{is_open, IsReadable}
+use Rattle.zic_source.specs.Grammar.{is_open, IsReadable, IsSource}
+use Rattle.zic_source.specs.Whole.{HasFirst}
 use Rattle.zic_source.specs.FirstFault.{Fails, IsReached, IsFirstFault, MayWantMemory}
 use Rattle.zic_source.specs.Texts.{texts_of}
 use Rattle.zic_source.specs.code.Events.{Leads, IsMet, FailsIn, WantsIn}
 use Rattle.zic_source.proofs.reading.Steps.{none_read}
+use Rattle.zic_source.proofs.faults.FirstFault.{source_has_no_fault}
 use Rattle.zic_source.proofs.events.Leads.{IsSoFar, so_far_begins, so_far_on, leads_on, end_leads, fails_in, fails_now, wants_in, wants_now, if_some_map, if_none_map}
 
 -- the events of a text's lines, the lines from the one of this number on
@@ -110,3 +113,14 @@ module _ (texts : List (List ℕ)) where
   pub reading_wants : (stop : Stop) → IfNone (fault_of stop) (WantsIn no_lines (events_of texts)) → IfNone (fault_of stop) (MayWantMemory texts)
   reading_wants stop = if_none_map (fault_of stop) _ _
       (λ (source, line, met, short). inl (source, line, reached source (Line line) met, short))
+
+  pub whole_fails : (source : SourceLines) → Leads no_lines (events_of texts) source → (stop : Stop) → IfSome (fault_of stop) (HasFirst source) → IfSome (fault_of stop) (IsFirstFault texts)
+  whole_fails source leads stop = if_some_map (fault_of stop) _ _ (λ fault first. inr (source, all_read source leads, first))
+
+  pub whole_wants : (source : SourceLines) → Leads no_lines (events_of texts) source → (stop : Stop) → IfNone (fault_of stop) (MayWantMemory texts)
+  whole_wants source leads stops.Memory = inr (source, all_read source leads)
+  whole_wants source leads (stops.Fault fault) = tt
+
+  -- texts that are a source aren't refused
+  pub never_refuses : (source : SourceLines) → IsSource texts source → (stop : Stop) → IfSome (fault_of stop) (IsFirstFault texts) → IfSome (fault_of stop) (λ _. ⊥)
+  never_refuses source is stop = if_some_map (fault_of stop) _ _ (λ fault first. source_has_no_fault texts source fault is first)

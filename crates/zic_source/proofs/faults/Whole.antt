@@ -14,7 +14,7 @@ use Rattle.zic_lines.specs.declared.zone_line.ZoneLine.{ZoneLine}
 use Rattle.zic_source.specs.Source.{SourceLines, zone_lines_of}
 use Rattle.zic_source.specs.Links.{EndsAtZone, EndsNowhere, HasNoEnd}
 use Rattle.zic_source.specs.Whole.{is_unknown, IsWhole, HasAt, HasFirst}
-use Rattle.zic_source.proofs.Elements.{first_contained, cons_cases, from_flat_map, into_flat_map}
+use Rattle.zic_source.proofs.Elements.{first_contained, only_one, from_flat_map, into_flat_map}
 use Rattle.zic_source.proofs.links.NamesDiffer.{NamesDiffer, not_nowhere, not_endless, nowhere_ends}
 use Rattle.zic_source.proofs.links.ThreeEnds.{three_ends}
 use Rattle.zic_source.proofs.faults.Order.{IsFirstOf, first_of}
@@ -34,9 +34,6 @@ abbrev link_faults : (source : SourceLines) (link : Link) → Ends source link �
 link_faults source link (inl (inl zone)) = []
 link_faults source link (inl (inr nowhere)) = fault_at link.place UnknownTarget ∷ []
 link_faults source link (inr never) = fault_at link.place LinkCycle ∷ []
-
-only_one : (one fault : Fault) → Contains (one ∷ []) fault → one ≡ fault
-only_one one fault has = ⊎_elim (λ same. same) (λ none. absurd (omega (arith, none.1))) (cons_cases one [] fault has)
 
 module _ (source : SourceLines) (differ : NamesDiffer source) where
   of_line : ZoneLine → List Fault

@@ -87,8 +87,8 @@ pub looked_up : (names : Names) (source : SourceLines) (name : List ℕ) (found 
 looked_up names source name found b is at tells = sym (nobody names source name is) ∙ ap (λ (o : Option Named). is_some o) (sym at) ∙ sym tells
 
 pub nobody_found : (found : Option Named) (b : Bool) → b ≡ is_some found → b ≡ false → found ≡ None
-nobody_found None b tells no = refl
-nobody_found (Some one) b tells no = absurd cc
+nobody_found None b tells off = refl
+nobody_found (Some one) b tells off = absurd cc
 
 -- what was told of names is told after a new name
 module _ (f g : List ℕ → Option Named) (name : List ℕ) (one : Named) (fresh : is_some (f name) ≡ false) (told : (other : List ℕ) → g other ≡ cond (bytes_eq name other) (Some one) (f other)) where

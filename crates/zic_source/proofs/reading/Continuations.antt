@@ -25,3 +25,16 @@ joined first between last (statement ∷ before) after is more = (is.0, joined (
 pub parted : (first between last : Bool) (before after : List Statement) → Continued first (before ++ after) last → Continued first before between → Continued between after last
 parted first between last [] after is e = let P : Bool → Type 0 = λ b. Continued b after last in subst P e is
 parted first between last (statement ∷ before) after all is = parted (goes_on statement) between last before after all.1 is.1
+
+-- Each statement continues just what goes on.
+abbrev pub InTurn : Bool → List Statement → Type 0
+InTurn first [] = Unit {0}
+InTurn first (statement ∷ statements) = (first ≡ continues statement) × InTurn (goes_on statement) statements
+
+pub turns : (first last : Bool) (statements : List Statement) → Continued first statements last → InTurn first statements
+turns first last [] is = tt
+turns first last (statement ∷ statements) is = (is.0, turns (goes_on statement) last statements is.1)
+
+pub first_turns : (first : Bool) (before after : List Statement) → InTurn first (before ++ after) → InTurn first before
+first_turns first [] after is = tt
+first_turns first (statement ∷ before) after is = (is.0, first_turns (goes_on statement) before after is.1)

@@ -1,6 +1,6 @@
 -- What is read says one source, and each event says what fits what is read before it.
 use Rattle.std.proofs.Common.{◌≡◌, ℕ, ◌+◌, ◌≤◌, Bool, true, false, ◌⊎◌, inl, inr, List, [], ◌∷◌, ◌++◌, Option, Some, None, refl, sym, ap, subst, ◌∙◌, arith}
-use Rattle.std.specs.Prelude.{flat_map, sum_by, is_some, IfSome, IsSomeAnd}
+use Rattle.std.specs.Prelude.{flat_map, sum_by, IfSome}
 use Rattle.std.specs.List.{AllZip}
 use Rattle.std.proofs.lemmas.Grind.{flat_map-append}
 use Rattle.std.proofs.lemmas.List.Elements.{filter_map-append}
@@ -21,40 +21,55 @@ use Rattle.zic_lines.specs.Grammar.{Says}
 use Rattle.zic_lines.specs.Checks.{line_checks}
 use Rattle.zic_source.specs.Event.{Event, Line, End}
 use Rattle.zic_source.specs.Source.{SourceLines, ZoneLines}
-use Rattle.zic_source.specs.Grammar.{Statement, Entered, Ended, EventSays, said, entries_in, continues, open_line, is_open, IsRead}
+use Rattle.zic_source.specs.Grammar.{Statement, Entered, Ended, EventSays, said, entries_in, goes_on, continues, open_line, is_open, IsRead}
 use Rattle.zic_source.specs.Checks.{entry_checks}
 use Rattle.zic_source.specs.FirstFault.{SaysNext, Fails}
-use Rattle.zic_source.proofs.LineLaws.{says_or_fails, says_one}
-use Rattle.zic_source.proofs.reading.Continuations.{Continued, parted}
+use Rattle.zic_lines.proofs.Entries.{says_once}
+use Rattle.zic_source.proofs.reading.Continuations.{Continued, parted, InTurn, turns, first_turns}
 use Rattle.zic_source.proofs.reading.Zones.{same_zones}
 use Rattle.zic_source.proofs.reading.Limits.{IsOf, Limit, amount, amount_in, most, amount_said, HasRoom, passed_if_room}
 use Rattle.zic_source.proofs.reading.Read.{entries_of, Read, is_read}
 
 -- ---- each event says one thing
 
-event_once : (event : Event) (one other : Option Statement) → EventSays event one → EventSays event other → one ≡ other
-event_once (Line line) None None says says' = refl
-event_once (Line line) None (Some (Entered entry)) says says' = let same : ◌≡◌ {A = Option Entry} None (Some entry) = says_one line None (Some entry) says says' in absurd cc
-event_once (Line line) (Some (Entered entry)) None says says' = let same : Some entry ≡ None = says_one line (Some entry) None says says' in absurd cc
-event_once (Line line) (Some (Entered entry)) (Some (Entered other)) says says' =
-    let same : Some entry ≡ Some other = says_one line (Some entry) (Some other) says says' in
-    let one : entry ≡ other = cc in ap (λ (e : Entry). Some (Entered e)) one
-event_once (Line line) (Some Ended) other says says' = absurd says
-event_once (Line line) one (Some Ended) says says' = absurd says'
-event_once End None other says says' = absurd says
-event_once End (Some (Entered entry)) other says says' = absurd says
-event_once End one None says says' = absurd says'
-event_once End one (Some (Entered entry)) says says' = absurd says'
-event_once End (Some Ended) (Some Ended) says says' = refl
+-- the statement continues where one has to
+abbrev Continues : Bool → Option Statement → Type 0
+Continues first statement = IfSome statement (λ s. first ≡ continues s)
 
-events_once : (events : List Event) (one other : List (Option Statement)) → AllZip EventSays events one → AllZip EventSays events other → one ≡ other
-events_once [] [] [] each each' = refl
-events_once [] (s ∷ one) other each each' = absurd each
-events_once [] one (s ∷ other) each each' = absurd each'
-events_once (event ∷ events) [] other each each' = absurd each
-events_once (event ∷ events) one [] each each' = absurd each'
-events_once (event ∷ events) (s ∷ one) (t ∷ other) each each' =
-    ap (λ (u : Option Statement). u ∷ one) (event_once event s t each.0 each'.0) ∙ ap (λ (ss : List (Option Statement)). t ∷ ss) (events_once events one other each.1 each'.1)
+event_once : (first : Bool) (event : Event) (one other : Option Statement) → EventSays event one → EventSays event other → Continues first one → Continues first other → one ≡ other
+event_once first (Line line) None None says says' at at' = refl
+event_once first (Line line) None (Some (Entered entry)) says says' at at' = let same : ◌≡◌ {A = Option Entry} None (Some entry) = says_once first line None (Some entry) says tt says' (sym at') in absurd cc
+event_once first (Line line) (Some (Entered entry)) None says says' at at' = let same : Some entry ≡ None = says_once first line (Some entry) None says (sym at) says' tt in absurd cc
+event_once first (Line line) (Some (Entered entry)) (Some (Entered other)) says says' at at' =
+    let same : Some entry ≡ Some other = says_once first line (Some entry) (Some other) says (sym at) says' (sym at') in
+    let one : entry ≡ other = cc in ap (λ (e : Entry). Some (Entered e)) one
+event_once first (Line line) (Some Ended) other says says' at at' = absurd says
+event_once first (Line line) one (Some Ended) says says' at at' = absurd says'
+event_once first End (Some Ended) (Some Ended) says says' at at' = refl
+event_once first End (Some Ended) other says says' at at' = absurd says'
+event_once first End one other says says' at at' = absurd says
+
+-- whether one has to follow a statement, or still has to where nothing is said
+abbrev next : Bool → Option Statement → Bool
+next first None = first
+next first (Some statement) = goes_on statement
+
+turn : (first : Bool) (own : Option Statement) (statements : List (Option Statement)) → InTurn first (said (own ∷ statements)) → Continues first own × InTurn (next first own) (said statements)
+turn first None statements is = (tt, is)
+turn first (Some statement) statements is = (is.0, is.1)
+
+events_once : (first : Bool) (events : List Event) (one other : List (Option Statement)) → AllZip EventSays events one → AllZip EventSays events other → InTurn first (said one) → InTurn first (said other) → one ≡ other
+events_once first [] [] [] each each' is is' = refl
+events_once first [] (s ∷ one) other each each' is is' = absurd each
+events_once first [] one (s ∷ other) each each' is is' = absurd each'
+events_once first (event ∷ events) [] other each each' is is' = absurd each
+events_once first (event ∷ events) one [] each each' is is' = absurd each'
+events_once first (event ∷ events) (s ∷ one) (t ∷ other) each each' is is' =
+    let at = turn first s one is in
+    let at' = turn first t other is' in
+    let same : s ≡ t = event_once first event s t each.0 each'.0 at.0 at'.0 in
+    let rest : one ≡ other = events_once (next first t) events one other each.1 each'.1 (subst (λ (o : Option Statement). InTurn (next first o) (said one)) same at.1) at'.1 in
+    ap (λ (u : Option Statement). u ∷ one) same ∙ ap (λ (ss : List (Option Statement)). t ∷ ss) rest
 
 -- a source is what is said
 same_source : (said : List Entry) (one other : SourceLines) → IsOf one said → IsOf other said → one ≡ other
@@ -67,7 +82,7 @@ pub read_once : (events : List Event) (one other : SourceLines) → IsRead event
 read_once events one other is is' =
     let r = is_read events one is in
     let r' = is_read events other is' in
-    same_source (entries_of r'.statements) one other (subst (λ (ss : List (Option Statement)). IsOf one (entries_of ss)) (events_once events r.statements r'.statements r.each r'.each) r.is) r'.is
+    same_source (entries_of r'.statements) one other (subst (λ (ss : List (Option Statement)). IsOf one (entries_of ss)) (events_once false events r.statements r'.statements r.each r'.each (turns _ _ _ r.continued) (turns _ _ _ r'.continued)) r.is) r'.is
 
 -- ---- one event more
 
@@ -118,7 +133,9 @@ event_fits before event after source total is all =
     let r = is_read before source is in
     let t = is_read (before ++ event ∷ after) total all in
     let c = cut before event after t.statements t.each in
-    let are : t.statements ≡ r.statements ++ c.own ∷ c.last = c.are ∙ ap (λ (ss : List (Option Statement)). ss ++ c.own ∷ c.last) (events_once before c.first r.statements c.of_first r.each) in
+    let in_turn : InTurn false (said c.first) = first_turns false (said c.first) (said (c.own ∷ c.last))
+    (subst (InTurn false) (ap said c.are ∙ filter_map-append (λ (s : Option Statement). s) c.first (c.own ∷ c.last)) (turns _ _ _ t.continued)) in
+    let are : t.statements ≡ r.statements ++ c.own ∷ c.last = c.are ∙ ap (λ (ss : List (Option Statement)). ss ++ c.own ∷ c.last) (events_once false before c.first r.statements c.of_first r.each in_turn (turns _ _ _ r.continued)) in
     (c.own, c.of_own, fits source total r.statements r.continued r.is c.own c.last
     (subst (λ (ss : List (Option Statement)). Continued false (said ss) (is_open total)) are t.continued)
     (subst (λ (ss : List (Option Statement)). IsOf total (entries_of ss)) are t.is) t.within)

@@ -1,16 +1,19 @@
-use Rattle.std.proofs.Common.{◌≤◌, ◌<◌, ◌+◌, List, length, drop, sym, ap, ◌∙◌, arith}
+use Rattle.std.proofs.Common.{◌≤◌, ◌<◌, ◌+◌, List, length, drop, sym, ap, subst, ◌∙◌, arith}
 use Rattle.std.proofs.lemmas.List.{length-map, drop_all}
 use Rattle.std.proofs.lemmas.Result.{err_from_is_err_and}
 use Rattle.zic_source.specs.Event.{events_of}
 use Rattle.zic_source.specs.Source.{no_lines, SourceLines}
 use Rattle.zic_source.specs.Texts.{texts_of}
 use Rattle.zic_source.specs.code.Lines.{source_lines}
-use Rattle.zic_source.proofs.events.Leads.{so_far_begins, so_far_ends}
+use Rattle.zic_source.proofs.events.Leads.{IsSoFar, so_far_begins, so_far_ends}
 use Rattle.zic_source.proofs.events.Loops.{texts_from, text_at, texts_on, texts_fail, texts_want}
 use Rattle.zic_source.proofs.reader.read_texts.Goals as goal
 
 pub loop-index-init : goal.loop-index-init
-loop-index-init c = ?
+loop-index-init c = record {
+  so_far = subst (IsSoFar no_lines (events_of (texts_of c.args.texts.now)) (texts_from 1 (texts_of c.args.texts.now))) (sym c.new-reader.ensures.lines) (so_far_begins no_lines (events_of (texts_of c.args.texts.now)));
+  tracks = c.new-reader.ensures.tracks;
+}
 
 pub returns-in_err-read_text-clause-fault : goal.returns-in_err-read_text-clause-fault
 returns-in_err-read_text-clause-fault c =
