@@ -1,5 +1,5 @@
 -- Elements of lists.
-use Rattle.std.proofs.Common.{◌≡◌, ℕ, zero, suc, Bool, true, false, ◌⊎◌, inl, inr, ⊎_elim, List, [], ◌∷◌, map, Some, refl, sym, ap, subst, ◌∙◌, arith}
+use Rattle.std.proofs.Common.{◌≡◌, ◌<◌, ℕ, zero, suc, Bool, true, false, ◌⊎◌, inl, inr, ⊎_elim, All, List, [], ◌∷◌, length, map, Some, refl, sym, ap, subst, ◌∙◌, arith}
 use Rattle.std.specs.Prelude.{Contains, flat_map, slice_get}
 use Rattle.std.specs.List.{list_any}
 use Rattle.std.proofs.lemmas.Bool.{or_cases}
@@ -12,6 +12,16 @@ get_contained xs x has = slice_get-get_or xs has.0 x has.1 ∙ ap (λ (y : _). S
 
 pub contains_got : {A : Type 0} (xs : List A) (i : ℕ) (x : A) → slice_get xs i ≡ Some x → Contains xs x
 contains_got xs i x e = (i, slice_get_within xs i x e, get_or_from_slice_get xs i x x e)
+
+-- what holds of all elements holds of the one of a number
+pub all_got : {A : Type 0} (P : A → Type 0) (xs : List A) (i : ℕ) (x : A) → All P xs → slice_get xs i ≡ Some x → P x
+all_got P xs i x all e = subst P (get_or_from_slice_get xs i x x e) (all i x (slice_get_within xs i x e))
+
+-- an element of each number is there
+pub got : {A : Type 0} (xs : List A) (i : ℕ) → i < length xs → (x : A) × (slice_get xs i ≡ Some x)
+got [] i lt = absurd (omega arith)
+got (x ∷ xs) zero lt = (x, refl)
+got (x ∷ xs) (suc i) lt = got xs i (omega arith)
 
 pub first_contained : {A : Type 0} (x : A) (xs : List A) → Contains (x ∷ xs) x
 first_contained x xs = (0, omega arith, refl)

@@ -1,8 +1,10 @@
 pub mod SameBytes
 pub mod Elements
 pub mod Counts
-pub mod reading
+pub mod WordRanges
+pub mod lookups
 pub mod links
 pub mod faults
-pub mod WordRanges
 pub mod sound
+pub mod events
+pub mod reading

@@ -1,2 +1,4 @@
 pub mod NamesDiffer
 pub mod ThreeEnds
+pub mod Ways
+pub mod Walks

@@ -1,3 +1,4 @@
+pub mod Texts
 pub mod Source
 pub mod Event
 pub mod Links

@@ -4,7 +4,20 @@
 //! do nothing: they state what holds of sources and first faults.
 #![tactic(auto)]
 
+mod chains;
 pub mod laws;
 mod limit;
+mod lines;
+mod names;
+mod reader;
+mod sets;
+mod source;
+mod whole;
 
 pub use limit::{MOST_NAMES, MOST_RULES, MOST_RULES_OF_SET, MOST_ZONE_LINES};
+pub use reader::read_source;
+pub use source::Source;
+pub use zic_lines::{
+    Fault, Format, FormatPart, Kind, Link, Place, Rule, Rules, Stop, Until, ZoneLine,
+};
+pub use zic_words::{ClockForm, Letter, Name, Saving, SetName};

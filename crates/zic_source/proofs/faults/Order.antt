@@ -37,33 +37,23 @@ ordered a b = ⊎_elim
 abbrev pub IsFirstOf : List Fault → Fault → Type 0
 IsFirstOf faults fault = Contains faults fault × ((other : Fault) → Contains faults other → IsBefore other.place fault.place → ⊥)
 
+-- a fault before which none of the others stands
+first_one : (one : Fault) (rest : List Fault) → ((other : Fault) → Contains rest other → IsBefore other.place one.place → ⊥) → (fault : Fault) × IsFirstOf (one ∷ rest) fault
+first_one one rest none = (one, (first_contained one rest, λ other has sooner. ⊎_elim
+    (λ same. not_before_itself one.place (subst (λ (f : Fault). IsBefore f.place one.place) (sym same) sooner))
+    (λ later. none other later sooner)
+    (cons_cases one rest other has)))
+
 -- which of a fault and the first of those after it is the first
 first_of_two : (one : Fault) (rest : List Fault) (first : Fault) → IsFirstOf rest first → AreOrdered first.place one.place → (fault : Fault) × IsFirstOf (one ∷ rest) fault
-first_of_two one rest first is (inr (inl before)) = (first, (
-  Contains-append_right (one ∷ []) rest first is.0,
-  λ other has sooner. ⊎_elim
-      (λ same. not_before_itself first.place (before_before first.place one.place first.place before (subst (λ (f : Fault). IsBefore f.place first.place) (sym same) sooner)))
-      (λ later. is.1 other later sooner)
-      (cons_cases one rest other has)))
-first_of_two one rest first is (inl same_place) = (one, (
-  first_contained one rest,
-  λ other has sooner. ⊎_elim
-      (λ same. not_before_itself one.place (subst (λ (f : Fault). IsBefore f.place one.place) (sym same) sooner))
-      (λ later. is.1 other later (subst (IsBefore other.place) (sym same_place) sooner))
-      (cons_cases one rest other has)))
-first_of_two one rest first is (inr (inr after)) = (one, (
-  first_contained one rest,
-  λ other has sooner. ⊎_elim
-      (λ same. not_before_itself one.place (subst (λ (f : Fault). IsBefore f.place one.place) (sym same) sooner))
-      (λ later. is.1 other later (before_before other.place one.place first.place sooner after))
-      (cons_cases one rest other has)))
+first_of_two one rest first is (inl same) = first_one one rest (λ other has sooner. is.1 other has (subst (IsBefore other.place) (sym same) sooner))
+first_of_two one rest first is (inr (inl before)) = (first, (Contains-append_right (one ∷ []) rest first is.0, λ other has sooner. ⊎_elim
+    (λ same. not_before_itself first.place (before_before first.place one.place first.place before (subst (λ (f : Fault). IsBefore f.place first.place) (sym same) sooner)))
+    (λ later. is.1 other later sooner)
+    (cons_cases one rest other has)))
+first_of_two one rest first is (inr (inr after)) = first_one one rest (λ other has sooner. is.1 other has (before_before other.place one.place first.place sooner after))
 
 -- some faults have a first
 pub first_of : (one : Fault) (rest : List Fault) → (fault : Fault) × IsFirstOf (one ∷ rest) fault
-first_of one [] = (one, (
-  first_contained one [],
-  λ other has sooner. ⊎_elim
-      (λ same. not_before_itself one.place (subst (λ (f : Fault). IsBefore f.place one.place) (sym same) sooner))
-      (λ later. absurd (omega (arith, later.1)))
-      (cons_cases one [] other has)))
+first_of one [] = first_one one [] (λ other has sooner. absurd (omega (arith, has.1)))
 first_of one (next ∷ rest) = let first = first_of next rest in first_of_two one (next ∷ rest) first.0 first.1 (ordered first.0.place one.place)

@@ -45,11 +45,9 @@ event_once first (Line line) (Some (Entered entry)) (Some (Entered other)) says 
     let one : entry ≡ other = cc in ap (λ (e : Entry). Some (Entered e)) one
 event_once first (Line line) (Some Ended) other says says' at at' = absurd says
 event_once first (Line line) one (Some Ended) says says' at at' = absurd says'
-event_once first End None other says says' at at' = absurd says
-event_once first End (Some (Entered entry)) other says says' at at' = absurd says
-event_once first End one None says says' at at' = absurd says'
-event_once first End one (Some (Entered entry)) says says' at at' = absurd says'
 event_once first End (Some Ended) (Some Ended) says says' at at' = refl
+event_once first End (Some Ended) other says says' at at' = absurd says'
+event_once first End one other says says' at at' = absurd says
 
 -- whether one has to follow a statement, or still has to where nothing is said
 abbrev next : Bool → Option Statement → Bool

@@ -1,5 +1,5 @@
--- Where reading stops: events are read, or one of them is the first that has a fault.
-use Rattle.std.proofs.Common.{◌≡◌, false, ◌⊎◌, inl, inr, ⊎_elim, List, [], ◌∷◌, ◌++◌, Option, Some, None, refl, sym, ap, subst, ◌∙◌, append_assoc}
+-- Where reading stops: texts are read, or one of their events is the first that has a fault.
+use Rattle.std.proofs.Common.{◌≡◌, ℕ, false, ◌⊎◌, inl, inr, ⊎_elim, List, [], ◌∷◌, ◌++◌, Option, Some, None, refl, sym, ap, subst, ◌∙◌, append_assoc}
 use Rattle.std.specs.Prelude.{is_some, IfSome, IsSomeAnd}
 use Rattle.std.proofs.lemmas.List.{append-nil}
 use Rattle.zic_base.specs.Check.{first_failed}
@@ -14,16 +14,16 @@ use Rattle.zic_lines.specs.Entry.{is_continuation}
 use Rattle.zic_lines.specs.Line.{PlacedLine}
 use Rattle.zic_lines.specs.Grammar.{Says}
 use Rattle.zic_lines.specs.Checks.{line_checks}
-use Rattle.zic_source.specs.Event.{Event, Line, End}
-use Rattle.zic_source.specs.Source.{SourceLines}
-use Rattle.zic_source.specs.Grammar.{Statement, Entered, Ended, EventSays, open_line, is_open, IsRead}
+use Rattle.zic_source.specs.Event.{Event, Line, End, events_of}
+use Rattle.zic_source.specs.Source.{SourceLines, no_lines}
+use Rattle.zic_source.specs.Grammar.{Statement, Entered, Ended, EventSays, open_line, is_open, IsRead, IsReadable}
 use Rattle.zic_source.specs.Checks.{entry_checks}
-use Rattle.zic_source.specs.FirstFault.{SaysNext, Fails}
+use Rattle.zic_source.specs.FirstFault.{SaysNext, Fails, IsReadingFault}
 use Rattle.zic_source.specs.code.Adding.{with_entry}
 use Rattle.zic_lines.proofs.Entries.{line_said, says_passes, says_once}
 use Rattle.zic_source.proofs.reading.Limits.{passed_if_room}
 use Rattle.zic_source.proofs.reading.Once.{Fits, read_once, event_fits}
-use Rattle.zic_source.proofs.reading.Steps.{blank_read, entry_read, end_read}
+use Rattle.zic_source.proofs.reading.Steps.{none_read, blank_read, entry_read, end_read}
 
 -- ---- what is read has no fault
 
@@ -75,16 +75,6 @@ fails_once source End one other fails fails' = closed_once (open_line source) on
 
 -- ---- events are read, or one has a fault
 
--- one of the events has a fault, and those before it are read
-pub record Stops (events : List Event) (fault : Fault) : Type 0 where
-  pub source : SourceLines
-  pub event : Event
-  pub before : List Event
-  pub after : List Event
-  pub stands : events ≡ before ++ event ∷ after
-  pub read : IsRead before source
-  pub fails : Fails source event fault
-
 module _ (before : List Event) (source : SourceLines) (is : IsRead before source) where
   -- it is read with the event, or the event has a fault
   abbrev Goes : Event → Type 0
@@ -110,17 +100,23 @@ module _ (before : List Event) (source : SourceLines) (is : IsRead before source
   event_goes (Line line) = line_goes line (first_failed (line_checks (is_open source) line.bytes)) refl
   event_goes End = end_goes (open_line source) refl
 
-pub read_or_stops : (before after : List Event) (source : SourceLines) → IsRead before source → ((total : SourceLines) × IsRead (before ++ after) total) ⊎ ((fault : Fault) × Stops (before ++ after) fault)
-read_or_stops before [] source is = inl (source, subst (λ (es : List Event). IsRead es source) (sym (append-nil before)) is)
-read_or_stops before (event ∷ after) source is = ⊎_elim
-    (λ goes. subst (λ (es : List Event). ((total : SourceLines) × IsRead es total) ⊎ ((fault : Fault) × Stops es fault)) (append_assoc before (event ∷ []) after) (read_or_stops (before ++ event ∷ []) after goes.0 goes.1))
-    (λ fails. inr (fails.0, record { source = source; event = event; before = before; after = after; stands = refl; read = is; fails = fails.1 }))
-    (event_goes before source is event)
+module _ (texts : List (List ℕ)) where
+  from_event : (before after : List Event) (source : SourceLines) → events_of texts ≡ before ++ after → IsRead before source → ((total : SourceLines) × IsReadable texts total) ⊎ ((fault : Fault) × IsReadingFault texts fault)
+  from_event before [] source are is = inl (source, subst (λ (es : List Event). IsRead es source) (sym (are ∙ append-nil before)) is)
+  from_event before (event ∷ after) source are is = ⊎_elim
+      (λ goes. from_event (before ++ event ∷ []) after goes.0 (are ∙ sym (append_assoc before (event ∷ []) after)) goes.1)
+      (λ fails. inr (fails.0, record { source = source; event = event; reached = record { before = before; after = after; stands = are; read = is }; fails = fails.1 }))
+      (event_goes before source is event)
+
+  pub read_or_stops : ((total : SourceLines) × IsReadable texts total) ⊎ ((fault : Fault) × IsReadingFault texts fault)
+  read_or_stops = from_event [] (events_of texts) no_lines refl none_read
 
 -- ---- reading stops at one fault
 
-pub read_never_stops : (events : List Event) (total : SourceLines) (fault : Fault) → IsRead events total → Stops events fault → ⊥
-read_never_stops events total fault is stops = read_passes stops.before stops.event stops.after stops.source total fault stops.read (subst (λ (es : List Event). IsRead es total) stops.stands is) stops.fails
+pub read_never_stops : (texts : List (List ℕ)) (total : SourceLines) (fault : Fault) → IsReadable texts total → IsReadingFault texts fault → ⊥
+read_never_stops texts total fault is stops =
+    let at = stops.reached in
+    read_passes at.before stops.event at.after stops.source total fault at.read (subst (λ (es : List Event). IsRead es total) at.stands is) stops.fails
 
 -- one list, cut at two places
 abbrev AtOne : List Event → Event → List Event → Event → Type 0
@@ -145,13 +141,16 @@ two_cuts (first ∷ before) event after (first' ∷ before') event' after' e =
     apart))
     (two_cuts before event after before' event' after' rest)
 
-pub stops_once : (events : List Event) (one other : Fault) → Stops events one → Stops events other → one ≡ other
-stops_once events one other a b = ⊎_elim
+pub stops_once : (texts : List (List ℕ)) (one other : Fault) → IsReadingFault texts one → IsReadingFault texts other → one ≡ other
+stops_once texts one other a b =
+    let at = a.reached in
+    let at' = b.reached in
+    ⊎_elim
     (λ (lists, event).
-    let sources : b.source ≡ a.source = read_once a.before b.source a.source (subst (λ (es : List Event). IsRead es b.source) (sym lists) b.read) a.read in
+    let sources : b.source ≡ a.source = read_once at.before b.source a.source (subst (λ (es : List Event). IsRead es b.source) (sym lists) at'.read) at.read in
     fails_once a.source a.event one other a.fails (subst (λ (s : SourceLines). Fails s a.event other) sources (subst (λ (e : Event). Fails b.source e other) (sym event) b.fails)))
     (λ apart. absurd (⊎_elim
-    (λ (between, is). read_passes a.before a.event between a.source b.source one a.read (subst (λ (es : List Event). IsRead es b.source) is b.read) a.fails)
-    (λ (between, is). read_passes b.before b.event between b.source a.source other b.read (subst (λ (es : List Event). IsRead es a.source) is a.read) b.fails)
+    (λ (between, is). read_passes at.before a.event between a.source b.source one at.read (subst (λ (es : List Event). IsRead es b.source) is at'.read) a.fails)
+    (λ (between, is). read_passes at'.before b.event between b.source a.source other at'.read (subst (λ (es : List Event). IsRead es a.source) is at.read) b.fails)
     apart))
-    (two_cuts a.before a.event a.after b.before b.event b.after (sym a.stands ∙ b.stands))
+    (two_cuts at.before a.event at.after at'.before b.event at'.after (sym at.stands ∙ at'.stands))

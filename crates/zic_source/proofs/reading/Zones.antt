@@ -1,5 +1,5 @@
 -- Zones and their lines, as what is said of them.
-use Rattle.std.proofs.Common.{◌≡◌, Bool, true, false, cond, List, [], ◌∷◌, ◌++◌, map, Some, None, refl, sym, ap, ◌∙◌, append_assoc}
+use Rattle.std.proofs.Common.{◌≡◌, ℕ, Bool, true, false, cond, List, [], ◌∷◌, ◌++◌, map, Some, None, refl, sym, ap, ◌∙◌, append_assoc}
 use Rattle.std.specs.Prelude.{flat_map, is_some}
 use Rattle.std.proofs.lemmas.List.{append-nil, map-append}
 use Rattle.zic_lines.specs.declared.zone_line.ZoneLine.{ZoneLine}
@@ -65,42 +65,25 @@ open_continued (zone ∷ zones) line e = continued_said line zone zones
 
 -- ---- zones are what is said of them
 
--- the continuation lines that a list begins with
-abbrev front_lines : List Entry → List ZoneLine
-front_lines [] = []
-front_lines (entries.Rule rule ∷ rest) = []
-front_lines (entries.Zone name line ∷ rest) = []
-front_lines (entries.Continuation line ∷ rest) = line ∷ front_lines rest
-front_lines (entries.Link link ∷ rest) = []
-
--- the zones of some lines: one at each Zone line
-abbrev zones_of : List Entry → List ZoneLines
-zones_of [] = []
-zones_of (entries.Rule rule ∷ rest) = zones_of rest
-zones_of (entries.Zone name line ∷ rest) = record { name = name; first = line; continuations = front_lines rest } ∷ zones_of rest
-zones_of (entries.Continuation line ∷ rest) = zones_of rest
-zones_of (entries.Link link ∷ rest) = zones_of rest
-
-front_of_zones : (zones : List ZoneLines) → front_lines (flat_map entries_of_zone zones) ≡ []
-front_of_zones [] = refl
-front_of_zones (zone ∷ zones) = refl
-
-front-append : (lines : List ZoneLine) (rest : List Entry) → front_lines (map entries.Continuation lines ++ rest) ≡ lines ++ front_lines rest
-front-append [] rest = refl
-front-append (line ∷ lines) rest = ap (λ (ls : List ZoneLine). line ∷ ls) (front-append lines rest)
-
-zones-append : (lines : List ZoneLine) (rest : List Entry) → zones_of (map entries.Continuation lines ++ rest) ≡ zones_of rest
-zones-append [] rest = refl
-zones-append (line ∷ lines) rest = zones-append lines rest
-
-zones_back : (zones : List ZoneLines) → zones_of (flat_map entries_of_zone zones) ≡ zones
-zones_back [] = refl
-zones_back (zone ∷ zones) =
-    let rest : List Entry = flat_map entries_of_zone zones in
-    let front : front_lines (map entries.Continuation zone.continuations ++ rest) ≡ zone.continuations = front-append zone.continuations rest ∙ ap (λ (ls : List ZoneLine). zone.continuations ++ ls) (front_of_zones zones) ∙ append-nil zone.continuations in
-    ap (λ (ls : List ZoneLine). record { name = zone.name; first = zone.first; continuations = ls } ∷ zones_of (map entries.Continuation zone.continuations ++ rest)) front
-    ∙ ap (λ (zs : List ZoneLines). zone ∷ zs) (zones-append zone.continuations rest ∙ zones_back zones)
+one_front : (lines lines' : List ZoneLine) (zones zones' : List ZoneLines) → (map entries.Continuation lines ++ flat_map entries_of_zone zones) ≡ (map entries.Continuation lines' ++ flat_map entries_of_zone zones')
+    → (lines ≡ lines') × (flat_map entries_of_zone zones ≡ flat_map entries_of_zone zones')
+one_front [] [] zones zones' e = (refl, e)
+one_front [] (line ∷ lines') [] zones' e = absurd cc
+one_front [] (line ∷ lines') (zone ∷ zones) zones' e = absurd cc
+one_front (line ∷ lines) [] zones [] e = absurd cc
+one_front (line ∷ lines) [] zones (zone ∷ zones') e = absurd cc
+one_front (line ∷ lines) (line' ∷ lines') zones zones' e = let rest = one_front lines lines' zones zones' cc in let same = rest.0 in (cc, rest.1)
 
 -- zones of which the same is said are the same
 pub same_zones : (zones others : List ZoneLines) → flat_map entries_of_zone zones ≡ flat_map entries_of_zone others → zones ≡ others
-same_zones zones others e = sym (zones_back zones) ∙ ap zones_of e ∙ zones_back others
+same_zones [] [] e = refl
+same_zones [] (other ∷ others) e = absurd cc
+same_zones (zone ∷ zones) [] e = absurd cc
+same_zones (zone ∷ zones) (other ∷ others) e =
+    let both = one_front zone.continuations other.continuations zones others cc in
+    let names : zone.name ≡ other.name = cc in
+    let firsts : zone.first ≡ other.first = cc in
+    ap (λ (name : List ℕ). record zone { name = name } ∷ zones) names
+    ∙ ap (λ (first : ZoneLine). record { name = other.name; first = first; continuations = zone.continuations } ∷ zones) firsts
+    ∙ ap (λ (lines : List ZoneLine). record other { continuations = lines } ∷ zones) both.0
+    ∙ ap (λ (zs : List ZoneLines). other ∷ zs) (same_zones zones others both.1)

@@ -1,0 +1,4 @@
+pub mod Leads
+pub mod Loops
+pub mod Passes
+pub mod FirstLines

@@ -1,0 +1,56 @@
+use Rattle.std.proofs.Common.{◌≡◌, ◌∷◌, [], ◌++◌, ℕ, false, true, cond, List, Option, Some, None, length, refl, sym, ap, subst, ◌∙◌, arith}
+use Rattle.std.specs.Prelude.{◌&&◌, is_some, flat_map, bytes_eq}
+use Rattle.std.proofs.lemmas.Result.{err_from_is_err_and}
+use Rattle.zic_lines.specs.declared.zone_line.ZoneLine.{ZoneLine}
+use Rattle.zic_source.specs.declared.names.Named.{Named}
+use Rattle.zic_source.specs.declared.names.Named.TheVariants as named
+use Rattle.zic_source.specs.Source.{SourceLines, ZoneLines, lines_of_zone}
+use Rattle.zic_source.specs.Checks.{has_room_for_line, has_room_for_name}
+use Rattle.zic_source.specs.code.Lines.{source_lines}
+use Rattle.zic_source.specs.code.Names.{who, IndexesNames}
+use Rattle.zic_source.proofs.lookups.Named.{looked_up, nobody_found, zone_kept}
+use Rattle.zic_source.proofs.events.Passes.{zone_passes, zone_counted}
+use Rattle.zic_source.proofs.reader.Reader.add_zone.Goals as goal
+
+pub returns-in_err-give-clause-memory : goal.returns-in_err-give-clause-memory
+returns-in_err-give-clause-memory c =
+    let p = err_from_is_err_and c.from_residual.result c.from_residual.ensures.1 in
+    let new = looked_up c.args.self.now.names (source_lines c.args.self.now.lines) c.args.name None false c.requires.names (sym c.in_err-give.ensures.memory) refl in
+    rw (p.1, p.2) (zone_passes _ _ _ new (sym c.has_room_for_zone.ensures ∙ c.if-not-has_room_for_zone.false))
+
+pub returns-then-is_some-clause-fault : goal.returns-then-is_some-clause-fault
+returns-then-is_some-clause-fault c =
+    let known = looked_up c.args.self.now.names (source_lines c.args.self.now.lines) c.args.name _ _ c.requires.names c.in_ok-give.ensures.had c.is_some.ensures ∙ c.if-is_some.true in
+    rw c.at-then-is_some.ensures (refl, rw known refl)
+
+pub returns-in_err-push-clause-memory : goal.returns-in_err-push-clause-memory
+returns-in_err-push-clause-memory c =
+    let p = err_from_is_err_and c.from_residual-in_err-push.result c.from_residual-in_err-push.ensures.1 in
+    let new = looked_up c.args.self.now.names (source_lines c.args.self.now.lines) c.args.name _ _ c.requires.names c.in_ok-give.ensures.had c.is_some.ensures ∙ c.if-is_some.false in
+    rw (p.1, p.2) (zone_passes _ _ _ new (sym c.has_room_for_zone.ensures ∙ c.if-not-has_room_for_zone.false))
+
+pub returns-clause-added : goal.returns-clause-added
+returns-clause-added c =
+    let lines = c.args.self.now.lines in
+    let new = looked_up c.args.self.now.names (source_lines lines) c.args.name _ _ c.requires.names c.in_ok-give.ensures.had c.is_some.ensures ∙ c.if-is_some.false in
+    record {
+      passes = zone_passes _ _ _ new (sym c.has_room_for_zone.ensures ∙ c.if-not-has_room_for_zone.false);
+      is = ap (λ (zones : List ZoneLines). record { rules = lines.rules.items; zones = zones; links = lines.links.items })
+          (c.in_ok-push.ensures.items ∙ ap (λ (more : List ZoneLine). lines.zones.items ++ record { name = c.args.name; first = c.args.line; continuations = more } ∷ []) c.new.ensures.items);
+    }
+
+pub returns-clause-tracks : goal.returns-clause-tracks
+returns-clause-tracks c =
+    let lines = c.args.self.now.lines in
+    let names = c.args.self.now.names in
+    let zone : ZoneLines = record { name = c.args.name; first = c.args.line; continuations = c.new.result.items } in
+    let new = looked_up names (source_lines lines) c.args.name _ _ c.requires.names c.in_ok-give.ensures.had c.is_some.ensures ∙ c.if-is_some.false in
+    let number : c.len-number.result ≡ length lines.zones.items = omega (arith, lines.zones.ok.0) in
+    let given = c.in_ok-give.ensures.given (nobody_found c.in_ok-give.field-0 c.is_some.result c.is_some.ensures c.if-is_some.false) in
+    record {
+      sets = c.requires.sets;
+      names = subst (λ (zones : List ZoneLines). IndexesNames c.give.new.self (record { rules = lines.rules.items; zones = zones; links = lines.links.items })) (sym c.in_ok-push.ensures.items)
+          (zone_kept names c.give.new.self (source_lines lines) zone c.requires.names new
+          (λ other. given other ∙ ap (λ (n : ℕ). cond (bytes_eq c.args.name other) (Some (named.Zone n)) (who names other)) number));
+      counted = omega (arith, ap (λ (zones : List ZoneLines). length (flat_map lines_of_zone zones)) c.in_ok-push.ensures.items, zone_counted lines.zones.items zone c.new.ensures.items, c.requires.counted);
+    }
