@@ -13,13 +13,13 @@ use Rattle.zic_source.specs.Event.{events_of}
 use Rattle.zic_source.specs.Source.{SourceLines, ZoneLines, lines_of_zone, zone_lines_of, entries_of_zone}
 use Rattle.zic_source.specs.Grammar.{said, is_open, IsSource}
 use Rattle.zic_source.specs.Whole.{is_unknown}
-use Rattle.zic_source.specs.Sound.{IsSoundRule, IsSoundLine, IsSoundZone, names_of, IsSoundSource}
+use Rattle.zic_source.specs.Sound.{IsSoundRule, IsSoundLine, IsSoundZone, IsSoundLink, names_of, IsSoundSource}
 use Rattle.zic_source.proofs.Elements.{only_one, into_flat_map}
 use Rattle.zic_source.proofs.Counts.{times, once_differ}
 use Rattle.zic_source.proofs.reading.Zones.{lines_in}
 use Rattle.zic_source.proofs.reading.Limits.{OfSet, Rules, Lines, Names, OfName, bearers}
 use Rattle.zic_source.proofs.reading.Read.{entries_of, Read, is_read}
-use Rattle.zic_source.proofs.reading.Said.{IsSaid, is_said, rule_is_said, line_is_said, zone_is_said}
+use Rattle.zic_source.proofs.reading.Said.{IsSaid, is_said, rule_is_said, link_is_said, line_is_said, zone_is_said}
 use Rattle.zic_source.proofs.sound.Lines.{rule_sound, line_sound}
 use Rattle.zic_source.proofs.sound.Untils.{Follow, texts_closed, zones_follow, have_untils}
 
@@ -78,11 +78,16 @@ module _ (texts : List (List ℕ)) (source : SourceLines) (is : IsSource texts s
         untils = have_untils source.zones zones_in_turn zone has;
       }
 
+  link_is_sound : (link : Link) → Contains source.links link → IsSoundLink source link
+  link_is_sound link has =
+      let said = entry_said (entries.Link link) (link_is_said source (entries_of read.statements) read.is link has) in
+      record { target = said.2.1.has_target; name = said.2.1.named; ends = is.whole.links link has }
+
   pub source_is_sound : IsSoundSource source
   source_is_sound = record {
     rules = each IsSoundRule source.rules rule_is_sound;
     zones = each (IsSoundZone source.rules) source.zones zone_is_sound;
-    links = each _ source.links is.whole.links;
+    links = each (IsSoundLink source) source.links link_is_sound;
     names_differ = once_differ (names_of source) (λ name. omega (arith, names_times source name, read.within (OfName name)));
     small_sets = λ name. read.within (OfSet name);
     few_rules = read.within Rules;
