@@ -7,4 +7,4 @@ pub returns-clause-ok : goal.returns-clause-ok
 returns-clause-ok c =
     let reads = subst (λ (octets : List ℕ). IsFile octets c.in_ok-zone.zone) c.deref.ensures.value c.in_ok-zone.ensures in
     is_file_of c.args.source.now c.args.zone c.zone_name.result.now c.in_ok-name.name.items c.in_ok-octets.octets.items c.in_ok-zone.zone
-    c.requires.zone c.zone_name.ensures c.in_ok-name.ensures.items c.in_ok-octets.ensures.ok reads
+    c.requires.zone c.zone_name.ensures.name c.in_ok-name.ensures.items c.in_ok-octets.ensures.ok reads
