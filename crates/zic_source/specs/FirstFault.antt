@@ -1,5 +1,5 @@
--- Which fault of some texts is the first: own choice. It is that of the first line or end of which a check fails where all that
--- comes before is read; only where all is read is something wrong with the source as a whole.
+-- Which fault of some texts is the first: own choice. It is the fault of the first line or text's end that can't be read after what
+-- comes before it; only where all is read is it the first of the source as a whole.
 use Rattle.std.specs.Prelude.{◌≡◌, ◌≤◌, ℕ, List, ◌∷◌, ◌++◌, Some, ◌⊎◌, length, IsSomeAnd}
 use Rattle.zic_base.specs.declared.fault.Fault.{Fault}
 use Rattle.zic_base.specs.declared.fault.Kind.TheVariants.{NoContinuation}
@@ -8,6 +8,7 @@ use Rattle.zic_lines.specs.declared.entry.Entry.{Entry}
 use Rattle.zic_lines.specs.Entry.{is_continuation}
 use Rattle.zic_lines.specs.Line.{PlacedLine}
 use Rattle.zic_lines.specs.Grammar.{Says}
+use Rattle.zic_lines.specs.declared.field.TheConstants.{LONGEST_LINE}
 use Rattle.zic_lines.specs.Checks.{line_checks}
 use Rattle.zic_source.specs.Event.{Event, Line, End, events_of}
 use Rattle.zic_source.specs.Source.{SourceLines}
@@ -45,8 +46,9 @@ pub record IsReadingFault (texts : List (List ℕ)) (fault : Fault) : Type 0 whe
 abbrev pub IsFirstFault : List (List ℕ) → Fault → Type 0
 IsFirstFault texts fault = IsReadingFault texts fault ⊎ ((source : SourceLines) × IsReadable texts source × HasFirst source fault)
 
--- Memory may be wanted: for a line that isn't too long, before which all is read, or where all is read.
+-- Memory may be wanted: for a line that isn't too long, before which all is read, or where all is read. Where the first line of all
+-- is too long it may not; beyond that no place can be told, since the answer has none.
 abbrev pub MayWantMemory : List (List ℕ) → Type 0
 MayWantMemory texts =
-    ((source : SourceLines) × (line : PlacedLine) × IsReached texts source (Line line) × (length line.bytes ≤ 2048))
+    ((source : SourceLines) × (line : PlacedLine) × IsReached texts source (Line line) × (length line.bytes ≤ LONGEST_LINE))
     ⊎ ((source : SourceLines) × IsReadable texts source)

@@ -5,7 +5,7 @@ ghost use Rattle.std.specs.Option.{ForSome};
 ghost use Rattle.zic_words.specs.Name.{is_name};
 ghost use Rattle.zic_source.specs.Source.{zone_at, lines_of_zone, set_rules};
 ghost use Rattle.zic_source.specs.Links.{EndsAt};
-ghost use Rattle.zic_source.specs.Sound.{IsSoundSource, IsSoundRule, IsSoundLine};
+ghost use Rattle.zic_source.specs.Sound.{IsSoundSource, IsSoundRule, IsSoundLine, IsSoundLink};
 
 use crate::lines::Lines;
 use crate::sets::Sets;
@@ -107,7 +107,8 @@ impl Source {
     /// A link, by its number from 0 in the order of the texts and their lines.
     pub fn link(&self, link: usize) -> &Link
         requires { link < length self.now.links }
-        ensures { slice_get self.now.links link ≡ Some result.now }
+        ensures link { slice_get self.now.links link ≡ Some result.now }
+        ensures sound { IsSoundLink self.now result.now }
     {
         &self.lines.links[link]
     }
