@@ -1,7 +1,7 @@
 //! Source text, with outside values.
 
-mod limits;
 mod found;
+mod limits;
 mod links;
 mod sample;
 mod zones;
@@ -478,7 +478,8 @@ fn twenty_texts(rt: HostRuntime) -> Result<(), Fail> {
     let alloc = rt.alloc();
     let mut texts = Vec::new(alloc);
     for number in 0u32..20 {
-        let lines = "Rule S 2000 max - Jan 1 0 0 -\nZone Z# 0 - A 2000\n1 S B 2001 Jan 1 0\n2 - C\nLink Z# L#\n";
+        let lines =
+            "Rule S 2000 max - Jan 1 0 0 -\nZone Z# 0 - A 2000\n1 S B 2001 Jan 1 0\n2 - C\nLink Z# L#\n";
         let mut text = Vec::new(alloc);
         for byte in lines.as_bytes() {
             if *byte == b'#' {

@@ -50,7 +50,11 @@ fn links_have_their_zones(rt: HostRuntime) -> Result<(), Fail> {
     let zones = [1, 1, 0, 0];
     assert_eq!(rt; source.links(), zones.len());
     for link in 0..source.links() {
-        assert_eq!(rt; zones.get(link).copied(), Some(source.link_zone(link)), "link {link}");
+        assert_eq!(rt;
+            zones.get(link).copied(),
+            Some(source.link_zone(link)),
+            "link {link}"
+        );
     }
     Ok(())
 }
