@@ -4,5 +4,4 @@ pub mod Counts
 pub mod reading
 pub mod links
 pub mod faults
-pub mod WordRanges
 pub mod sound
