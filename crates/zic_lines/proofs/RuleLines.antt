@@ -166,13 +166,13 @@ module _ {texts : List (List ℕ)} {keyword name from to reserved month day time
   module _ (named : is_set_name name ≡ true) where
     pub years_fail : (kind : Kind) → first_failed (year_checks from to) ≡ Some kind → first_failed (rule_checks texts) ≡ Some kind
     years_fail kind e = checks_are (Some kind) (rw named (first_failed-stops (year_checks from to)
-      (check (is_dash reserved) Reserved
-      ∷ check (is_some (month_of month)) Month
-      ∷ check (is_some (rule_day_of from to month day)) Day
-      ∷ check (is_some (clock_time_of time)) Time
-      ∷ check (is_some (saving_of save)) Save
-      ∷ check (is_some (letter_of letter)) Letter
-      ∷ []) kind e))
+        (check (is_dash reserved) Reserved
+        ∷ check (is_some (month_of month)) Month
+        ∷ check (is_some (rule_day_of from to month day)) Day
+        ∷ check (is_some (clock_time_of time)) Time
+        ∷ check (is_some (saving_of save)) Save
+        ∷ check (is_some (letter_of letter)) Letter
+        ∷ []) kind e))
 
     module _ (years : Years) (say_years : SayYears from to years) where
       pub not_reserved : is_dash reserved ≡ false → first_failed (rule_checks texts) ≡ Some Reserved
@@ -181,7 +181,7 @@ module _ {texts : List (List ℕ)} {keyword name from to reserved month day time
       module _ (unused : is_dash reserved ≡ true) where
         pub moment_fails : (kind : Kind) → first_failed (moment_checks years month day time) ≡ Some kind → first_failed (rule_checks texts) ≡ Some kind
         moment_fails kind e = checks_are (Some kind) (rw (named, say_years.begins, say_years.ends, say_years.in_order, unused)
-          (first_failed-stops (moment_checks years month day time) (check (is_some (saving_of save)) Save ∷ check (is_some (letter_of letter)) Letter ∷ []) kind e))
+            (first_failed-stops (moment_checks years month day time) (check (is_some (saving_of save)) Save ∷ check (is_some (letter_of letter)) Letter ∷ []) kind e))
 
         -- the checks after those of IN, ON and AT decide
         pub last_checks : (moment : Moment) → SayMoment years month day time moment → first_failed (rule_checks texts) ≡ first_failed (check (is_some (saving_of save)) Save ∷ check (is_some (letter_of letter)) Letter ∷ [])

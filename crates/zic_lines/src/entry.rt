@@ -1,13 +1,13 @@
 //! What one line says.
 
-ghost use Rattle.std.specs.Prelude.{◌≡◌, ◌<◌, OnOk, IfOk, IfErr, Some, None, length, map};
-ghost use Rattle.std.specs.Cow.{cow_slice_items};
+ghost use Rattle.std.specs.Prelude.{◌≡◌, ◌<◌, OnOk, IfOk, IfErr, Some, None, length};
 ghost use Rattle.zic_base.specs.Check.{first_failed};
 ghost use Rattle.zic_base.specs.Fault.{fault_of, IsFirstFailed};
 ghost use Rattle.zic_base.specs.Memory.{IfRefusal, OnWantOfMemory};
 ghost use Rattle.zic_lines.specs.Entry.{is_continuation};
 ghost use Rattle.zic_lines.specs.Grammar.{FieldsSay};
 ghost use Rattle.zic_lines.specs.Checks.{field_checks, keyword_checks};
+ghost use Rattle.zic_lines.specs.code.Texts.{texts_of};
 
 use crate::field::Fields;
 use crate::link::{Link, link_line};
@@ -37,17 +37,21 @@ fn parse_entry(
     fields: &[CowSlice<'_, u8>],
 ) -> Result<Result<Entry, AllocError>, Kind>
     requires { 0 < length fields.now }
-    ensures ok { OnOk result (first_failed (field_checks awaited (map cow_slice_items fields.now)) ≡ None) }
-    ensures says { IfOk result (λ made. IfOk made (λ entry. FieldsSay place (map cow_slice_items fields.now) (Some entry))) }
+    ensures ok { OnOk result (first_failed (field_checks awaited (texts_of fields.now)) ≡ None) }
+    ensures says { IfOk result
+        (λ made. IfOk made (λ entry. FieldsSay place (texts_of fields.now) (Some entry))) }
     ensures awaited { IfOk result (λ made. IfOk made (λ entry. is_continuation entry ≡ awaited)) }
-    ensures fault { IfErr result (λ kind. first_failed (field_checks awaited (map cow_slice_items fields.now)) ≡ Some kind) }
+    ensures fault { IfErr result
+        (λ kind. first_failed (field_checks awaited (texts_of fields.now)) ≡ Some kind) }
 {
     if awaited {
         return Ok(continuation_line(alloc, place, fields)?.map(Entry::Continuation));
     }
     match parse_keyword(fields[0].as_slice()) {
         Some(Keyword::Rule) => Ok(rule_line(alloc, place, fields)?.map(Entry::Rule)),
-        Some(Keyword::Zone) => Ok(zone_line(alloc, place, fields)?.map(|zone| Entry::Zone(zone.0, zone.1))),
+        Some(Keyword::Zone) => Ok(zone_line(alloc, place, fields)?.map(|zone| Entry::Zone(
+            zone.0, zone.1,
+        ))),
         Some(Keyword::Link) => Ok(link_line(alloc, place, fields)?.map(Entry::Link)),
         None => Err(Kind::Keyword),
     }
@@ -61,9 +65,11 @@ pub fn line_entry(
     fields: &Fields,
 ) -> Result<Entry, Stop>
     requires { 0 < length fields.now }
-    ensures says { IfOk result (λ entry. FieldsSay place fields.now (Some entry) × (is_continuation entry ≡ awaited)) }
+    ensures says { IfOk result
+        (λ entry. FieldsSay place fields.now (Some entry) × (is_continuation entry ≡ awaited)) }
     ensures fault { IfRefusal fault_of result (IsFirstFailed place (field_checks awaited fields.now)) }
-    ensures memory { OnWantOfMemory fault_of result (first_failed (field_checks awaited fields.now) ≡ None) }
+    ensures memory { OnWantOfMemory fault_of result
+        (first_failed (field_checks awaited fields.now) ≡ None) }
 {
     match parse_entry(alloc, awaited, place, fields.texts()) {
         Ok(entry) => Ok(entry?),

@@ -1,12 +1,13 @@
 //! The fields of a line.
 
-ghost use Rattle.std.specs.Prelude.{◌≡◌, ◌≤◌, false, [], length, map, slice_range, IfOk, OnOk};
+ghost use Rattle.std.specs.Prelude.{◌≡◌, ◌≤◌, false, [], length, slice_range, IfOk, OnOk};
 ghost use Rattle.std.specs.Cow.{cow_slice_items};
 ghost use Rattle.zic_base.specs.Fault.{fault_of, IsFirstFailed};
 ghost use Rattle.zic_base.specs.Memory.{IfRefusal, OnWantOfMemory};
 ghost use Rattle.zic_lines.specs.Field.{is_space, is_allowed, dash_if_empty, fields};
 ghost use Rattle.zic_lines.specs.Grammar.{IsLine};
 ghost use Rattle.zic_lines.specs.Checks.{byte_checks};
+ghost use Rattle.zic_lines.specs.code.Texts.{texts_of};
 ghost use Rattle.zic_lines.specs.code.Taken.{role_of, is_plain, ArePlain, without_quotes, begun_text, ended_fields};
 
 use std::alloc::{AllocError, Global};
@@ -134,7 +135,7 @@ impl<'a> Fields<'a> {
 
     /// The texts of the fields.
     pub(crate) fn texts(&self) -> &[CowSlice<'a, u8>]
-        ensures { map cow_slice_items result.now ≡ self.now }
+        ensures { texts_of result.now ≡ self.now }
     {
         &self.texts
     }

@@ -62,8 +62,12 @@ fn conversion(alloc: Global, before: &[u8], rest: &[u8]) -> Option<Result<Format
     ensures format { IfSome result (λ made. IfOk made (λ format. conversion before.now rest.now ≡ Some format)) }
 {
     match rest {
-        [b's', after @ ..] => Some(parts(alloc, before, after).map(|parts| Format::Letter(parts.0, parts.1))),
-        [b'z', after @ ..] => Some(parts(alloc, before, after).map(|parts| Format::Offset(parts.0, parts.1))),
+        [b's', after @ ..] => Some(parts(alloc, before, after).map(|parts| Format::Letter(
+            parts.0, parts.1,
+        ))),
+        [b'z', after @ ..] => Some(parts(alloc, before, after).map(|parts| Format::Offset(
+            parts.0, parts.1,
+        ))),
         _ => None,
     }
 }

@@ -1,12 +1,11 @@
 //! Link lines.
 
-ghost use Rattle.std.specs.Prelude.{◌≡◌, OnOk, IfOk, IfErr, Some, None, [], map, slice_index_or};
-ghost use Rattle.std.specs.Cow.{cow_slice_items};
+ghost use Rattle.std.specs.Prelude.{◌≡◌, OnOk, IfOk, IfErr, Some, None};
 ghost use Rattle.zic_base.specs.Check.{first_failed};
-ghost use Rattle.zic_words.specs.Keyword.{keyword_of};
 ghost use Rattle.zic_words.specs.declared.keyword.Keyword.TheVariants as keywords;
 ghost use Rattle.zic_lines.specs.Checks.{link_checks};
 ghost use Rattle.zic_lines.specs.LinkLine.{IsLinkLine};
+ghost use Rattle.zic_lines.specs.code.Texts.{texts_of, BeginsWith};
 
 use std::alloc::{AllocError, Global};
 use std::borrow::CowSlice;
@@ -47,10 +46,11 @@ pub(crate) fn link_line(
     place: Place,
     fields: &[CowSlice<'_, u8>],
 ) -> Result<Result<Link, AllocError>, Kind>
-    requires { keyword_of (slice_index_or (map cow_slice_items fields.now) 0 []) ≡ Some keywords.Link }
-    ensures ok { OnOk result (first_failed (link_checks (map cow_slice_items fields.now)) ≡ None) }
-    ensures says { IfOk result (λ made. IfOk made (IsLinkLine place (map cow_slice_items fields.now))) }
-    ensures fault { IfErr result (λ kind. first_failed (link_checks (map cow_slice_items fields.now)) ≡ Some kind) }
+    requires { BeginsWith keywords.Link (texts_of fields.now) }
+    ensures ok { OnOk result (first_failed (link_checks (texts_of fields.now)) ≡ None) }
+    ensures says { IfOk result (λ made. IfOk made (IsLinkLine place (texts_of fields.now))) }
+    ensures fault { IfErr result
+        (λ kind. first_failed (link_checks (texts_of fields.now)) ≡ Some kind) }
 {
     let [_, target, name] = fields else {
         return Err(Kind::FieldCount);

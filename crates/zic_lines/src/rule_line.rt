@@ -1,13 +1,12 @@
 //! Rule lines.
 
-ghost use Rattle.std.specs.Prelude.{◌≡◌, OnOk, IfOk, IfErr, Some, None, [], map, slice_index_or};
-ghost use Rattle.std.specs.Cow.{cow_slice_items};
+ghost use Rattle.std.specs.Prelude.{◌≡◌, OnOk, IfOk, IfErr, Some, None};
 ghost use Rattle.zic_base.specs.Check.{first_failed};
-ghost use Rattle.zic_words.specs.Keyword.{keyword_of};
 ghost use Rattle.zic_words.specs.declared.keyword.Keyword.TheVariants as keywords;
 ghost use Rattle.zic_lines.specs.Checks.{rule_checks};
 ghost use Rattle.zic_lines.specs.RuleLine.{IsRuleLine};
 ghost use Rattle.zic_lines.specs.code.LineParts.{year_checks, SayYears, moment_checks, SayMoment, rule_with};
+ghost use Rattle.zic_lines.specs.code.Texts.{texts_of, BeginsWith};
 
 use crate::moment::Moment;
 use crate::rule::Rule;
@@ -15,8 +14,8 @@ use std::alloc::{AllocError, Global};
 use std::borrow::CowSlice;
 use zic_base::{Kind, Place};
 use zic_words::{
-    Letter, Saving, SetName, clock_time, ends_before, is_dash, is_one_leap_year, last_year, parse_day_form,
-    parse_month, parse_year, save,
+    Letter, Saving, SetName, clock_time, ends_before, is_dash, is_one_leap_year, last_year,
+    parse_day_form, parse_month, parse_year, save,
 };
 
 /// The years of a rule.
@@ -47,7 +46,8 @@ fn rule_years(from: &[u8], to: &[u8]) -> Result<Years, Kind>
 /// IN, ON and AT of a rule for these years.
 fn rule_moment(years: Years, month: &[u8], day: &[u8], time: &[u8]) -> Result<Moment, Kind>
     ensures says { IfOk result (SayMoment years month.now day.now time.now) }
-    ensures fault { IfErr result (λ kind. first_failed (moment_checks years month.now day.now time.now) ≡ Some kind) }
+    ensures fault { IfErr result
+        (λ kind. first_failed (moment_checks years month.now day.now time.now) ≡ Some kind) }
 {
     let Some(month) = parse_month(month) else {
         return Err(Kind::Month);
@@ -71,7 +71,8 @@ fn rule_of(
     letter: Letter,
 ) -> Result<Rule, AllocError>
     ensures name { IfOk result (λ rule. name ≡ Ok rule.name) }
-    ensures parts { IfOk result (λ rule. rule ≡ rule_with place rule.name years moment saving letter) }
+    ensures parts { IfOk result
+        (λ rule. rule ≡ rule_with place rule.name years moment saving letter) }
 {
     Ok(Rule {
         place,
@@ -90,10 +91,11 @@ pub(crate) fn rule_line(
     place: Place,
     fields: &[CowSlice<'_, u8>],
 ) -> Result<Result<Rule, AllocError>, Kind>
-    requires { keyword_of (slice_index_or (map cow_slice_items fields.now) 0 []) ≡ Some keywords.Rule }
-    ensures ok { OnOk result (first_failed (rule_checks (map cow_slice_items fields.now)) ≡ None) }
-    ensures says { IfOk result (λ made. IfOk made (IsRuleLine place (map cow_slice_items fields.now))) }
-    ensures fault { IfErr result (λ kind. first_failed (rule_checks (map cow_slice_items fields.now)) ≡ Some kind) }
+    requires { BeginsWith keywords.Rule (texts_of fields.now) }
+    ensures ok { OnOk result (first_failed (rule_checks (texts_of fields.now)) ≡ None) }
+    ensures says { IfOk result (λ made. IfOk made (IsRuleLine place (texts_of fields.now))) }
+    ensures fault { IfErr result
+        (λ kind. first_failed (rule_checks (texts_of fields.now)) ≡ Some kind) }
 {
     let [_, name, from, to, reserved, month, day, time, saved, letter] = fields else {
         return Err(Kind::FieldCount);

@@ -4,7 +4,10 @@ use super::*;
 use std::alloc::Global;
 use std::test::Fail;
 use zic_calendar::On;
-use zic_words::ClockForm;
+use zic_words::{ClockForm, ClockTime};
+
+/// One byte more than a line may have.
+const LINE_TOO_LONG: [u8; 2049] = [b' '; 2049];
 
 const PLACE: Place = Place { text: 1, line: 7 };
 
@@ -36,9 +39,12 @@ fn rule_line(rt: HostRuntime) -> Result<(), Fail> {
     assert_eq!(rt; rule.place, PLACE);
     assert_eq!(rt; rule.name.octets(), b"US".as_slice());
     assert_eq!(rt; (rule.first, rule.last), (1967, Some(2006)));
-    assert_eq!(rt; (rule.month, rule.on), (10, On::Last(0)));
-    assert_eq!(rt; (rule.at, rule.form), (7200, ClockForm::Standard));
-    assert_eq!(rt; (rule.save, rule.daylight), (0, false));
+    assert_eq!(rt; (rule.moment.month, rule.moment.on), (10, On::Last(0)));
+    assert_eq!(rt;
+        (rule.moment.at.seconds, rule.moment.at.form),
+        (7200, ClockForm::Standard)
+    );
+    assert_eq!(rt; (rule.saving.seconds, rule.saving.daylight), (0, false));
     assert_eq!(rt; rule.letter.octets(), b"S".as_slice());
     Ok(())
 }
@@ -53,13 +59,15 @@ fn zone_line(rt: HostRuntime) -> Result<(), Fail> {
     assert_eq!(rt; (zone.place, zone.offset), (PLACE, -17_762));
     assert!(rt; matches!(zone.rules, Rules::Standard));
     assert!(rt; matches!(&zone.format, Format::Plain(text) if text.octets() == b"LMT".as_slice()));
-    let until = Until {
-        year: 1883,
+    let moment = Moment {
         month: 11,
         on: On::Day(18),
-        at: 61_200,
-        form: ClockForm::Universal,
+        at: ClockTime {
+            seconds: 61_200,
+            form: ClockForm::Universal,
+        },
     };
+    let until = Until { year: 1883, moment };
     assert_eq!(rt; zone.until, Some(until));
     Ok(())
 }
@@ -94,15 +102,29 @@ fn link_line(rt: HostRuntime) -> Result<(), Fail> {
 #[test]
 fn blank_lines_and_faults(rt: HostRuntime) -> Result<(), Fail> {
     assert!(rt; matches!(entry(rt.alloc(), false, b" \t # nothing")?, Ok(None)));
-    let rows: [(&[u8], Kind); 4] = [
+    let rows: [(&[u8], Kind); 7] = [
+        (&LINE_TOO_LONG, Kind::LineTooLong),
         (b"Zone \x80 \"A", Kind::NotAscii),
         (b"Zone \"A 0 - UTC", Kind::Quote),
         (b"Zonk A 0 - UTC", Kind::Keyword),
         (b"Link A", Kind::FieldCount),
+        (b"Link // A", Kind::Name),
+        (b"Rule A 2000 only x Nox 1 0 0 -", Kind::Reserved),
     ];
     for (line, kind) in rows {
         let found = entry(rt.alloc(), false, line)?.err();
         assert_eq!(rt; found, Some(kind), "{line:?}");
     }
+    Ok(())
+}
+
+#[test]
+fn most_bytes_and_fields(rt: HostRuntime) -> Result<(), Fail> {
+    let line = [b' '; LONGEST_LINE];
+    assert!(rt; matches!(entry(rt.alloc(), false, &line)?, Ok(None)));
+    let seven = entry(rt.alloc(), true, b"0 - UTC 2000 Mar 1 2:00")?;
+    assert!(rt; matches!(seven, Ok(Some(Entry::Continuation(_)))));
+    let eight = entry(rt.alloc(), true, b"0 - UTC 2000 Mar 1 2:00 x")?;
+    assert_eq!(rt; eight.err(), Some(Kind::FieldCount));
     Ok(())
 }

@@ -1,8 +1,8 @@
 //! The UNTIL of a zone's line.
 
-ghost use Rattle.std.specs.Prelude.{◌≡◌, ◌≤◌, length, map};
-ghost use Rattle.std.specs.Cow.{cow_slice_items};
+ghost use Rattle.std.specs.Prelude.{◌≡◌, ◌≤◌, length};
 ghost use Rattle.zic_lines.specs.Until.{until_of, until_at};
+ghost use Rattle.zic_lines.specs.code.Texts.{texts_of};
 
 use crate::moment::Moment;
 use std::borrow::CowSlice;
@@ -35,14 +35,19 @@ fn until_at(year: &[u8], month: &[u8], day: &[u8], time: &[u8]) -> Option<Until>
 #[tactic(auto, unfolding(crate::specs::Until::until_of))]
 pub(crate) fn parse_until(fields: &[CowSlice<'_, u8>]) -> Option<Option<Until>>
     requires { length fields.now ≤ 4 }
-    ensures { result ≡ until_of (map cow_slice_items fields.now) }
+    ensures { result ≡ until_of (texts_of fields.now) }
 {
     let until = match fields {
         [] => return Some(None),
         [year] => until_at(year.as_slice(), b"Jan", b"1", b"-")?,
         [year, month] => until_at(year.as_slice(), month.as_slice(), b"1", b"-")?,
         [year, month, day] => until_at(year.as_slice(), month.as_slice(), day.as_slice(), b"-")?,
-        [year, month, day, time, ..] => until_at(year.as_slice(), month.as_slice(), day.as_slice(), time.as_slice())?,
+        [year, month, day, time, ..] => until_at(
+            year.as_slice(),
+            month.as_slice(),
+            day.as_slice(),
+            time.as_slice(),
+        )?,
     };
     Some(Some(until))
 }

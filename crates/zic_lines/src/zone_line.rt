@@ -1,12 +1,11 @@
 //! Zone lines and continuation lines.
 
-ghost use Rattle.std.specs.Prelude.{◌≡◌, ◌≤◌, ◌∷◌, OnOk, IfOk, IfErr, Some, None, [], length, map, slice_index_or};
-ghost use Rattle.std.specs.Cow.{cow_slice_items};
+ghost use Rattle.std.specs.Prelude.{◌≡◌, ◌≤◌, ◌∷◌, OnOk, IfOk, IfErr, Some, None, length};
 ghost use Rattle.zic_base.specs.Check.{first_failed};
-ghost use Rattle.zic_words.specs.Keyword.{keyword_of};
 ghost use Rattle.zic_words.specs.declared.keyword.Keyword.TheVariants as keywords;
 ghost use Rattle.zic_lines.specs.Checks.{zone_part_checks, zone_checks, continuation_checks};
 ghost use Rattle.zic_lines.specs.ZoneLine.{IsZoneLine, IsContinuationLine};
+ghost use Rattle.zic_lines.specs.code.Texts.{texts_of, BeginsWith};
 
 use crate::format::{Format, parse_format};
 use crate::rules::{Rules, parse_rules};
@@ -41,9 +40,12 @@ fn zone_part(
     until: &[CowSlice<'_, u8>],
 ) -> Result<Result<ZoneLine, AllocError>, Kind>
     requires { length until.now ≤ 4 }
-    ensures ok { OnOk result (first_failed (zone_part_checks stdoff.now rules.now format.now (map cow_slice_items until.now)) ≡ None) }
-    ensures says { IfOk result (λ made. IfOk made (IsContinuationLine place (stdoff.now ∷ rules.now ∷ format.now ∷ map cow_slice_items until.now))) }
-    ensures fault { IfErr result (λ kind. first_failed (zone_part_checks stdoff.now rules.now format.now (map cow_slice_items until.now)) ≡ Some kind) }
+    ensures ok { OnOk result
+        (first_failed (zone_part_checks stdoff.now rules.now format.now (texts_of until.now)) ≡ None) }
+    ensures says { IfOk result
+        (λ made. IfOk made (IsContinuationLine place (stdoff.now ∷ rules.now ∷ format.now ∷ texts_of until.now))) }
+    ensures fault { IfErr result
+        (λ kind. first_failed (zone_part_checks stdoff.now rules.now format.now (texts_of until.now)) ≡ Some kind) }
 {
     let Some(offset) = offset(stdoff) else {
         return Err(Kind::Offset);
@@ -87,9 +89,11 @@ pub(crate) fn continuation_line(
     place: Place,
     fields: &[CowSlice<'_, u8>],
 ) -> Result<Result<ZoneLine, AllocError>, Kind>
-    ensures ok { OnOk result (first_failed (continuation_checks (map cow_slice_items fields.now)) ≡ None) }
-    ensures says { IfOk result (λ made. IfOk made (IsContinuationLine place (map cow_slice_items fields.now))) }
-    ensures fault { IfErr result (λ kind. first_failed (continuation_checks (map cow_slice_items fields.now)) ≡ Some kind) }
+    ensures ok { OnOk result (first_failed (continuation_checks (texts_of fields.now)) ≡ None) }
+    ensures says { IfOk result
+        (λ made. IfOk made (IsContinuationLine place (texts_of fields.now))) }
+    ensures fault { IfErr result
+        (λ kind. first_failed (continuation_checks (texts_of fields.now)) ≡ Some kind) }
 {
     let [stdoff, rules, format, until @ ..] = fields else {
         return Err(Kind::FieldCount);
@@ -97,7 +101,14 @@ pub(crate) fn continuation_line(
     if until.len() > 4 {
         return Err(Kind::FieldCount);
     }
-    zone_part(alloc, place, stdoff.as_slice(), rules.as_slice(), format.as_slice(), until)
+    zone_part(
+        alloc,
+        place,
+        stdoff.as_slice(),
+        rules.as_slice(),
+        format.as_slice(),
+        until,
+    )
 }
 
 /// What the fields of a Zone line say: the zone's name, and its first line.
@@ -106,10 +117,12 @@ pub(crate) fn zone_line(
     place: Place,
     fields: &[CowSlice<'_, u8>],
 ) -> Result<Result<(Name, ZoneLine), AllocError>, Kind>
-    requires { keyword_of (slice_index_or (map cow_slice_items fields.now) 0 []) ≡ Some keywords.Zone }
-    ensures ok { OnOk result (first_failed (zone_checks (map cow_slice_items fields.now)) ≡ None) }
-    ensures says { IfOk result (λ made. IfOk made (λ zone. IsZoneLine place (map cow_slice_items fields.now) zone.0 zone.1)) }
-    ensures fault { IfErr result (λ kind. first_failed (zone_checks (map cow_slice_items fields.now)) ≡ Some kind) }
+    requires { BeginsWith keywords.Zone (texts_of fields.now) }
+    ensures ok { OnOk result (first_failed (zone_checks (texts_of fields.now)) ≡ None) }
+    ensures says { IfOk result
+        (λ made. IfOk made (λ zone. IsZoneLine place (texts_of fields.now) zone.0 zone.1)) }
+    ensures fault { IfErr result
+        (λ kind. first_failed (zone_checks (texts_of fields.now)) ≡ Some kind) }
 {
     let [_, name, stdoff, rules, format, until @ ..] = fields else {
         return Err(Kind::FieldCount);
@@ -120,12 +133,22 @@ pub(crate) fn zone_line(
     let Some(name) = Name::parse(alloc, name.as_slice()) else {
         return Err(Kind::Name);
     };
-    let line = zone_part(alloc, place, stdoff.as_slice(), rules.as_slice(), format.as_slice(), until)?;
+    let line = zone_part(
+        alloc,
+        place,
+        stdoff.as_slice(),
+        rules.as_slice(),
+        format.as_slice(),
+        until,
+    )?;
     Ok(named(name, line))
 }
 
 /// The zone of this name with this line, where there was memory for both.
-fn named(name: Result<Name, AllocError>, line: Result<ZoneLine, AllocError>) -> Result<(Name, ZoneLine), AllocError>
+fn named(
+    name: Result<Name, AllocError>,
+    line: Result<ZoneLine, AllocError>,
+) -> Result<(Name, ZoneLine), AllocError>
     ensures name { IfOk result (λ zone. name ≡ Ok zone.0) }
     ensures line { IfOk result (λ zone. line ≡ Ok zone.1) }
 {

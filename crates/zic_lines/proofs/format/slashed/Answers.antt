@@ -9,4 +9,4 @@ returns-then-is_some-clause-just c =
     let standard = c.split_once.result.0.now in
     let separates = λ (byte : ℕ). eqb byte 47 in
     rw (three_slashed separates _ standard c.split_once-2.result.0.now c.split_once-2.result.1 (sym c.if-is_some.ensures)
-          (c.split_once.ensures.parts ∙ ap (λ (o : Option (Bor (List ℕ))). standard ∷ other_parts separates o) c.in-Some.is ∙ ap (λ (ps : List (List ℕ)). standard ∷ ps) c.split_once-2.ensures.parts)) refl
+    (c.split_once.ensures.parts ∙ ap (λ (o : Option (Bor (List ℕ))). standard ∷ other_parts separates o) c.in-Some.is ∙ ap (λ (ps : List (List ℕ)). standard ∷ ps) c.split_once-2.ensures.parts)) refl
