@@ -4,7 +4,7 @@ use Rattle.std.specs.Prelude.{is_some}
 use Rattle.std.specs.Borrow.{Bor}
 use Rattle.zic_words.specs.Parts.{other_parts}
 use Rattle.zic_lines.specs.Format.{slashed, has_slash, format_from}
-use Rattle.zic_words.proofs.Times.{first_part}
+use Rattle.zic_words.proofs.Splits.{first_part}
 
 pub three_slashed : (p : ℕ → Bool) (parts : List (List ℕ)) (standard daylight : List ℕ) (more : Option (Bor (List ℕ))) → is_some more ≡ true → parts ≡ standard ∷ daylight ∷ other_parts p more → slashed parts ≡ None
 three_slashed p parts standard daylight None is e = absurd cc

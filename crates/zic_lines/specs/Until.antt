@@ -2,7 +2,7 @@
 use Rattle.std.specs.Prelude.{ℕ, List, [], ◌∷◌, pos, Option, Some, None, option_map, codes}
 use Rattle.zic_calendar.specs.Calendar.{is_leap_year}
 use Rattle.zic_lines.specs.declared.until.Until.{Until}
-use Rattle.zic_words.specs.Time.{◌>>=◌}
+use Rattle.zic_base.specs.Option.{◌>>=◌}
 use Rattle.zic_words.specs.Year.{year_of}
 use Rattle.zic_words.specs.Month.{month_of}
 use Rattle.zic_words.specs.DayForm.{day_form_of}

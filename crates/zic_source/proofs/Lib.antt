@@ -1,7 +1,6 @@
 pub mod SameBytes
 pub mod Elements
 pub mod Counts
-pub mod WordRanges
 pub mod lookups
 pub mod links
 pub mod faults

@@ -6,6 +6,7 @@ use Rattle.zic_base.specs.declared.fault.Kind.TheVariants.{NoContinuation}
 use Rattle.zic_base.specs.Fault.{fault_at, IsFirstFailed}
 use Rattle.zic_lines.specs.declared.entry.Entry.{Entry}
 use Rattle.zic_lines.specs.Entry.{is_continuation}
+use Rattle.zic_lines.specs.declared.field.TheConstants.{LONGEST_LINE}
 use Rattle.zic_lines.specs.Line.{PlacedLine}
 use Rattle.zic_lines.specs.Grammar.{Says}
 use Rattle.zic_lines.specs.Checks.{line_checks}
@@ -48,5 +49,5 @@ IsFirstFault texts fault = IsReadingFault texts fault ⊎ ((source : SourceLines
 -- Memory may be wanted: for a line that isn't too long, before which all is read, or where all is read.
 abbrev pub MayWantMemory : List (List ℕ) → Type 0
 MayWantMemory texts =
-    ((source : SourceLines) × (line : PlacedLine) × IsReached texts source (Line line) × (length line.bytes ≤ 2048))
+    ((source : SourceLines) × (line : PlacedLine) × IsReached texts source (Line line) × (length line.bytes ≤ LONGEST_LINE))
     ⊎ ((source : SourceLines) × IsReadable texts source)

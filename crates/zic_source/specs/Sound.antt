@@ -1,18 +1,22 @@
 -- What holds of every source, by names that the layers above cite: own limits on what zic(8) has.
-use Rattle.std.specs.Prelude.{◌≡◌, ◌≢◌, ◌≤◌, ◌+◌, ℕ, ℤ, pos, ◌≤ℤ◌, Bool, true, false, List, [], ◌∷◌, ◌++◌, length, map, All, AllPairs, IfSome, unsigned_abs}
+use Rattle.std.specs.Prelude.{◌≡◌, ◌≢◌, ◌≤◌, ◌+◌, ℕ, ℤ, pos, ◌≤ℤ◌, true, false, List, [], ◌∷◌, ◌++◌, length, map, All, AllPairs, IfSome}
 use Rattle.std.specs.Int.{IsInRange}
 use Rattle.zic_calendar.specs.DayForm.{FormFits}
-use Rattle.zic_words.specs.declared.saving.Saving.{Saving}
-use Rattle.zic_words.specs.declared.clock.ClockTime.{ClockTime}
+use Rattle.zic_words.specs.declared.clock.TheConstants.{LATEST_TIME}
+use Rattle.zic_words.specs.declared.time.TheConstants.{GREATEST_OFFSET}
+use Rattle.zic_words.specs.declared.year.TheConstants.{LAST_YEAR}
+use Rattle.zic_words.specs.Time.{IsWithin}
+use Rattle.zic_words.specs.Year.{IsYear}
+use Rattle.zic_words.specs.Month.{IsMonth}
 use Rattle.zic_words.specs.Name.{is_name}
 use Rattle.zic_words.specs.SetName.{is_set_name}
+use Rattle.zic_words.specs.Letter.{is_letter}
 use Rattle.zic_lines.specs.declared.moment.Moment.{Moment}
 use Rattle.zic_lines.specs.declared.rule.Rule.{Rule}
 use Rattle.zic_lines.specs.declared.rules.Rules.{Rules}
 use Rattle.zic_lines.specs.declared.rules.Rules.TheVariants.{Standard, Amount, Set}
 use Rattle.zic_lines.specs.declared.until.Until.{Until}
 use Rattle.zic_lines.specs.declared.zone_line.ZoneLine.{ZoneLine}
-use Rattle.zic_lines.specs.declared.link.Link.{Link}
 use Rattle.zic_lines.specs.Entry.{has_until}
 use Rattle.zic_source.specs.declared.limit.TheConstants.{MOST_RULES, MOST_RULES_OF_SET, MOST_ZONE_LINES, MOST_NAMES}
 use Rattle.zic_source.specs.Source.{SourceLines, ZoneLines, set_size, is_set, lines_of_zone, zone_lines_of}
@@ -20,30 +24,31 @@ use Rattle.zic_source.specs.Links.{EndsAtZone}
 
 -- within 24:00:00 either way
 abbrev pub IsWithinDay : ℤ → Type 0
-IsWithinDay seconds = unsigned_abs seconds ≤ 86_400
+IsWithinDay seconds = IsWithin GREATEST_OFFSET seconds
 
 -- a month, and a time of day within 300:00:00 either way
 pub record IsSoundMoment (moment : Moment) : Type 0 where
-  pub month : IsInRange 1 12 moment.month
-  pub at : unsigned_abs moment.at.seconds ≤ 1_080_000
+  pub month : IsMonth moment.month
+  pub at : IsWithin LATEST_TIME moment.at.seconds
 
 -- The rule holds in this year.
 pub record HoldsIn (rule : Rule) (year : ℤ) : Type 0 where
   pub begun : pos rule.first ≤ℤ year
   pub not_over : IfSome rule.last (λ last. year ≤ℤ pos last)
 
--- a rule: its years, a moment whose form fits the month in each of them, its saving, its set's name
+-- a rule: its set's name, its years, a moment whose form fits the month in each of them, its saving and its letter
 pub record IsSoundRule (rule : Rule) : Type 0 where
   pub name : is_set_name rule.name ≡ true
-  pub first : IsInRange 1 9000 rule.first
-  pub last : IfSome rule.last (λ last. IsInRange rule.first 9000 last)
+  pub first : IsYear rule.first
+  pub last : IfSome rule.last (λ last. IsInRange rule.first LAST_YEAR last)
   pub moment : IsSoundMoment rule.moment
   pub fits : (year : ℤ) → HoldsIn rule year → FormFits year rule.moment.month rule.moment.on
   pub saving : IsWithinDay rule.saving.seconds
+  pub letter : is_letter rule.letter ≡ true
 
 -- an UNTIL: its year, and a moment whose form fits the month in it
 pub record IsSoundUntil (until : Until) : Type 0 where
-  pub year : IsInRange 1 9000 until.year
+  pub year : IsYear until.year
   pub moment : IsSoundMoment until.moment
   pub fits : FormFits (pos until.year) until.moment.month until.moment.on
 

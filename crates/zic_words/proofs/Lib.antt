@@ -1,8 +1,8 @@
 pub mod Words
-pub mod OnlyPlaces
-pub mod FirstLetters
+pub mod OnlyWords
 pub mod Splits
 pub mod Digits
+pub mod Seconds
 pub mod Times
-pub mod DayForms
 pub mod ClockTimes
+pub mod Ranges

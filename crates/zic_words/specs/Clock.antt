@@ -3,6 +3,7 @@ use Rattle.std.specs.Prelude.{ℕ, ◌+◌, ◌-◌, Bool, ◌||◌, List, lengt
 use Rattle.zic_words.specs.declared.clock.ClockForm.{ClockForm}
 use Rattle.zic_words.specs.declared.clock.ClockForm.TheVariants.{Wall, Standard, Universal}
 use Rattle.zic_words.specs.declared.clock.ClockTime.{ClockTime}
+use Rattle.zic_words.specs.declared.clock.TheConstants.{LATEST_TIME}
 use Rattle.zic_words.specs.Dash.{is_dash}
 use Rattle.zic_words.specs.Time.{signed_seconds}
 
@@ -25,8 +26,8 @@ clock_suffix byte = if is_letter 119 byte then Some Wall else (if is_letter 115 
 
 -- a time before this suffix, or without one by the wall clock
 abbrev pub time_by : Option ClockForm → List ℕ → Option ClockTime
-time_by None field = option_map (λ s. record { seconds = s; form = Wall }) (signed_seconds 1_080_000 field)
-time_by (Some form) field = option_map (λ s. record { seconds = s; form = form }) (signed_seconds 1_080_000 (without_last field))
+time_by None field = option_map (λ s. record { seconds = s; form = Wall }) (signed_seconds LATEST_TIME field)
+time_by (Some form) field = option_map (λ s. record { seconds = s; form = form }) (signed_seconds LATEST_TIME (without_last field))
 
 -- AT or the TIME of an UNTIL in seconds, at most 300 hours either way, and its clock; `-` is 0 by the wall clock
 unfoldable pub clock_time_of : List ℕ → Option ClockTime

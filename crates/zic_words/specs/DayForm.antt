@@ -1,15 +1,19 @@
 -- Which day of the month ON of a Rule line or the DAY of an UNTIL names: zic(8), FILES; which numbers may stand there is own choice.
-use Rattle.std.specs.Prelude.{ℕ, Bool, true, false, ◌&&◌, List, [], ◌∷◌, drop, Option, Some, None, option_map, if◌then◌else◌, nat_le, ◌==◌, codes}
-use Rattle.std.specs.List.{slice_split}
-use Rattle.zic_calendar.specs.Calendar.{month_length}
+use Rattle.std.specs.Prelude.{◌≡◌, ℕ, ℤ, Bool, true, false, ◌&&◌, List, [], ◌∷◌, drop, Option, Some, None, option_map, if◌then◌else◌, nat_le, nat_eq, ◌==◌, codes}
+use Rattle.std.specs.List.{starts_with}
+use Rattle.std.specs.Str.{str_to_ascii_lowercase}
+use Rattle.zic_base.specs.Option.{◌>>=◌}
+use Rattle.zic_calendar.specs.Calendar.{is_leap_year, month_length}
 use Rattle.zic_calendar.specs.declared.day_form.On.{On}
 use Rattle.zic_calendar.specs.declared.day_form.On.TheVariants.{Day, Last, After, Before}
-use Rattle.zic_words.specs.Word.{begins_word, only_word}
-use Rattle.zic_words.specs.Time.{number, ◌>>=◌}
+use Rattle.zic_calendar.specs.DayForm.{FormFits}
+use Rattle.zic_words.specs.Parts.{split_at_most_once}
+use Rattle.zic_words.specs.Word.{only_word}
+use Rattle.zic_words.specs.Time.{number}
 
--- the weekdays in order
+-- the weekdays in order, in lower case
 abbrev pub weekday_words : List (List ℕ)
-weekday_words = codes "Sunday" ∷ codes "Monday" ∷ codes "Tuesday" ∷ codes "Wednesday" ∷ codes "Thursday" ∷ codes "Friday" ∷ codes "Saturday" ∷ []
+weekday_words = codes "sunday" ∷ codes "monday" ∷ codes "tuesday" ∷ codes "wednesday" ∷ codes "thursday" ∷ codes "friday" ∷ codes "saturday" ∷ []
 
 -- a weekday, 0 (Sunday) to 6, from its name or a prefix of it that no other weekday has
 unfoldable pub weekday_of : List ℕ → Option ℕ
@@ -23,14 +27,7 @@ day_within longest field = do
 
 -- the weekday behind `last`, which is in any ASCII case and never cut
 unfoldable pub last_weekday : List ℕ → Option ℕ
-last_weekday field = if begins_word field (codes "last") then weekday_of (drop 4 field) else None
-
--- two parts, where there are two
-abbrev pub both_parts : List (List ℕ) → Option (List ℕ × List ℕ)
-both_parts [] = None
-both_parts (part ∷ []) = None
-both_parts (part ∷ other ∷ []) = Some (part, other)
-both_parts (part ∷ other ∷ more ∷ parts) = None
+last_weekday field = if starts_with nat_eq (str_to_ascii_lowercase field) (codes "last") then weekday_of (drop 4 field) else None
 
 -- what stands behind this byte, where the text begins with it
 abbrev pub behind : ℕ → List ℕ → Option (List ℕ)
@@ -40,8 +37,9 @@ behind first (byte ∷ bytes) = if byte == first then Some bytes else None
 -- a weekday, this sign and `=`, and a day of the month up to this number
 unfoldable pub weekday_and_day : ℕ → ℕ → List ℕ → Option (ℕ × ℕ)
 weekday_and_day sign longest field = do
-  parts ← both_parts (slice_split (λ byte. byte == sign) field)
-  text ← behind 61 parts.1
+  parts ← split_at_most_once field sign
+  bound ← parts.1
+  text ← behind 61 bound
   weekday ← weekday_of parts.0
   day ← day_within longest text
   Some (weekday, day)
@@ -59,3 +57,7 @@ day_form_of one_leap_year month field =
     (or_else (option_map (λ both. After both.0 both.1) (weekday_and_day 62 (month_length false month) field))
     (or_else (option_map (λ both. Before both.0 both.1) (weekday_and_day 60 (month_length true month) field))
     (option_map Day (day_within (month_length one_leap_year month) field))))
+
+-- The form fits the month in each year that is meant: in each leap year, or in every year.
+abbrev pub FitsEachYear : Bool → ℕ → On → Type 0
+FitsEachYear one_leap_year month form = (year : ℤ) → (one_leap_year ≡ true → is_leap_year year ≡ true) → FormFits year month form

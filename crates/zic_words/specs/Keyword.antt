@@ -4,9 +4,9 @@ use Rattle.zic_words.specs.declared.keyword.Keyword.{Keyword}
 use Rattle.zic_words.specs.declared.keyword.Keyword.TheVariants.{Rule, Zone, Link}
 use Rattle.zic_words.specs.Word.{only_word}
 
--- the keywords
+-- the keywords, in lower case
 abbrev pub keyword_words : List (List ℕ)
-keyword_words = codes "Rule" ∷ codes "Zone" ∷ codes "Link" ∷ []
+keyword_words = codes "rule" ∷ codes "zone" ∷ codes "link" ∷ []
 
 -- the keyword of this place in the list
 abbrev pub keyword_at : ℕ → Keyword

@@ -1,7 +1,6 @@
 pub mod Dash
 pub mod Parts
 pub mod Word
-pub mod FirstLetter
 pub mod Keyword
 pub mod Name
 pub mod Time
@@ -12,3 +11,4 @@ pub mod Clock
 pub mod Saving
 pub mod Letter
 pub mod SetName
+pub mod Laws

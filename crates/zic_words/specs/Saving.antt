@@ -2,6 +2,7 @@
 use Rattle.std.specs.Prelude.{ℕ, Bool, true, false, not, List, pos, Option, Some, None, option_map, if◌then◌else◌}
 use Rattle.std.specs.Ordering.{int_eq}
 use Rattle.zic_words.specs.declared.saving.Saving.{Saving}
+use Rattle.zic_words.specs.declared.time.TheConstants.{GREATEST_OFFSET}
 use Rattle.zic_words.specs.Dash.{is_dash}
 use Rattle.zic_words.specs.Time.{signed_seconds}
 use Rattle.zic_words.specs.Clock.{last_byte, without_last, is_letter}
@@ -12,8 +13,8 @@ daylight_suffix byte = if is_letter 115 byte then Some false else (if is_letter 
 
 -- a saving before this suffix; without one 0 is standard time, and any other is daylight saving time
 abbrev pub saving_by : Option Bool → List ℕ → Option Saving
-saving_by None field = option_map (λ s. record { seconds = s; daylight = not (int_eq s (pos 0)) }) (signed_seconds 86_400 field)
-saving_by (Some daylight) field = option_map (λ s. record { seconds = s; daylight = daylight }) (signed_seconds 86_400 (without_last field))
+saving_by None field = option_map (λ s. record { seconds = s; daylight = not (int_eq s (pos 0)) }) (signed_seconds GREATEST_OFFSET field)
+saving_by (Some daylight) field = option_map (λ s. record { seconds = s; daylight = daylight }) (signed_seconds GREATEST_OFFSET (without_last field))
 
 -- SAVE in seconds, at most 24 hours either way, and its flag; `-` is 0 and standard time
 unfoldable pub saving_of : List ℕ → Option Saving

@@ -3,9 +3,9 @@ use Rattle.std.specs.Prelude.{ℕ, Bool, ◌&&◌, List, [], ◌∷◌, length, 
 use Rattle.std.specs.List.{starts_with, filter, enumerate_from}
 use Rattle.std.specs.Str.{str_to_ascii_lowercase}
 
--- The field is the word or a nonempty prefix of it, in any ASCII case.
+-- The field is the word, which is in lower case, or a nonempty prefix of it, in any ASCII case.
 abbrev pub begins_word : List ℕ → List ℕ → Bool
-begins_word word field = nat_lt 0 (length field) && starts_with nat_eq (str_to_ascii_lowercase word) (str_to_ascii_lowercase field)
+begins_word word field = nat_lt 0 (length field) && starts_with nat_eq word (str_to_ascii_lowercase field)
 
 -- the element of a list of one
 abbrev pub only_one : {X : Type 0} → List X → Option X

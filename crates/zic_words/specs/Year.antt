@@ -1,14 +1,22 @@
 -- Years of Rule lines and of an UNTIL: zic(8), FILES; digits and limits are own choice.
 use Rattle.std.specs.Prelude.{ℕ, Bool, false, ◌&&◌, List, length, pos, Option, Some, None, option_map, if◌then◌else◌, nat_lt, nat_le, ◌==◌, codes}
+use Rattle.std.specs.Int.{IsInRange}
+use Rattle.zic_base.specs.Option.{◌>>=◌}
 use Rattle.zic_calendar.specs.Calendar.{is_leap_year}
+use Rattle.zic_words.specs.declared.time.TheConstants.{MOST_DIGITS}
+use Rattle.zic_words.specs.declared.year.TheConstants.{FIRST_YEAR, LAST_YEAR}
 use Rattle.zic_words.specs.Word.{begins_word}
-use Rattle.zic_words.specs.Time.{number, ◌>>=◌}
+use Rattle.zic_words.specs.Time.{number}
+
+-- a year that a line may name
+abbrev pub IsYear : ℕ → Type 0
+IsYear year = IsInRange FIRST_YEAR LAST_YEAR year
 
 -- a year: one to nine digits, 1 to 9000
 unfoldable pub year_of : List ℕ → Option ℕ
 year_of field = do
-  n ← number 9 field
-  if nat_le 1 n && nat_le n 9000 then Some n else None
+  n ← number MOST_DIGITS field
+  if nat_le FIRST_YEAR n && nat_le n LAST_YEAR then Some n else None
 
 -- `only`, in full or cut
 abbrev pub is_only : List ℕ → Bool

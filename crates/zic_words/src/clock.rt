@@ -1,14 +1,14 @@
 //! The time of day of AT and of an UNTIL.
 
-ghost use Rattle.std.specs.Prelude.{◌≡◌, option_map};
-ghost use Rattle.zic_words.specs.Time.{signed_seconds};
+ghost use Rattle.std.specs.Prelude.{◌≡◌, IfSome, option_map};
+ghost use Rattle.zic_words.specs.Time.{signed_seconds, IsWithin};
 ghost use Rattle.zic_words.specs.Clock.{clock_suffix, clock_time_of};
 
 use crate::dash::is_dash;
 use crate::time::signed_seconds;
 
-/// The greatest AT either way, in seconds: 300 hours.
-const LATEST: u32 = 1_080_000;
+/// The greatest time of day either way, in seconds: 300 hours.
+pub const LATEST_TIME: u32 = 1_080_000;
 
 /// The clock by which a time of day is meant.
 #[derive(Clone, Copy, Debug, PartialEq, Eq)]
@@ -43,7 +43,8 @@ fn clock_suffix(byte: u8) -> Option<ClockForm>
 /// AT in seconds, within 300 hours either way, and its clock.
 #[tactic(auto, unfolding(crate::specs::Clock::clock_time_of))]
 pub fn clock_time(field: &[u8]) -> Option<ClockTime>
-    ensures { result ≡ clock_time_of field.now }
+    ensures value { result ≡ clock_time_of field.now }
+    ensures within { IfSome result (λ time. IsWithin LATEST_TIME time.seconds) }
 {
     if is_dash(field) {
         return Some(ClockTime {
@@ -62,8 +63,9 @@ pub fn clock_time(field: &[u8]) -> Option<ClockTime>
 
 /// A time without a suffix, by this clock.
 fn time_by(form: ClockForm, text: &[u8]) -> Option<ClockTime>
-    ensures { result ≡ option_map (λ s. record { seconds = s; form = form }) (signed_seconds 1_080_000 text.now) }
+    ensures value { result ≡ option_map (λ s. record { seconds = s; form = form }) (signed_seconds LATEST_TIME text.now) }
+    ensures within { IfSome result (λ time. IsWithin LATEST_TIME time.seconds) }
 {
-    let seconds = signed_seconds(text, LATEST)?;
+    let seconds = signed_seconds(LATEST_TIME, text)?;
     Some(ClockTime { seconds, form })
 }

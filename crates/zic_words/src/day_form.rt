@@ -1,48 +1,42 @@
 //! Which day of the month a rule names.
 
 ghost use Rattle.std.specs.Prelude.{◌≡◌, ◌≤◌, ◌<◌, ◌==◌, IfSome, map, option_map};
-ghost use Rattle.std.specs.List.{slice_split};
 ghost use Rattle.std.specs.Int.{IsInRange};
+ghost use Rattle.zic_calendar.specs.Weekday.{IsWeekday};
 ghost use Rattle.zic_calendar.specs.Calendar.{month_length};
-ghost use Rattle.zic_words.specs.FirstLetter.{endings};
-ghost use Rattle.zic_words.specs.DayForm.{weekday_words, weekday_of, day_within, last_weekday, both_parts, weekday_and_day, day_form_of};
+ghost use Rattle.zic_words.specs.DayForm.{weekday_of, day_within, last_weekday, weekday_and_day, day_form_of, FitsEachYear};
 
-use crate::split::split_once;
+use crate::split::split_at_most_once;
 use crate::time::number;
-use crate::word::only_place;
+use crate::word::only_word;
 use zic_calendar::{On, days_in_month};
 
-/// How the weekdays that begin with this letter go on, and the place of each in the week.
-fn endings(letter: u8) -> &'static [(u8, &'static [u8])]
-    ensures { map (λ weekday. (weekday.0, weekday.1.now)) result.now ≡ endings letter weekday_words }
-{
-    match letter {
-        b's' => &[(0, b"unday"), (6, b"aturday")],
-        b'm' => &[(1, b"onday")],
-        b't' => &[(2, b"uesday"), (4, b"hursday")],
-        b'w' => &[(3, b"ednesday")],
-        b'f' => &[(5, b"riday")],
-        _ => &[],
-    }
-}
+const WEEKDAYS: [&[u8]; 7] = [
+    b"sunday",
+    b"monday",
+    b"tuesday",
+    b"wednesday",
+    b"thursday",
+    b"friday",
+    b"saturday",
+];
 
 /// A weekday, 0 (Sunday) to 6, from its name in English or a prefix of it that no other weekday has.
 #[tactic(auto, unfolding(crate::specs::DayForm::weekday_of))]
 fn weekday(field: &[u8]) -> Option<u8>
-    ensures { result ≡ weekday_of field.now }
+    ensures value { result ≡ weekday_of field.now }
+    ensures weekday { IfSome result IsWeekday }
 {
-    match field {
-        [first, rest @ ..] => only_place(endings(first.to_ascii_lowercase()), rest),
-        [] => None,
-    }
+    only_word(&WEEKDAYS, field)
 }
 
 /// A day of the month: one or two digits, from 1 to the longest.
 #[tactic(auto, unfolding(crate::specs::DayForm::day_within))]
 fn day_within(longest: u8, field: &[u8]) -> Option<u8>
-    ensures { result ≡ day_within longest field.now }
+    ensures value { result ≡ day_within longest field.now }
+    ensures within { IfSome result (λ day. IsInRange 1 longest day) }
 {
-    let n = number(field, 2)?;
+    let n = number(2, field)?;
     if 1 <= n && n <= u32::from(longest) {
         Some(n as u8)
     } else {
@@ -53,7 +47,8 @@ fn day_within(longest: u8, field: &[u8]) -> Option<u8>
 /// The weekday behind `last`.
 #[tactic(auto, unfolding(crate::specs::DayForm::last_weekday))]
 fn last_weekday(field: &[u8]) -> Option<u8>
-    ensures { result ≡ last_weekday field.now }
+    ensures value { result ≡ last_weekday field.now }
+    ensures weekday { IfSome result IsWeekday }
 {
     if field.len() < 4 || !field[..4].eq_ignore_ascii_case(b"last") {
         return None;
@@ -61,29 +56,16 @@ fn last_weekday(field: &[u8]) -> Option<u8>
     weekday(&field[4..])
 }
 
-/// The parts before and behind the separator, where it stands in the bytes once.
-fn both_parts(bytes: &[u8], separator: u8) -> Option<(&[u8], &[u8])>
-    ensures { option_map (λ both. (both.0.now, both.1.now)) result ≡ both_parts (slice_split (λ byte. byte == separator) bytes.now) }
-{
-    let (part, rest) = split_once(bytes, separator);
-    let Some(rest) = rest else {
-        return None;
-    };
-    let (other, more) = split_once(rest, separator);
-    match more {
-        None => Some((part, other)),
-        Some(_) => None,
-    }
-}
-
 /// A weekday, this sign and `=`, and a day of the month up to the longest.
 #[tactic(auto, unfolding(crate::specs::DayForm::weekday_and_day))]
 fn weekday_and_day(sign: u8, longest: u8, field: &[u8]) -> Option<(u8, u8)>
-    ensures { result ≡ weekday_and_day sign longest field.now }
+    ensures value { result ≡ weekday_and_day sign longest field.now }
+    ensures weekday { IfSome result (λ both. IsWeekday both.0) }
+    ensures day { IfSome result (λ both. IsInRange 1 longest both.1) }
 {
-    let (name, bound) = both_parts(field, sign)?;
+    let (name, bound) = split_at_most_once(field, sign)?;
     match bound {
-        [b'=', text @ ..] => {
+        Some([b'=', text @ ..]) => {
             let weekday = weekday(name)?;
             let day = day_within(longest, text)?;
             Some((weekday, day))
@@ -103,7 +85,8 @@ fn month_length(is_leap: bool, month: u8) -> u8
 /// year; it may not stand behind `>=`, and behind `<=` it means the last of the month.
 #[tactic(auto, unfolding(crate::specs::DayForm::day_form_of))]
 pub fn parse_day_form(one_leap_year: bool, month: u8, field: &[u8]) -> Option<On>
-    ensures { result ≡ day_form_of one_leap_year month field.now }
+    ensures value { result ≡ day_form_of one_leap_year month field.now }
+    ensures fits { IfSome result (λ form. FitsEachYear one_leap_year month form) }
 {
     if let Some(weekday) = last_weekday(field) {
         return Some(On::Last(weekday));

@@ -1,5 +1,7 @@
 //! Words of time zone source text: what single fields say. Times, years, months, days, names and letters.
 //!
+//! Memory is taken only by `Name::parse` and `SetName::parse`, where the field is a name, and by copies of names.
+//!
 //! The input format is that of zic(8); `docs/DEFINITIONS.md` lists where each rule is stated.
 #![tactic(auto)]
 
@@ -7,6 +9,7 @@ mod clock;
 mod dash;
 mod day_form;
 mod keyword;
+pub mod laws;
 mod letter;
 mod month;
 mod name;
@@ -17,7 +20,7 @@ mod time;
 mod word;
 mod year;
 
-pub use clock::{ClockForm, ClockTime, clock_time};
+pub use clock::{ClockForm, ClockTime, LATEST_TIME, clock_time};
 pub use dash::is_dash;
 pub use day_form::parse_day_form;
 pub use keyword::{Keyword, parse_keyword};
@@ -26,9 +29,9 @@ pub use month::parse_month;
 pub use name::{LONGEST_NAME, Name};
 pub use saving::{Saving, save};
 pub use set_name::SetName;
-pub use split::split_once;
-pub use time::offset;
-pub use year::{ends_before, is_one_leap_year, last_year, parse_year};
+pub use split::{split_at_most_once, split_once};
+pub use time::{GREATEST_OFFSET, MOST_DIGITS, offset};
+pub use year::{FIRST_YEAR, LAST_YEAR, ends_before, is_one_leap_year, last_year, parse_year};
 
 #[cfg(test)]
 mod tests;

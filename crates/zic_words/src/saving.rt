@@ -1,10 +1,11 @@
 //! SAVE of a Rule line, and amounts in RULES.
 
-ghost use Rattle.std.specs.Prelude.{◌≡◌};
+ghost use Rattle.std.specs.Prelude.{◌≡◌, IfSome};
+ghost use Rattle.zic_words.specs.Time.{IsWithin};
 ghost use Rattle.zic_words.specs.Saving.{daylight_suffix, saving_of};
 
 use crate::dash::is_dash;
-use crate::time::{DAY, signed_seconds};
+use crate::time::{GREATEST_OFFSET, signed_seconds};
 
 /// What is added to standard time.
 #[derive(Clone, Copy, Debug, PartialEq, Eq)]
@@ -29,7 +30,8 @@ fn daylight_suffix(byte: u8) -> Option<bool>
 /// SAVE in seconds, within 24 hours either way, and its flag.
 #[tactic(auto, unfolding(crate::specs::Saving::saving_of))]
 pub fn save(field: &[u8]) -> Option<Saving>
-    ensures { result ≡ saving_of field.now }
+    ensures value { result ≡ saving_of field.now }
+    ensures within { IfSome result (λ saving. IsWithin GREATEST_OFFSET saving.seconds) }
 {
     if is_dash(field) {
         return Some(Saving {
@@ -40,11 +42,11 @@ pub fn save(field: &[u8]) -> Option<Saving>
     match field {
         [text @ .., last] => match daylight_suffix(*last) {
             Some(daylight) => {
-                let seconds = signed_seconds(text, DAY)?;
+                let seconds = signed_seconds(GREATEST_OFFSET, text)?;
                 Some(Saving { seconds, daylight })
             }
             None => {
-                let seconds = signed_seconds(field, DAY)?;
+                let seconds = signed_seconds(GREATEST_OFFSET, field)?;
                 let daylight = seconds != 0;
                 Some(Saving { seconds, daylight })
             }

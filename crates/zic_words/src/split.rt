@@ -1,8 +1,8 @@
 //! Parts of bytes.
 
-ghost use Rattle.std.specs.Prelude.{◌≡◌, ◌∷◌, ◌==◌, ◌<◌, IfSome, length};
+ghost use Rattle.std.specs.Prelude.{◌≡◌, ◌∷◌, ◌==◌, ◌<◌, IfSome, length, option_map};
 ghost use Rattle.std.specs.List.{slice_split};
-ghost use Rattle.zic_words.specs.Parts.{other_parts};
+ghost use Rattle.zic_words.specs.Parts.{other_parts, split_at_most_once};
 
 /// The part before the first such byte, and what follows that byte where there is one.
 pub fn split_once(bytes: &[u8], separator: u8) -> (&[u8], Option<&[u8]>)
@@ -16,4 +16,20 @@ pub fn split_once(bytes: &[u8], separator: u8) -> (&[u8], Option<&[u8]>)
         }
     }
     (bytes, None)
+}
+
+/// The part before such a byte and the part after it, where it stands at most once.
+#[tactic(auto, unfolding(crate::specs::Parts::split_at_most_once))]
+pub fn split_at_most_once(bytes: &[u8], separator: u8) -> Option<(&[u8], Option<&[u8]>)>
+    ensures { option_map (λ parts. (parts.0.now, option_map (λ part. part.now) parts.1)) result
+        ≡ split_at_most_once bytes.now separator }
+{
+    let (part, rest) = split_once(bytes, separator);
+    let Some(rest) = rest else {
+        return Some((part, None));
+    };
+    match split_once(rest, separator) {
+        (other, None) => Some((part, Some(other))),
+        (_, Some(_)) => None,
+    }
 }

@@ -111,36 +111,47 @@ fn words_and_parts(rt: HostRuntime) {
         (&b"GMT"[..], Some(&b"BST"[..]))
     );
     assert_eq!(rt; split_once(b"CET", b'/'), (&b"CET"[..], None));
+    let both = Some((&b"GMT"[..], Some(&b"BST"[..])));
+    assert_eq!(rt; split_at_most_once(b"GMT/BST", b'/'), both);
+    assert_eq!(rt; split_at_most_once(b"GMT/BST/", b'/'), None);
 }
 
 #[test]
 fn names(rt: HostRuntime) -> Result<(), Fail> {
     assert!(rt; is_dash(b"-"));
     assert!(rt; !is_dash(b"--"));
-    assert!(rt; is_name(b"America/Port-au-Prince"));
-    assert!(rt; !is_name(b"America/../Port"));
-    assert!(rt; is_set_name(b"EU"));
-    assert!(rt; !is_set_name(b"1EU"));
-    // longer than what is kept inline
-    let long = b"Area/A-name-of-more-than-thirty-two-octets".as_slice();
-    let name = Name::new(rt.alloc(), long)?;
-    assert_eq!(rt; name.octets(), long);
-    let copy = name.clone()?;
-    assert!(rt; copy == name);
-    let set = SetName::new(rt.alloc(), b"E-Eur")?;
+    // the last is longer than what is kept inline
+    for field in [
+        b"America/Port-au-Prince".as_slice(),
+        b"Area/A-name-of-more-than-thirty-two-octets",
+    ] {
+        let name = Name::parse(rt.alloc(), field).ok_or("a name")??;
+        assert_eq!(rt; name.octets(), field);
+        assert!(rt; name.clone()? == name);
+    }
+    for field in [b"America/../Port".as_slice(), b"//", b"-", b""] {
+        assert!(rt; Name::parse(rt.alloc(), field).is_none(), "{field:?}");
+    }
+    Ok(())
+}
+
+#[test]
+fn set_names(rt: HostRuntime) -> Result<(), Fail> {
+    let set = SetName::parse(rt.alloc(), b"E-Eur").ok_or("a name")??;
     assert_eq!(rt; set.octets(), b"E-Eur".as_slice());
-    let other = SetName::new(rt.alloc(), b"C-Eur")?;
+    let other = SetName::parse(rt.alloc(), b"EU").ok_or("a name")??;
     assert!(rt; set.clone()? == set);
     assert!(rt; set != other);
+    assert!(rt; SetName::parse(rt.alloc(), b"1EU").is_none());
     Ok(())
 }
 
 #[test]
 fn letters(rt: HostRuntime) -> Result<(), Fail> {
-    let letter = parse_letter(b"S").ok_or("a letter")?;
+    let letter = Letter::parse(rt.alloc(), b"S").ok_or("a letter")?;
     assert_eq!(rt; letter.octets(), b"S".as_slice());
-    let empty = parse_letter(b"-").ok_or("a letter")?;
+    let empty = Letter::parse(rt.alloc(), b"-").ok_or("a letter")?;
     assert_eq!(rt; empty.octets(), b"".as_slice());
-    assert!(rt; parse_letter(b"a_b").is_none());
+    assert!(rt; Letter::parse(rt.alloc(), b"a_b").is_none());
     Ok(())
 }

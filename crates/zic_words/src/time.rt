@@ -2,17 +2,17 @@
 
 ghost use Rattle.std.specs.Prelude.{◌≡◌, ◌+◌, ◌*◌, ◌^◌, ◌<◌, ◌≤◌, List, IfSome, length, option_map, pos, ◌==◌};
 ghost use Rattle.std.specs.List.{slice_split};
-ghost use Rattle.zic_words.specs.Time.{number, sixtieths, decimals, seconds_from, magnitude, whole_seconds, signed_seconds, offset_of, rounded, IsNearestSecond};
+ghost use Rattle.zic_words.specs.Time.{number, sixtieths, decimals, seconds_of, minutes_from, magnitude, whole_seconds, signed_seconds, offset_of, IsNearestSecond, IsWithin};
 
 use crate::dash::is_dash;
-use crate::split::split_once;
+use crate::split::{split_at_most_once, split_once};
 use std::cmp::Ordering;
 
 /// How many digits years, hours and decimals of a second may have.
-pub(crate) const MOST_DIGITS: usize = 9;
+pub const MOST_DIGITS: usize = 9;
 
-/// The greatest STDOFF and SAVE either way, in seconds.
-pub(crate) const DAY: u32 = 86400;
+/// The greatest STDOFF, SAVE and amount in RULES either way, in seconds: 24 hours.
+pub const GREATEST_OFFSET: u32 = 86_400;
 
 /// Billionths in a second.
 const BILLION: u32 = 1_000_000_000;
@@ -27,8 +27,8 @@ struct Time {
 
 /// The number that the text spells in decimal digits: at least one, and at most so many.
 #[tactic(auto, unfolding(crate::specs::Time::number))]
-pub(crate) fn number(text: &[u8], most: usize) -> Option<u32>
-    requires { most ≤ 9 }
+pub(crate) fn number(most: usize, text: &[u8]) -> Option<u32>
+    requires { most ≤ MOST_DIGITS }
     ensures value { result ≡ number most text.now }
     ensures digits { IfSome result (λ n. n < 10 ^ length text.now) }
     ensures length { IfSome result (λ _. length text.now ≤ most) }
@@ -52,7 +52,7 @@ fn sixtieths(text: &[u8]) -> Option<u64>
     ensures value { result ≡ sixtieths text.now }
     ensures fits { IfSome result (λ n. n < 60) }
 {
-    let n = number(text, 2)?;
+    let n = number(2, text)?;
     if n < 60 { Some(u64::from(n)) } else { None }
 }
 
@@ -62,35 +62,50 @@ fn decimals(text: &[u8]) -> Option<u32>
     ensures value { result ≡ decimals text.now }
     ensures fits { IfSome result (λ n. n < 10 ^ 9) }
 {
-    let n = number(text, MOST_DIGITS)?;
+    let n = number(MOST_DIGITS, text)?;
     Some(n * 10u32.pow((MOST_DIGITS - text.len()) as u32))
 }
 
 /// Seconds below 60, with decimals where there is a point.
-#[tactic(auto, unfolding(crate::specs::Time::seconds_from))]
+#[tactic(auto, unfolding(crate::specs::Time::seconds_of))]
 fn seconds(text: &[u8]) -> Option<Time>
-    ensures value { option_map (λ time. 10 ^ 9 * time.seconds + time.billionths) result ≡ seconds_from (slice_split (λ byte. byte == 46) text.now) }
+    ensures value { option_map (λ time. 10 ^ 9 * time.seconds + time.billionths) result ≡ seconds_of text.now }
     ensures seconds { IfSome result (λ time. time.seconds < 60) }
     ensures billionths { IfSome result (λ time. time.billionths < 10 ^ 9) }
 {
-    let (whole, fraction) = split_once(text, b'.');
+    let (whole, fraction) = split_at_most_once(text, b'.')?;
     let seconds = sixtieths(whole)?;
-    let Some(fraction) = fraction else {
-        return Some(Time {
-            seconds,
-            billionths: 0,
-        });
+    let billionths = match fraction {
+        Some(fraction) => decimals(fraction)?,
+        None => 0,
     };
-    let (fraction, more) = split_once(fraction, b'.');
-    match more {
-        None => {
-            let billionths = decimals(fraction)?;
+    Some(Time {
+        seconds,
+        billionths,
+    })
+}
+
+/// Minutes, or minutes and seconds.
+#[tactic(auto, unfolding(crate::specs::Time::minutes_from, crate::specs::Parts::split_at_most_once))]
+fn minutes(text: &[u8]) -> Option<Time>
+    ensures value { option_map (λ time. 10 ^ 9 * time.seconds + time.billionths) result ≡ minutes_from (slice_split (λ byte. byte == 58) text.now) }
+    ensures seconds { IfSome result (λ time. time.seconds < 3600) }
+    ensures billionths { IfSome result (λ time. time.billionths < 10 ^ 9) }
+{
+    let (minutes, rest) = split_at_most_once(text, b':')?;
+    let minutes = 60 * sixtieths(minutes)?;
+    match rest {
+        Some(rest) => {
+            let rest = seconds(rest)?;
             Some(Time {
-                seconds,
-                billionths,
+                seconds: minutes + rest.seconds,
+                billionths: rest.billionths,
             })
         }
-        Some(_) => None,
+        None => Some(Time {
+            seconds: minutes,
+            billionths: 0,
+        }),
     }
 }
 
@@ -101,35 +116,20 @@ fn magnitude(text: &[u8]) -> Option<Time>
     ensures seconds { IfSome result (λ time. time.seconds < 10 ^ 13) }
     ensures billionths { IfSome result (λ time. time.billionths < 10 ^ 9) }
 {
-    let (hours, minutes) = split_once(text, b':');
-    let hours = 3600 * u64::from(number(hours, MOST_DIGITS)?);
-    let Some(minutes) = minutes else {
-        return Some(Time {
-            seconds: hours,
-            billionths: 0,
-        });
-    };
-    // Most times are hours and minutes.
-    if let Some(minutes) = sixtieths(minutes) {
-        return Some(Time {
-            seconds: hours + 60 * minutes,
-            billionths: 0,
-        });
-    }
-    let (minutes, rest) = split_once(minutes, b':');
-    let minutes = hours + 60 * sixtieths(minutes)?;
-    let rest = rest?;
-    let (rest, more) = split_once(rest, b':');
-    match more {
-        None => {
-            let rest = seconds(rest)?;
-            let seconds = minutes + rest.seconds;
+    let (hours, rest) = split_once(text, b':');
+    let hours = 3600 * u64::from(number(MOST_DIGITS, hours)?);
+    match rest {
+        Some(rest) => {
+            let rest = minutes(rest)?;
             Some(Time {
-                seconds,
+                seconds: hours + rest.seconds,
                 billionths: rest.billionths,
             })
         }
-        Some(_) => None,
+        None => Some(Time {
+            seconds: hours,
+            billionths: 0,
+        }),
     }
 }
 
@@ -137,8 +137,7 @@ fn magnitude(text: &[u8]) -> Option<Time>
 fn nearest_second(time: Time) -> u64
     requires seconds { time.seconds < 10 ^ 13 }
     requires billionths { time.billionths < 10 ^ 9 }
-    ensures value { result ≡ rounded (10 ^ 9 * time.seconds + time.billionths) }
-    ensures nearest { IsNearestSecond (10 ^ 9 * time.seconds + time.billionths) result }
+    ensures { IsNearestSecond (10 ^ 9 * time.seconds + time.billionths) result }
 {
     let whole = time.seconds;
     match (2 * time.billionths).cmp(&BILLION) {
@@ -149,8 +148,8 @@ fn nearest_second(time: Time) -> u64
 }
 
 /// A time without its sign in whole seconds, where it is within the limit.
-#[tactic(auto, unfolding(crate::specs::Time::whole_seconds))]
-fn whole_seconds(text: &[u8], limit: u32) -> Option<u32>
+#[tactic(auto, using(crate::proofs::Seconds::nearest_is), unfolding(crate::specs::Time::whole_seconds))]
+fn whole_seconds(limit: u32, text: &[u8]) -> Option<u32>
     ensures value { result ≡ whole_seconds limit text.now }
     ensures fits { IfSome result (λ s. s ≤ limit) }
 {
@@ -165,17 +164,18 @@ fn whole_seconds(text: &[u8], limit: u32) -> Option<u32>
 
 /// A time in whole seconds, below 0 behind a `-`, within the limit either way.
 #[tactic(auto, unfolding(crate::specs::Time::signed_seconds))]
-pub(crate) fn signed_seconds(text: &[u8], limit: u32) -> Option<i32>
-    requires { limit ≤ 1_080_000 }
-    ensures { result ≡ signed_seconds limit text.now }
+pub(crate) fn signed_seconds(limit: u32, text: &[u8]) -> Option<i32>
+    requires { limit < 2 ^ 31 }
+    ensures value { result ≡ signed_seconds limit text.now }
+    ensures within { IfSome result (λ s. IsWithin limit s) }
 {
     match text {
         [b'-', text @ ..] => {
-            let seconds = whole_seconds(text, limit)?;
+            let seconds = whole_seconds(limit, text)?;
             Some(-(seconds as i32))
         }
         _ => {
-            let seconds = whole_seconds(text, limit)?;
+            let seconds = whole_seconds(limit, text)?;
             Some(seconds as i32)
         }
     }
@@ -184,10 +184,11 @@ pub(crate) fn signed_seconds(text: &[u8], limit: u32) -> Option<i32>
 /// STDOFF in seconds, positive east, at most 24 hours either way.
 #[tactic(auto, unfolding(crate::specs::Time::offset_of))]
 pub fn offset(field: &[u8]) -> Option<i32>
-    ensures { result ≡ offset_of field.now }
+    ensures value { result ≡ offset_of field.now }
+    ensures within { IfSome result (λ s. IsWithin GREATEST_OFFSET s) }
 {
     if is_dash(field) {
         return Some(0);
     }
-    signed_seconds(field, DAY)
+    signed_seconds(GREATEST_OFFSET, field)
 }

@@ -1,9 +1,9 @@
 //! Words, in full or cut.
 
-ghost use Rattle.std.specs.Prelude.{◌≡◌, ◌&&◌, length, map, nat_eq, nat_lt};
+ghost use Rattle.std.specs.Prelude.{◌≡◌, ◌<◌, ◌∷◌, IfSome, length, map, nat_eq};
 ghost use Rattle.std.specs.List.{starts_with};
 ghost use Rattle.std.specs.Str.{str_to_ascii_lowercase};
-ghost use Rattle.zic_words.specs.FirstLetter.{only_place};
+ghost use Rattle.zic_words.specs.Word.{begins_word, only_word};
 
 /// Whether a text in lower case begins with this front, which may have any ASCII case.
 fn begins(text: &[u8], front: &[u8]) -> bool
@@ -22,22 +22,40 @@ fn begins(text: &[u8], front: &[u8]) -> bool
 
 /// Whether the field is a word in lower case or a nonempty prefix of it, in any ASCII case.
 pub(crate) fn begins_word(word: &[u8], field: &[u8]) -> bool
-    ensures { result ≡ (nat_lt 0 (length field.now) && starts_with nat_eq word.now (str_to_ascii_lowercase field.now)) }
+    ensures { result ≡ begins_word word.now field.now }
 {
     !field.is_empty() && begins(word, field)
 }
 
-/// The place that stands beside the only text, of some in lower case, that begins with this front in any ASCII case.
-pub(crate) fn only_place(texts: &[(u8, &[u8])], front: &[u8]) -> Option<u8>
-    ensures { result ≡ only_place (map (λ text. (text.0, text.1.now)) texts.now) front.now }
+/// Whether a word in lower case begins with this letter and goes on with this front, which may have any ASCII case.
+fn begins_with_letter(word: &[u8], letter: u8, front: &[u8]) -> bool
+    ensures { result ≡ starts_with nat_eq word.now (letter ∷ str_to_ascii_lowercase front.now) }
 {
+    match word {
+        [first, rest @ ..] => *first == letter && begins(rest, front),
+        [] => false,
+    }
+}
+
+/// The place, from 0, of the only one of some words in lower case that begins with the field, which may have any ASCII
+/// case.
+pub(crate) fn only_word(words: &[&[u8]], field: &[u8]) -> Option<u8>
+    requires { length words.now < 256 }
+    ensures value { result ≡ only_word (map (λ word. word.now) words.now) field.now }
+    ensures within { IfSome result (λ place. place < length words.now) }
+{
+    let [first, rest @ ..] = field else {
+        return None;
+    };
+    // Most words differ in their first letter.
+    let letter = first.to_ascii_lowercase();
     let mut found = None;
-    for (place, text) in texts {
-        if begins(text, front) {
+    for (place, word) in words.iter().enumerate() {
+        if begins_with_letter(word, letter, rest) {
             if found.is_some() {
                 return None;
             }
-            found = Some(*place);
+            found = Some(place as u8);
         }
     }
     found

@@ -1,24 +1,27 @@
 //! Years of Rule lines and of an UNTIL.
 
-ghost use Rattle.std.specs.Prelude.{◌≡◌, ◌≤◌, IfSome};
+ghost use Rattle.std.specs.Prelude.{◌≡◌, ◌⊎◌, IfSome};
 ghost use Rattle.zic_words.specs.Year as spec;
-ghost use Rattle.zic_words.specs.Year.{year_of, last_year_of, is_only, is_maximum};
+ghost use Rattle.zic_words.specs.Year.{year_of, last_year_of, is_only, is_maximum, IsYear};
 
 use crate::time::{MOST_DIGITS, number};
 use crate::word::begins_word;
 use zic_calendar::is_leap_year;
 
-/// The greatest year.
-const LAST_YEAR: u32 = 9000;
+/// The least year that a line may name.
+pub const FIRST_YEAR: u16 = 1;
+
+/// The greatest year that a line may name.
+pub const LAST_YEAR: u16 = 9000;
 
 /// A year: one to nine digits, 1 to 9000.
 #[tactic(auto, unfolding(crate::specs::Year::year_of))]
 pub fn parse_year(field: &[u8]) -> Option<u16>
     ensures value { result ≡ year_of field.now }
-    ensures high { IfSome result (λ year. year ≤ 9000) }
+    ensures within { IfSome result IsYear }
 {
-    let n = number(field, MOST_DIGITS)?;
-    if 1 <= n && n <= LAST_YEAR {
+    let n = number(MOST_DIGITS, field)?;
+    if u32::from(FIRST_YEAR) <= n && n <= u32::from(LAST_YEAR) {
         Some(n as u16)
     } else {
         None
@@ -40,7 +43,8 @@ fn is_maximum(field: &[u8]) -> bool
 /// TO: the year FROM, no last year, or a year.
 #[tactic(auto, unfolding(crate::specs::Year::last_year_of))]
 pub fn last_year(first: u16, field: &[u8]) -> Option<Option<u16>>
-    ensures { result ≡ last_year_of first field.now }
+    ensures value { result ≡ last_year_of first field.now }
+    ensures within { IfSome result (λ last. IfSome last (λ year. (year ≡ first) ⊎ IsYear year)) }
 {
     if is_only(field) {
         return Some(Some(first));

@@ -1,21 +1,23 @@
 -- What a line says is sound.
-use Rattle.std.proofs.Common.{◌≡◌, ◌≤◌, ℕ, Bool, true, false, cond, not, ltb, List, [], ◌∷◌, Option, Some, None, refl, sym, ap, subst, ◌∙◌, arith}
-use Rattle.std.specs.Prelude.{ℤ, pos, ◌≤ℤ◌, ◌&&◌, ◌==◌, unsigned_abs, IfSome, option_map, codes}
+use Rattle.std.proofs.Common.{◌≡◌, ℕ, Bool, true, false, cond, not, List, [], ◌∷◌, Option, Some, None, refl, sym, ap, subst, ◌∙◌, arith}
+use Rattle.std.specs.Prelude.{ℤ, pos, ◌≤ℤ◌, ◌==◌, IfSome, option_map, codes}
 use Rattle.std.specs.Int.{IsInRange}
 use Rattle.std.proofs.lemmas.Bool.{ltb-false, and_parts, eqb-true, not-true, not-false}
 use Rattle.std.proofs.lemmas.Int.{ints}
 use Rattle.zic_base.specs.declared.place.Place.{Place}
 use Rattle.zic_calendar.specs.Calendar.{is_leap_year}
-use Rattle.zic_calendar.specs.DayForm.{FormFits}
 use Rattle.zic_words.specs.declared.saving.Saving.{Saving}
 use Rattle.zic_words.specs.Dash.{is_dash}
 use Rattle.zic_words.specs.SetName.{is_set_name}
-use Rattle.zic_words.specs.Time.{offset_of}
+use Rattle.zic_words.specs.declared.clock.TheConstants.{LATEST_TIME}
+use Rattle.zic_words.specs.declared.year.TheConstants.{LAST_YEAR}
+use Rattle.zic_words.specs.Time.{IsWithin}
 use Rattle.zic_words.specs.Clock.{clock_time_of}
 use Rattle.zic_words.specs.Saving.{saving_of}
-use Rattle.zic_words.specs.Year.{year_of, last_year_of, ends_before, is_one_leap_year}
-use Rattle.zic_words.specs.Month.{month_of}
-use Rattle.zic_words.specs.DayForm.{day_form_of}
+use Rattle.zic_words.specs.Letter.{is_letter, without_dash, letter_of}
+use Rattle.zic_words.specs.Year.{IsYear, year_of, ends_before, is_one_leap_year}
+use Rattle.zic_words.specs.Month.{IsMonth, month_of}
+use Rattle.zic_words.specs.DayForm.{FitsEachYear, day_form_of}
 use Rattle.zic_lines.specs.declared.rule.Rule.{Rule}
 use Rattle.zic_lines.specs.declared.rules.Rules.{Rules}
 use Rattle.zic_lines.specs.declared.rules.Rules.TheVariants.{Standard, Amount, Set}
@@ -26,9 +28,9 @@ use Rattle.zic_lines.specs.ZoneLine.{IsContinuationLine}
 use Rattle.zic_lines.specs.RulesField.{rules_of, begins_amount}
 use Rattle.zic_lines.specs.Until.{until_at, until_of}
 use Rattle.zic_lines.proofs.Options.{bound}
-use Rattle.zic_source.specs.Sound.{IsWithinDay, IsSoundMoment, HoldsIn, IsSoundRule, IsSoundUntil, AreSoundRules, IsSoundLine}
+use Rattle.zic_source.specs.Sound.{IsWithinDay, IsSoundRule, IsSoundUntil, AreSoundRules, IsSoundLine}
 use Rattle.zic_source.specs.Whole.{is_unknown}
-use Rattle.zic_source.proofs.WordRanges.{offset_within, clock_time_within, saving_within, year_within, last_year_within, month_within, day_form_fits}
+use Rattle.zic_words.proofs.Ranges.{offset_within, clock_time_within, saving_within, year_within, last_year_within, month_within, day_form_fits}
 
 -- what holds of a value, where there is one
 holds : {X : Type 0} (P : X → Type 0) (o : Option X) (x : X) → IfSome o P → o ≡ Some x → P x
@@ -36,7 +38,7 @@ holds P o x h e = subst (λ (v : Option _). IfSome v P) e h
 
 -- ---- rules
 
-in_range : (first : ℕ) (last : Option ℕ) → IfSome last (IsInRange 1 9000) → not (ends_before last first) ≡ true → IfSome last (λ l. IsInRange first 9000 l)
+in_range : (first : ℕ) (last : Option ℕ) → IfSome last IsYear → not (ends_before last first) ≡ true → IfSome last (λ l. IsInRange first LAST_YEAR l)
 in_range first None within order = tt
 in_range first (Some last) within order = (ltb-false last first (not-true _ order), within.1)
 
@@ -49,20 +51,29 @@ leap_only first (Some last) year e from to =
     let same : pos first ≡ year = omega (arith, ints) in
     ap is_leap_year (sym same) ∙ both.1
 
+letter_sound : (b : Bool) (text letter : List ℕ) → is_letter text ≡ b → cond b (Some text) None ≡ Some letter → is_letter letter ≡ true
+letter_sound true text letter is e = let same : text ≡ letter = cc in ap is_letter (sym same) ∙ is
+letter_sound false text letter is e = absurd cc
+
+letter_of_sound : (field letter : List ℕ) → letter_of field ≡ Some letter → is_letter letter ≡ true
+unfolding letter_of
+letter_of_sound field letter e = letter_sound (is_letter (without_dash field)) (without_dash field) letter refl e
+
 pub rule_sound : (place : Place) (fields : List (List ℕ)) (rule : Rule) → IsRuleLine place fields rule → IsSoundRule rule
 rule_sound place fields rule is =
-    let first = holds (IsInRange 1 9000) _ _ (year_within is.from) is.begins in
+    let first = holds IsYear _ _ (year_within is.from) is.begins in
     record {
       name = is.named;
       first = first;
-      last = in_range rule.first rule.last (holds (λ (last : Option ℕ). IfSome last (IsInRange 1 9000)) _ _ (last_year_within rule.first is.to first) is.ends) is.in_order;
+      last = in_range rule.first rule.last (holds (λ (last : Option ℕ). IfSome last IsYear) _ _ (last_year_within rule.first is.to first) is.ends) is.in_order;
       moment = record {
-        month = holds (IsInRange 1 12) _ _ (month_within is.month) is.in_month;
-        at = holds (λ time. unsigned_abs time.seconds ≤ 1_080_000) _ _ (clock_time_within is.time) is.at_time;
+        month = holds IsMonth _ _ (month_within is.month) is.in_month;
+        at = holds (λ time. IsWithin LATEST_TIME time.seconds) _ _ (clock_time_within is.time) is.at_time;
       };
-      fits = λ year in_year. holds (λ form. (y : ℤ) → (is_one_leap_year rule.first rule.last ≡ true → is_leap_year y ≡ true) → FormFits y rule.moment.month form) _ _
+      fits = λ year in_year. holds (FitsEachYear (is_one_leap_year rule.first rule.last) rule.moment.month) _ _
           (day_form_fits (is_one_leap_year rule.first rule.last) rule.moment.month is.day) is.on_day year (λ e. leap_only rule.first rule.last year e in_year.begun in_year.not_over);
       saving = holds (λ saving. IsWithinDay saving.seconds) _ _ (saving_within is.save) is.saves;
+      letter = letter_of_sound is.letter rule.letter is.abbreviates;
     }
 
 -- ---- lines of zones
@@ -77,12 +88,12 @@ until_sound year month day time until e =
     let is = t.2 in
     let same : record { year = y.0; moment = record { month = m.0; on = d.0; at = t.0 } } ≡ until = cc in
     subst IsSoundUntil same (record {
-      year = holds (IsInRange 1 9000) _ _ (year_within year) y.1;
+      year = holds IsYear _ _ (year_within year) y.1;
       moment = record {
-        month = holds (IsInRange 1 12) _ _ (month_within month) m.1;
-        at = holds (λ at. unsigned_abs at.seconds ≤ 1_080_000) _ _ (clock_time_within time) t.1;
+        month = holds IsMonth _ _ (month_within month) m.1;
+        at = holds (λ at. IsWithin LATEST_TIME at.seconds) _ _ (clock_time_within time) t.1;
       };
-      fits = holds (λ form. (v : ℤ) → (is_leap_year (pos y.0) ≡ true → is_leap_year v ≡ true) → FormFits v m.0 form) _ _ (day_form_fits (is_leap_year (pos y.0)) m.0 day) d.1 (pos y.0) (λ leap. leap);
+      fits = holds (FitsEachYear (is_leap_year (pos y.0)) m.0) _ _ (day_form_fits (is_leap_year (pos y.0)) m.0 day) d.1 (pos y.0) (λ leap. leap);
     })
 
 some_until : (year month day time : List ℕ) (at : Option Until) (until : Option Until) → until_at year month day time ≡ at → option_map (λ u. Some u) at ≡ Some until → IfSome until IsSoundUntil

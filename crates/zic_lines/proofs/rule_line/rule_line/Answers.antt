@@ -41,7 +41,7 @@ returns-in_default-save-clause-fault c =
     c.name-item.is c.from-item.is c.to-item.is c.reserved-item.is c.month-item.is c.day-item.is c.time-item.is c.saved-item.is c.letter-item.is
     c.as_slice.ensures.value c.as_slice-2.ensures.value c.as_slice-3.ensures.value c.as_slice-4.ensures.value c.as_slice-5.ensures.value c.as_slice-6.ensures.value c.as_slice-7.ensures.value c.as_slice-8.ensures.value refl)
     (c.in-Some.ensures.just.0 refl) c.in_ok-years.years c.in_ok-years.ensures.says (sym c.if-not-is_dash.ensures) c.in_ok-moment.moment c.in_ok-moment.ensures.says
-    ∙ rw (sym c.in_default-save.ensures) refl
+    ∙ rw (sym c.in_default-save.ensures.value) refl
 
 pub returns-in_default-parse-2-clause-fault : goal.returns-in_default-parse-2-clause-fault
 returns-in_default-parse-2-clause-fault c =
@@ -49,7 +49,7 @@ returns-in_default-parse-2-clause-fault c =
     c.name-item.is c.from-item.is c.to-item.is c.reserved-item.is c.month-item.is c.day-item.is c.time-item.is c.saved-item.is c.letter-item.is
     c.as_slice.ensures.value c.as_slice-2.ensures.value c.as_slice-3.ensures.value c.as_slice-4.ensures.value c.as_slice-5.ensures.value c.as_slice-6.ensures.value c.as_slice-7.ensures.value c.as_slice-8.ensures.value c.as_slice-9.ensures.value)
     (c.in-Some.ensures.just.0 refl) c.in_ok-years.years c.in_ok-years.ensures.says (sym c.if-not-is_dash.ensures) c.in_ok-moment.moment c.in_ok-moment.ensures.says
-    ∙ rw (sym c.in-Some-save.ensures, sym c.in_default-parse-2.ensures) refl
+    ∙ rw (sym c.in-Some-save.ensures.value, sym c.in_default-parse-2.ensures) refl
 
 pub returns-clause-ok : goal.returns-clause-ok
 returns-clause-ok c =
@@ -57,7 +57,7 @@ returns-clause-ok c =
     c.name-item.is c.from-item.is c.to-item.is c.reserved-item.is c.month-item.is c.day-item.is c.time-item.is c.saved-item.is c.letter-item.is
     c.as_slice.ensures.value c.as_slice-2.ensures.value c.as_slice-3.ensures.value c.as_slice-4.ensures.value c.as_slice-5.ensures.value c.as_slice-6.ensures.value c.as_slice-7.ensures.value c.as_slice-8.ensures.value c.as_slice-9.ensures.value)
     (c.in-Some.ensures.just.0 refl) c.in_ok-years.years c.in_ok-years.ensures.says (sym c.if-not-is_dash.ensures) c.in_ok-moment.moment c.in_ok-moment.ensures.says
-    ∙ rw (sym c.in-Some-save.ensures, sym c.in-Some-parse.ensures) refl
+    ∙ rw (sym c.in-Some-save.ensures.value, sym c.in-Some-parse.ensures) refl
 
 pub returns-clause-says : goal.returns-clause-says
 returns-clause-says c =
@@ -65,5 +65,5 @@ returns-clause-says c =
     (ten_texts cow_slice_items c.args.fields.now (omega arith) (omega arith)
     c.name-item.is c.from-item.is c.to-item.is c.reserved-item.is c.month-item.is c.day-item.is c.time-item.is c.saved-item.is c.letter-item.is
     c.as_slice.ensures.value c.as_slice-2.ensures.value c.as_slice-3.ensures.value c.as_slice-4.ensures.value c.as_slice-5.ensures.value c.as_slice-6.ensures.value c.as_slice-7.ensures.value c.as_slice-8.ensures.value c.as_slice-9.ensures.value)
-    c.requires (c.in-Some.ensures.just.0 refl) c.in_ok-years.ensures.says (sym c.if-not-is_dash.ensures) c.in_ok-moment.ensures.says (sym c.in-Some-save.ensures) (sym c.in-Some-parse.ensures)
+    c.requires (c.in-Some.ensures.just.0 refl) c.in_ok-years.ensures.says (sym c.if-not-is_dash.ensures) c.in_ok-moment.ensures.says (sym c.in-Some-save.ensures.value) (sym c.in-Some-parse.ensures)
     c.in-Some.ensures.name c.rule_of.ensures.name c.rule_of.ensures.parts
