@@ -1,6 +1,6 @@
 -- The checks of what a line adds to a source, in order, each with the kind of fault of a line that fails it. They come after those
 -- of the line itself. The order is own choice.
-use Rattle.std.specs.Prelude.{ℕ, ◌+◌, Bool, not, List, [], ◌∷◌, length, nat_lt}
+use Rattle.std.specs.Prelude.{◌+◌, Bool, not, List, [], ◌∷◌, length, nat_lt}
 use Rattle.zic_base.specs.declared.fault.Kind.{Kind}
 use Rattle.zic_base.specs.declared.fault.Kind.TheVariants.{DuplicateName, TooMany}
 use Rattle.zic_base.specs.Check.{Check, check}

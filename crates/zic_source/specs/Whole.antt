@@ -1,5 +1,5 @@
 -- What can be wrong only with a source as a whole: zic(8), FILES; which fault is the first is own choice.
-use Rattle.std.specs.Prelude.{◌≡◌, ℕ, Bool, false, not, List, Contains, IsTrue}
+use Rattle.std.specs.Prelude.{◌≡◌, Bool, false, not, List, Contains, IsTrue}
 use Rattle.zic_base.specs.declared.place.Place.{Place}
 use Rattle.zic_base.specs.declared.fault.Fault.{Fault}
 use Rattle.zic_base.specs.declared.fault.Kind.{Kind}

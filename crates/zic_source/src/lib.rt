@@ -21,3 +21,6 @@ pub use zic_lines::{
     Fault, Format, FormatPart, Kind, Link, Place, Rule, Rules, Stop, Until, ZoneLine,
 };
 pub use zic_words::{ClockForm, Letter, Name, Saving, SetName};
+
+#[cfg(test)]
+mod tests;

@@ -7,7 +7,7 @@ ghost use Rattle.zic_base.specs.Fault.{fault_of, IsFirstFailed};
 ghost use Rattle.zic_base.specs.Memory.{IfRefusal, NeverRefuses, OnWantOfMemory};
 ghost use Rattle.zic_lines.specs.declared.entry.Entry.TheVariants as entries;
 ghost use Rattle.zic_lines.specs.Entry.{is_continuation};
-ghost use Rattle.zic_lines.specs.Line.{lines_of, text_lines};
+ghost use Rattle.zic_lines.specs.Line.{lines_of};
 ghost use Rattle.zic_lines.specs.declared.field.TheConstants.{LONGEST_LINE};
 ghost use Rattle.zic_source.specs.Source.{SourceLines, no_lines};
 ghost use Rattle.zic_source.specs.Event.{Line, text_events, events_of};
@@ -224,13 +224,13 @@ impl<'a> Reader<'a> {
         self.add(alloc, place, entry)
     }
 
-    /// Reads the lines of a text.
-    fn read_lines(&mut self, alloc: Global, number: u64, text: &'a [u8]) -> Result<(), Stop>
+    /// Reads a text, at whose end no continuation line may be awaited.
+    fn read_text(&mut self, alloc: Global, number: u64, text: &'a [u8]) -> Result<(), Stop>
         requires { Tracks self.old }
-        ensures read { OnOk result (Leads (source_lines self.old.lines) (map Line (text_lines number text.now)) (source_lines self.new.lines)) }
+        ensures read { OnOk result (Leads (source_lines self.old.lines) (text_events number text.now) (source_lines self.new.lines)) }
         ensures tracks { OnOk result (Tracks self.new) }
-        ensures fault { IfRefusal fault_of result (FailsIn (source_lines self.old.lines) (map Line (text_lines number text.now))) }
-        ensures memory { OnWantOfMemory fault_of result (WantsIn (source_lines self.old.lines) (map Line (text_lines number text.now))) }
+        ensures fault { IfRefusal fault_of result (FailsIn (source_lines self.old.lines) (text_events number text.now)) }
+        ensures memory { OnWantOfMemory fault_of result (WantsIn (source_lines self.old.lines) (text_events number text.now)) }
     {
         let mut rest = text;
         let mut line = 0;
@@ -240,18 +240,6 @@ impl<'a> Reader<'a> {
             self.read_line(alloc, Place { text: number, line }, bytes)?;
             rest = others;
         }
-        Ok(())
-    }
-
-    /// Reads a text, at whose end no continuation line may be awaited.
-    fn read_text(&mut self, alloc: Global, number: u64, text: &'a [u8]) -> Result<(), Stop>
-        requires { Tracks self.old }
-        ensures read { OnOk result (Leads (source_lines self.old.lines) (text_events number text.now) (source_lines self.new.lines)) }
-        ensures tracks { OnOk result (Tracks self.new) }
-        ensures fault { IfRefusal fault_of result (FailsIn (source_lines self.old.lines) (text_events number text.now)) }
-        ensures memory { OnWantOfMemory fault_of result (WantsIn (source_lines self.old.lines) (text_events number text.now)) }
-    {
-        self.read_lines(alloc, number, text)?;
         match self.lines.open_place() {
             None => Ok(()),
             Some(place) => Err(Stop::at(place, Kind::NoContinuation)),

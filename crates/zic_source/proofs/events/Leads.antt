@@ -10,7 +10,7 @@ use Rattle.zic_base.specs.declared.fault.Kind.{Kind}
 use Rattle.zic_base.specs.declared.fault.Kind.TheVariants.{NoContinuation}
 use Rattle.zic_base.specs.declared.fault.Stop.{Stop}
 use Rattle.zic_base.specs.Fault.{fault_at, fault_of}
-use Rattle.zic_base.specs.Memory.{IfRefusal, OnWantOfMemory}
+use Rattle.zic_base.specs.Memory.{IfRefusal}
 use Rattle.zic_lines.specs.declared.entry.Entry.{Entry}
 use Rattle.zic_lines.specs.declared.zone_line.ZoneLine.{ZoneLine}
 use Rattle.zic_lines.specs.Line.{PlacedLine}
@@ -119,7 +119,3 @@ on_ok_map (Err e) P Q f h = h
 pub refusal_map : {X : Type 0} (r : Result X Stop) (P Q : Fault → Type 0) → ((fault : Fault) → P fault → Q fault) → IfRefusal fault_of r P → IfRefusal fault_of r Q
 refusal_map (Ok x) P Q f h = h
 refusal_map (Err stop) P Q f h = if_some_map (fault_of stop) P Q f h
-
-pub want_map : {X : Type 0} (r : Result X Stop) (P Q : Type 0) → (P → Q) → OnWantOfMemory fault_of r P → OnWantOfMemory fault_of r Q
-want_map (Ok x) P Q f h = h
-want_map (Err stop) P Q f h = if_none_map (fault_of stop) P Q f h

@@ -1,5 +1,5 @@
 -- The events that are left in a loop over lines or texts.
-use Rattle.std.proofs.Common.{◌≡◌, ℕ, ◌+◌, ◌<◌, ◌≤◌, false, inl, inr, List, [], ◌∷◌, ◌++◌, length, get_or, drop, map, sym, ap, subst, ◌∙◌}
+use Rattle.std.proofs.Common.{◌≡◌, ℕ, ◌+◌, ◌<◌, ◌≤◌, false, inl, inr, List, [], ◌∷◌, ◌++◌, length, get_or, drop, map, refl, sym, ap, subst, ◌∙◌}
 use Rattle.std.specs.Prelude.{flat_map}
 use Rattle.std.specs.Option.{IfSome, IfNone}
 use Rattle.std.specs.Global.{Vec}
@@ -20,7 +20,7 @@ use Rattle.zic_source.specs.Texts.{texts_of}
 use Rattle.zic_source.specs.code.Events.{Leads, IsMet, FailsIn, WantsIn}
 use Rattle.zic_source.proofs.reading.Steps.{none_read}
 use Rattle.zic_source.proofs.faults.FirstFault.{source_has_no_fault}
-use Rattle.zic_source.proofs.events.Leads.{IsSoFar, so_far_begins, so_far_on, leads_on, end_leads, fails_in, fails_now, wants_in, wants_now, if_some_map, if_none_map}
+use Rattle.zic_source.proofs.events.Leads.{IsSoFar, so_far_on, so_far_ends, end_leads, fails_in, fails_now, wants_in, wants_now, if_some_map, if_none_map}
 
 -- the events of a text's lines, the lines from the one of this number on
 abbrev pub lines_from : ℕ → ℕ → List (List ℕ) → List Event
@@ -43,41 +43,35 @@ text_at texts index item text lt e same = same ∙ ap (λ (v : Vec ℕ). v.items
 
 -- ---- one line more
 
-module _ (old now : SourceLines) (events : List Event) (number n : ℕ) (text line rest : List ℕ) (first : lines_of text ≡ line ∷ lines_of rest) (is : IsSoFar old events (lines_from number n (lines_of text)) now) where
-  line_next : IsSoFar old events (Line (placed number n line) ∷ lines_from number (n + 1) (lines_of rest)) now
-  line_next = subst (λ (es : List Event). IsSoFar old events es now) (ap (lines_from number n) first) is
+module _ (old now : SourceLines) (events : List Event) (number n : ℕ) (text line rest : List ℕ) (more : List Event) (first : lines_of text ≡ line ∷ lines_of rest) (is : IsSoFar old events (lines_from number n (lines_of text) ++ more) now) where
+  abbrev left : List Event
+  left = lines_from number (n + 1) (lines_of rest) ++ more
 
-  pub line_on : (next : SourceLines) → Leads now (Line (placed number n line) ∷ []) next → IsSoFar old events (lines_from number (n + 1) (lines_of rest)) next
-  line_on = so_far_on old events (Line (placed number n line) ∷ []) (lines_from number (n + 1) (lines_of rest)) now line_next
+  line_next : IsSoFar old events (Line (placed number n line) ∷ left) now
+  line_next = subst (λ (lines : List (List ℕ)). IsSoFar old events (lines_from number n lines ++ more) now) first is
+
+  pub line_on : (next : SourceLines) → Leads now (Line (placed number n line) ∷ []) next → IsSoFar old events (lines_from number (n + 1) (lines_of rest) ++ more) next
+  line_on = so_far_on old events (Line (placed number n line) ∷ []) left now line_next
 
   pub line_fails : (stop : Stop) → IfSome (fault_of stop) (Fails now (Line (placed number n line))) → IfSome (fault_of stop) (FailsIn old events)
   line_fails stop = if_some_map (fault_of stop) _ _
-      (λ fault fails. fails_in old events (Line (placed number n line) ∷ []) (lines_from number (n + 1) (lines_of rest)) now line_next fault (fails_now now (Line (placed number n line)) fault fails))
+      (λ fault fails. fails_in old events (Line (placed number n line) ∷ []) left now line_next fault (fails_now now (Line (placed number n line)) fault fails))
 
   pub line_wants : (stop : Stop) → IfNone (fault_of stop) (length line ≤ LONGEST_LINE) → IfNone (fault_of stop) (WantsIn old events)
   line_wants stop = if_none_map (fault_of stop) _ _
-      (λ short. wants_in old events (Line (placed number n line) ∷ []) (lines_from number (n + 1) (lines_of rest)) now line_next (wants_now now (placed number n line) short))
+      (λ short. wants_in old events (Line (placed number n line) ∷ []) left now line_next (wants_now now (placed number n line) short))
 
--- ---- a text
+-- ---- the end of a text
 
-module _ (old now : SourceLines) (lines : List Event) where
-  abbrev text : List Event
-  text = lines ++ End ∷ []
+module _ (old now : SourceLines) (events : List Event) (number n : ℕ) (rest : List ℕ) (none : rest ≡ []) (is : IsSoFar old events (lines_from number n (lines_of rest) ++ End ∷ []) now) where
+  end_next : IsSoFar old events (End ∷ []) now
+  end_next = subst (λ (text : List ℕ). IsSoFar old events (lines_from number n (lines_of text) ++ End ∷ []) now) none is
 
-  at_end : Leads old lines now → IsSoFar old text (End ∷ []) now
-  at_end leads = so_far_on old text lines (End ∷ []) old (so_far_begins old text) now leads
+  pub end_on : is_open now ≡ false → Leads old events now
+  end_on closed = so_far_ends old events [] now refl (so_far_on old events (End ∷ []) [] now end_next now (end_leads now closed))
 
-  pub text_ends : Leads old lines now → is_open now ≡ false → Leads old (lines ++ End ∷ []) now
-  text_ends leads closed = leads_on old now now lines (End ∷ []) leads (end_leads now closed)
-
-  pub text_fails : (stop : Stop) → IfSome (fault_of stop) (FailsIn old lines) → IfSome (fault_of stop) (FailsIn old (lines ++ End ∷ []))
-  text_fails stop = if_some_map (fault_of stop) _ _ (fails_in old text lines (End ∷ []) old (so_far_begins old text))
-
-  pub text_wants : (stop : Stop) → IfNone (fault_of stop) (WantsIn old lines) → IfNone (fault_of stop) (WantsIn old (lines ++ End ∷ []))
-  text_wants stop = if_none_map (fault_of stop) _ _ (wants_in old text lines (End ∷ []) old (so_far_begins old text))
-
-  pub text_end_fails : (fault : Fault) → Leads old lines now → Fails now End fault → FailsIn old (lines ++ End ∷ []) fault
-  text_end_fails fault leads fails = fails_in old text (End ∷ []) [] now (at_end leads) fault (fails_now now End fault fails)
+  pub end_fails_in : (fault : Fault) → Fails now End fault → FailsIn old events fault
+  end_fails_in fault fails = fails_in old events (End ∷ []) [] now end_next fault (fails_now now End fault fails)
 
 -- ---- one text more
 

@@ -26,16 +26,6 @@ use Rattle.zic_source.specs.code.Adding.{continued}
 
 -- ---- checks in a row
 
-fails_first : (b : Bool) (k : Kind) (xs ys : List (Check Kind)) (kind : Kind) → (first_failed xs ≡ Some kind → first_failed (xs ++ ys) ≡ Some kind)
-    → first_failed (check b k ∷ xs) ≡ Some kind → first_failed (check b k ∷ (xs ++ ys)) ≡ Some kind
-fails_first true k xs ys kind later e = later e
-fails_first false k xs ys kind later e = e
-
--- the first check that fails is the first with more behind
-pub fails_before : (xs ys : List (Check Kind)) (kind : Kind) → first_failed xs ≡ Some kind → first_failed (xs ++ ys) ≡ Some kind
-fails_before [] ys kind e = absurd cc
-fails_before (x ∷ xs) ys kind e = fails_first x.passes x.reason xs ys kind (fails_before xs ys kind) e
-
 passes_first : (b : Bool) (k : Kind) (xs ys : List (Check Kind)) → (first_failed xs ≡ None → first_failed (xs ++ ys) ≡ first_failed ys)
     → first_failed (check b k ∷ xs) ≡ None → first_failed (check b k ∷ (xs ++ ys)) ≡ first_failed ys
 passes_first true k xs ys later e = later e
@@ -62,10 +52,6 @@ fields_fail bytes taken awaited follows kind is same asked e =
 both_pass : (a b : Bool) → a ≡ true → b ≡ true → first_failed (check a TooMany ∷ check b TooMany ∷ []) ≡ None
 both_pass a b p q = rw (p, q) refl
 
-second_fails : (a b : Bool) → b ≡ false → first_failed (check a TooMany ∷ check b TooMany ∷ []) ≡ Some TooMany
-second_fails true b e = rw e refl
-second_fails false b e = refl
-
 first_fails : (a b : Bool) → a ≡ false → first_failed (check a TooMany ∷ check b TooMany ∷ []) ≡ Some TooMany
 first_fails a b e = rw e refl
 
@@ -79,9 +65,6 @@ module _ (source : SourceLines) (rule : Rule) (numbers : List ℕ) (are : number
   pub set_is_full : (place : Place) (fault : Fault) → fault ≡ fault_at place TooMany → MOST_RULES_OF_SET ≤ length numbers → IsFirstFailed place (entry_checks source (entries.Rule rule)) fault
   set_is_full place fault is full = (ap (λ (f : Fault). f.place) is, first_fails _ _ (le-ltb _ _ (omega (arith, size))) ∙ sym (ap (λ (f : Fault). Some f.kind) is))
 
-pub rules_are_full : (source : SourceLines) (rule : Rule) → MOST_RULES ≤ length source.rules → first_failed (entry_checks source (entries.Rule rule)) ≡ Some TooMany
-rules_are_full source rule full = second_fails _ _ (le-ltb _ _ full)
-
 -- a name, and room for what has it
 pub zone_passes : (named line name : Bool) → named ≡ false → (line && name) ≡ true → first_failed (check (not named) DuplicateName ∷ check line TooMany ∷ check name TooMany ∷ []) ≡ None
 zone_passes true line name n r = absurd cc
@@ -89,18 +72,8 @@ zone_passes false true true n r = refl
 zone_passes false true false n r = absurd cc
 zone_passes false false name n r = absurd cc
 
-pub zone_has_no_room : (named line name : Bool) (kind : Kind) → (line && name) ≡ false → first_failed (check (not named) DuplicateName ∷ check false TooMany ∷ []) ≡ Some kind
-    → first_failed (check (not named) DuplicateName ∷ check line TooMany ∷ check name TooMany ∷ []) ≡ Some kind
-zone_has_no_room true line name kind r e = e
-zone_has_no_room false true true kind r e = absurd cc
-zone_has_no_room false true false kind r e = e
-zone_has_no_room false false name kind r e = e
-
 pub link_passes : (named name : Bool) → named ≡ false → name ≡ true → first_failed (check (not named) DuplicateName ∷ check name TooMany ∷ []) ≡ None
 link_passes named name n r = rw (n, r) refl
-
-pub link_has_no_room : (named name : Bool) (kind : Kind) → name ≡ false → first_failed (check (not named) DuplicateName ∷ check false TooMany ∷ []) ≡ Some kind → first_failed (check (not named) DuplicateName ∷ check name TooMany ∷ []) ≡ Some kind
-link_has_no_room named name kind r e = rw r e
 
 -- ---- Zone and continuation lines, counted
 
@@ -119,11 +92,3 @@ continuation_counted (zone ∷ []) line some = one_longer zone line []
 continuation_counted (zone ∷ other ∷ zones) line some =
     let later = continuation_counted (other ∷ zones) line (omega arith) in
     omega (arith, length-append (lines_of_zone zone) (flat_map lines_of_zone (continued (other ∷ zones) line)), length-append (lines_of_zone zone) (flat_map lines_of_zone (other ∷ zones)))
-
--- a source in which a continuation line has to follow has a zone
-pub open_has_zone : (source : SourceLines) → is_open source ≡ true → 0 < length source.zones
-open_has_zone source e = some_zone source.zones e
-  where
-    some_zone : (zones : List ZoneLines) → is_some (last_until (flat_map lines_of_zone zones)) ≡ true → 0 < length zones
-    some_zone [] h = absurd cc
-    some_zone (zone ∷ zones) h = omega arith

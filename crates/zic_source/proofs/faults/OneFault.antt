@@ -1,5 +1,5 @@
 -- A source that is read has one first fault as a whole.
-use Rattle.std.proofs.Common.{◌≡◌, ℕ, ◌⊎◌, inl, inr, ⊎_elim, List, [], ◌∷◌, refl, sym, ap, subst, ◌∙◌, arith}
+use Rattle.std.proofs.Common.{◌≡◌, ℕ, ⊎_elim, List, refl, sym, ap, subst, ◌∙◌, arith}
 use Rattle.std.specs.Prelude.{Contains}
 use Rattle.zic_base.specs.declared.place.Place.{Place}
 use Rattle.zic_base.specs.declared.fault.Fault.{Fault}
@@ -11,14 +11,14 @@ use Rattle.zic_lines.specs.declared.entry.Entry.{Entry}
 use Rattle.zic_lines.specs.declared.entry.Entry.TheVariants as entries
 use Rattle.zic_source.specs.Event.{events_of}
 use Rattle.zic_source.specs.Source.{SourceLines, zone_lines_of}
-use Rattle.zic_source.specs.Links.{EndsNowhere, HasNoEnd}
+use Rattle.zic_source.specs.Links.{EndsNowhere}
 use Rattle.zic_source.specs.Grammar.{IsReadable}
 use Rattle.zic_source.specs.Whole.{HasAt, HasFirst}
 use Rattle.zic_source.proofs.Elements.{only_one}
 use Rattle.zic_source.proofs.links.NamesDiffer.{nowhere_ends}
-use Rattle.zic_source.proofs.faults.Order.{AreOrdered, ordered}
+use Rattle.zic_source.proofs.faults.Order.{ordered}
 use Rattle.zic_source.proofs.reading.Zones.{lines_in}
-use Rattle.zic_source.proofs.reading.Read.{Read, entries_of, is_read}
+use Rattle.zic_source.proofs.reading.Read.{Read, is_read}
 use Rattle.zic_source.proofs.reading.Said.{link_is_said, line_is_said, place_of, one_at_place}
 use Rattle.zic_source.proofs.reading.Stops.{same_fault}
 

@@ -1,5 +1,5 @@
 -- Places in order.
-use Rattle.std.proofs.Common.{◌≡◌, ℕ, ◌<◌, ◌⊎◌, inl, inr, ⊎_elim, List, [], ◌∷◌, refl, sym, ap, subst, ◌∙◌, arith}
+use Rattle.std.proofs.Common.{◌≡◌, ℕ, ◌<◌, ◌⊎◌, inl, inr, ⊎_elim, List, [], ◌∷◌, sym, ap, subst, ◌∙◌, arith}
 use Rattle.std.specs.Prelude.{Contains}
 use Rattle.std.proofs.lemmas.Bool.{cases_order}
 use Rattle.std.proofs.lemmas.List.Elements.{Contains-append_right}
@@ -39,18 +39,30 @@ IsFirstOf faults fault = Contains faults fault × ((other : Fault) → Contains 
 
 -- a fault before which none of the others stands
 first_one : (one : Fault) (rest : List Fault) → ((other : Fault) → Contains rest other → IsBefore other.place one.place → ⊥) → (fault : Fault) × IsFirstOf (one ∷ rest) fault
-first_one one rest none = (one, (first_contained one rest, λ other has sooner. ⊎_elim
-    (λ same. not_before_itself one.place (subst (λ (f : Fault). IsBefore f.place one.place) (sym same) sooner))
-    (λ later. none other later sooner)
-    (cons_cases one rest other has)))
+first_one one rest none = (
+  one,
+  (
+    first_contained one rest,
+    λ other has sooner. ⊎_elim
+        (λ same. not_before_itself one.place (subst (λ (f : Fault). IsBefore f.place one.place) (sym same) sooner))
+        (λ later. none other later sooner)
+        (cons_cases one rest other has),
+  ),
+)
 
 -- which of a fault and the first of those after it is the first
 first_of_two : (one : Fault) (rest : List Fault) (first : Fault) → IsFirstOf rest first → AreOrdered first.place one.place → (fault : Fault) × IsFirstOf (one ∷ rest) fault
 first_of_two one rest first is (inl same) = first_one one rest (λ other has sooner. is.1 other has (subst (IsBefore other.place) (sym same) sooner))
-first_of_two one rest first is (inr (inl before)) = (first, (Contains-append_right (one ∷ []) rest first is.0, λ other has sooner. ⊎_elim
-    (λ same. not_before_itself first.place (before_before first.place one.place first.place before (subst (λ (f : Fault). IsBefore f.place first.place) (sym same) sooner)))
-    (λ later. is.1 other later sooner)
-    (cons_cases one rest other has)))
+first_of_two one rest first is (inr (inl before)) = (
+  first,
+  (
+    Contains-append_right (one ∷ []) rest first is.0,
+    λ other has sooner. ⊎_elim
+        (λ same. not_before_itself first.place (before_before first.place one.place first.place before (subst (λ (f : Fault). IsBefore f.place first.place) (sym same) sooner)))
+        (λ later. is.1 other later sooner)
+        (cons_cases one rest other has),
+  ),
+)
 first_of_two one rest first is (inr (inr after)) = first_one one rest (λ other has sooner. is.1 other has (before_before other.place one.place first.place sooner after))
 
 -- some faults have a first

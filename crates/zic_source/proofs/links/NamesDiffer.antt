@@ -1,10 +1,10 @@
 -- Where no name is given twice, one path of links leads on from a name, and its chain has one end.
-use Rattle.std.proofs.Common.{◌≡◌, ℕ, ◌+◌, ◌≤◌, Bool, true, false, ltb, List, [], ◌∷◌, refl, sym, ap, subst, ◌∙◌, arith}
+use Rattle.std.proofs.Common.{◌≡◌, ℕ, ◌≤◌, true, false, ltb, List, [], ◌∷◌, sym, ap, subst, ◌∙◌, arith}
 use Rattle.std.specs.Prelude.{Contains, bytes_eq, count_by}
 use Rattle.std.proofs.lemmas.Bool.{not-true, or_parts}
 use Rattle.zic_lines.specs.declared.link.Link.{Link}
 use Rattle.zic_source.specs.Source.{SourceLines, ZoneLines}
-use Rattle.zic_source.specs.Links.{is_link_name, is_zone_name, is_named, IsPath, EndsAtZone, EndsNowhere, HasNoEnd}
+use Rattle.zic_source.specs.Links.{is_link_name, is_zone_name, IsPath, EndsAtZone, EndsNowhere, HasNoEnd}
 use Rattle.zic_source.proofs.SameBytes.{bytes_eq_itself}
 use Rattle.zic_source.proofs.Elements.{contained_passes}
 use Rattle.zic_source.proofs.Counts.{any_counts, one_passes, passes_counted}

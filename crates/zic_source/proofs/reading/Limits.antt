@@ -1,11 +1,11 @@
 -- How much a source may have: what is within each limit.
 use Rattle.std.proofs.Common.{◌≡◌, ℕ, zero, suc, ◌+◌, ◌≤◌, ◌<◌, Bool, true, false, cond, not, ltb, List, [], ◌∷◌, ◌++◌, length, map, Option, Some, None, refl, sym, ap, ◌∙◌, arith}
 use Rattle.std.specs.Prelude.{◌||◌, flat_map, sum_by, count_by, bytes_eq}
-use Rattle.std.proofs.lemmas.Bool.{lt-ltb, ltb-true, ltb-false, not-true, not-false}
+use Rattle.std.proofs.lemmas.Bool.{lt-ltb, ltb-true, ltb-false, not-true}
 use Rattle.std.proofs.lemmas.List.Concat.{length-flat_map}
 use Rattle.std.proofs.lemmas.List.Sums.{sum_by-cons}
 use Rattle.zic_base.specs.declared.fault.Kind.{Kind}
-use Rattle.zic_base.specs.Check.{Check, first_failed}
+use Rattle.zic_base.specs.Check.{first_failed}
 use Rattle.zic_lines.specs.declared.rule.Rule.{Rule}
 use Rattle.zic_lines.specs.declared.link.Link.{Link}
 use Rattle.zic_lines.specs.declared.zone_line.ZoneLine.{ZoneLine}
@@ -14,7 +14,7 @@ use Rattle.zic_lines.specs.declared.entry.Entry.TheVariants as entries
 use Rattle.zic_lines.specs.Entry.{rules_in, links_in, zone_entries_in, names_in}
 use Rattle.zic_source.specs.declared.limit.TheConstants.{MOST_RULES, MOST_RULES_OF_SET, MOST_ZONE_LINES, MOST_NAMES}
 use Rattle.zic_source.specs.Source.{ZoneLines, SourceLines, set_size, zone_lines_of, entries_of_zone}
-use Rattle.zic_source.specs.Links.{is_zone_name, is_link_name, is_named}
+use Rattle.zic_source.specs.Links.{is_link_name, is_named}
 use Rattle.zic_source.specs.Checks.{entry_checks}
 use Rattle.zic_source.proofs.SameBytes.{bytes_eq_means, bytes_eq_itself}
 use Rattle.zic_source.proofs.Counts.{sum_flat_map, any_counts, times}
@@ -98,7 +98,7 @@ module _ (source : SourceLines) (said : List Entry) (is : IsOf source said) wher
   names_weigh : (w : List ℕ → ℕ) → sum_by (λ zone. w zone.name) source.zones + sum_by (λ link. w link.name) source.links ≡ sum_by (λ entry. sum_by w (names_in entry)) said
   names_weigh w =
       let zones : sum_by (λ (zone : ZoneLines). w zone.name) source.zones ≡ sum_by (zone_weight w) (flat_map zone_entries_in said) =
-          sym (sum_flat_map entries_of_zone (zone_weight w) (λ (zone : ZoneLines). w zone.name) (zone_weighs w) source.zones) ∙ ap (sum_by (zone_weight w)) is.zones in
+      sym (sum_flat_map entries_of_zone (zone_weight w) (λ (zone : ZoneLines). w zone.name) (zone_weighs w) source.zones) ∙ ap (sum_by (zone_weight w)) is.zones in
       let links : sum_by (λ (link : Link). w link.name) source.links ≡ sum_by (λ (link : Link). w link.name) (flat_map links_in said) = ap (sum_by (λ (link : Link). w link.name)) is.links in
       omega (arith, zones, links, said_weigh w said)
 

@@ -1,34 +1,22 @@
 -- What is read says one source, and each event says what fits what is read before it.
-use Rattle.std.proofs.Common.{◌≡◌, ℕ, ◌+◌, ◌≤◌, Bool, true, false, ◌⊎◌, inl, inr, List, [], ◌∷◌, ◌++◌, Option, Some, None, refl, sym, ap, subst, ◌∙◌, arith}
+use Rattle.std.proofs.Common.{◌≡◌, ◌≤◌, Bool, false, List, [], ◌∷◌, ◌++◌, Option, Some, None, refl, sym, ap, subst, ◌∙◌, arith}
 use Rattle.std.specs.Prelude.{flat_map, sum_by, IfSome}
 use Rattle.std.specs.List.{AllZip}
 use Rattle.std.proofs.lemmas.Grind.{flat_map-append}
 use Rattle.std.proofs.lemmas.List.Elements.{filter_map-append}
 use Rattle.std.proofs.lemmas.List.Sums.{sum_by-append, sum_by-cons}
-use Rattle.zic_base.specs.Check.{first_failed}
-use Rattle.zic_base.specs.declared.fault.Fault.{Fault}
-use Rattle.zic_base.specs.declared.fault.Kind.{Kind}
-use Rattle.zic_base.specs.declared.fault.Kind.TheVariants.{NoContinuation}
-use Rattle.zic_base.specs.Fault.{fault_at}
-use Rattle.zic_base.specs.declared.place.Place.{Place}
 use Rattle.zic_lines.specs.declared.entry.Entry.{Entry}
 use Rattle.zic_lines.specs.declared.rule.Rule.{Rule}
 use Rattle.zic_lines.specs.declared.link.Link.{Link}
-use Rattle.zic_lines.specs.declared.zone_line.ZoneLine.{ZoneLine}
-use Rattle.zic_lines.specs.Entry.{is_continuation, rules_in, links_in, zone_entries_in}
-use Rattle.zic_lines.specs.Line.{PlacedLine}
-use Rattle.zic_lines.specs.Grammar.{Says}
-use Rattle.zic_lines.specs.Checks.{line_checks}
+use Rattle.zic_lines.specs.Entry.{is_continuation}
 use Rattle.zic_source.specs.Event.{Event, Line, End}
 use Rattle.zic_source.specs.Source.{SourceLines, ZoneLines}
-use Rattle.zic_source.specs.Grammar.{Statement, Entered, Ended, EventSays, said, entries_in, goes_on, continues, open_line, is_open, IsRead}
-use Rattle.zic_source.specs.Checks.{entry_checks}
-use Rattle.zic_source.specs.FirstFault.{SaysNext, Fails}
+use Rattle.zic_source.specs.Grammar.{Statement, Entered, Ended, EventSays, said, entries_in, goes_on, continues, is_open, IsRead}
 use Rattle.zic_lines.proofs.Entries.{says_once}
 use Rattle.zic_source.proofs.reading.Continuations.{Continued, parted, InTurn, turns, first_turns}
 use Rattle.zic_source.proofs.reading.Zones.{same_zones}
-use Rattle.zic_source.proofs.reading.Limits.{IsOf, Limit, amount, amount_in, most, amount_said, HasRoom, passed_if_room}
-use Rattle.zic_source.proofs.reading.Read.{entries_of, Read, is_read}
+use Rattle.zic_source.proofs.reading.Limits.{IsOf, Limit, amount, amount_in, most, amount_said, HasRoom}
+use Rattle.zic_source.proofs.reading.Read.{entries_of, is_read}
 
 -- ---- each event says one thing
 
@@ -101,7 +89,7 @@ module _ (source total : SourceLines) (first : List (Option Statement)) (continu
   has_room : (entry : Entry) (last : List (Option Statement)) → IsOf total (entries_of (first ++ Some (Entered entry) ∷ last)) → ((limit : Limit) → amount total limit ≤ most limit) → HasRoom source entry
   has_room entry last all within limit =
       let cut : entries_of (first ++ Some (Entered entry) ∷ last) ≡ entries_of first ++ entry ∷ entries_of last =
-          ap (flat_map entries_in) (filter_map-append (λ (s : Option Statement). s) first (Some (Entered entry) ∷ last)) ∙ flat_map-append entries_in (said first) (said (Some (Entered entry) ∷ last)) in
+      ap (flat_map entries_in) (filter_map-append (λ (s : Option Statement). s) first (Some (Entered entry) ∷ last)) ∙ flat_map-append entries_in (said first) (said (Some (Entered entry) ∷ last)) in
       let sums : amount total limit ≡ sum_by (amount_in limit) (entries_of first ++ entry ∷ entries_of last) = amount_said total _ all limit ∙ ap (sum_by (amount_in limit)) cut in
       omega (arith, within limit, sums, sum_by-append (amount_in limit) (entries_of first) (entry ∷ entries_of last), sum_by-cons (amount_in limit) entry (entries_of last), amount_said source (entries_of first) is limit)
 
@@ -135,7 +123,10 @@ event_fits before event after source total is all =
     let c = cut before event after t.statements t.each in
     let in_turn : InTurn false (said c.first) = first_turns false (said c.first) (said (c.own ∷ c.last))
     (subst (InTurn false) (ap said c.are ∙ filter_map-append (λ (s : Option Statement). s) c.first (c.own ∷ c.last)) (turns _ _ _ t.continued)) in
-    let are : t.statements ≡ r.statements ++ c.own ∷ c.last = c.are ∙ ap (λ (ss : List (Option Statement)). ss ++ c.own ∷ c.last) (events_once false before c.first r.statements c.of_first r.each in_turn (turns _ _ _ r.continued)) in
-    (c.own, c.of_own, fits source total r.statements r.continued r.is c.own c.last
-    (subst (λ (ss : List (Option Statement)). Continued false (said ss) (is_open total)) are t.continued)
-    (subst (λ (ss : List (Option Statement)). IsOf total (entries_of ss)) are t.is) t.within)
+    let are : t.statements ≡ r.statements ++ c.own ∷ c.last = c.are ∙ ap (λ (ss : List (Option Statement)). ss ++ c.own ∷ c.last) (events_once false before c.first r.statements c.of_first r.each in_turn (turns _ _ _ r.continued)) in (
+      c.own,
+      c.of_own,
+      fits source total r.statements r.continued r.is c.own c.last
+          (subst (λ (ss : List (Option Statement)). Continued false (said ss) (is_open total)) are t.continued)
+          (subst (λ (ss : List (Option Statement)). IsOf total (entries_of ss)) are t.is) t.within,
+    )

@@ -1,11 +1,11 @@
 -- What is read, by what each event says.
-use Rattle.std.proofs.Common.{◌≡◌, ℕ, ◌≤◌, false, cond, List, [], ◌∷◌, ◌++◌, length, Option, Some, None, refl, sym, ap, subst, ◌∙◌, arith}
+use Rattle.std.proofs.Common.{◌≡◌, ℕ, ◌≤◌, false, cond, List, length, Option, refl, sym, subst, ◌∙◌, arith}
 use Rattle.std.specs.Prelude.{flat_map, sum_by, bytes_eq}
 use Rattle.std.specs.List.{AllZip}
 use Rattle.zic_lines.specs.declared.entry.Entry.{Entry}
 use Rattle.zic_lines.specs.Entry.{names_in}
 use Rattle.zic_source.specs.Event.{Event}
-use Rattle.zic_source.specs.Source.{SourceLines, zone_lines_of}
+use Rattle.zic_source.specs.Source.{SourceLines}
 use Rattle.zic_source.specs.Grammar.{Statement, EventSays, said, entries_in, is_open, IsRead}
 use Rattle.zic_source.proofs.Counts.{sum_flat_map, times, once_differ, differ_once}
 use Rattle.zic_source.proofs.reading.Continuations.{Continued, one_later, in_turn}

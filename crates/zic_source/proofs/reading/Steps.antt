@@ -1,7 +1,7 @@
 -- Reading goes on by one event: nothing is read at first, and what is read stays read with one blank line, one entry or one end
 -- of a text more.
-use Rattle.std.proofs.Common.{◌≡◌, ℕ, ◌+◌, ◌≤◌, Bool, false, List, [], ◌∷◌, ◌++◌, Option, Some, None, refl, sym, ap, subst, ◌∙◌, arith}
-use Rattle.std.specs.Prelude.{flat_map, filter_map, sum_by}
+use Rattle.std.proofs.Common.{◌≡◌, ◌≤◌, false, List, [], ◌∷◌, ◌++◌, Option, Some, None, refl, sym, ap, subst, ◌∙◌, arith}
+use Rattle.std.specs.Prelude.{flat_map}
 use Rattle.std.specs.List.{AllZip}
 use Rattle.std.proofs.lemmas.Grind.{flat_map-append}
 use Rattle.std.proofs.lemmas.List.{append-nil}
@@ -17,14 +17,14 @@ use Rattle.zic_lines.specs.Entry.{has_until, is_continuation, goes_on, rules_in,
 use Rattle.zic_lines.specs.Line.{PlacedLine}
 use Rattle.zic_lines.specs.Grammar.{Says}
 use Rattle.zic_source.specs.Event.{Event, Line, End}
-use Rattle.zic_source.specs.Source.{SourceLines, ZoneLines, no_lines, zone_lines_of, entries_of_zone}
+use Rattle.zic_source.specs.Source.{SourceLines, no_lines, entries_of_zone}
 use Rattle.zic_source.specs.Grammar.{Statement, Entered, Ended, EventSays, said, entries_in, is_open, IsRead}
 use Rattle.zic_source.specs.Checks.{entry_checks}
 use Rattle.zic_source.specs.FirstFault.{SaysNext}
 use Rattle.zic_source.specs.code.Adding.{continued, with_entry}
 use Rattle.zic_source.proofs.reading.Continuations.{Continued, joined}
 use Rattle.zic_source.proofs.reading.Zones.{lines_in, zone_lines_said, open_after, open_continued}
-use Rattle.zic_source.proofs.reading.Limits.{IsOf, Limit, OfSet, Rules, Lines, Names, OfName, amount, amount_in, most, amount_said, HasRoom, room_if_passed}
+use Rattle.zic_source.proofs.reading.Limits.{IsOf, Limit, amount, amount_in, most, amount_said, HasRoom, room_if_passed}
 use Rattle.zic_source.proofs.reading.Read.{entries_of, Read, read_is, is_read}
 
 -- ---- one entry more is said

@@ -7,7 +7,7 @@ use Rattle.zic_lines.specs.declared.entry.Entry.{Entry}
 use Rattle.zic_lines.specs.declared.entry.Entry.TheVariants as entries
 use Rattle.zic_lines.specs.Entry.{has_until, zone_entries_in}
 use Rattle.zic_source.specs.Source.{ZoneLines, SourceLines, lines_of_zone, zone_lines_of, entries_of_zone}
-use Rattle.zic_source.specs.Grammar.{last_until, open_line, is_open}
+use Rattle.zic_source.specs.Grammar.{last_until, is_open}
 use Rattle.zic_source.specs.code.Adding.{continued}
 use Rattle.zic_source.proofs.Counts.{flat_map_twice}
 

@@ -1,8 +1,8 @@
-use Rattle.std.proofs.Common.{◌≤◌, ◌<◌, ◌+◌, List, length, drop, sym, ap, subst, ◌∙◌, arith}
+use Rattle.std.proofs.Common.{◌≤◌, ◌<◌, ◌+◌, length, sym, ap, subst, arith}
 use Rattle.std.proofs.lemmas.List.{length-map, drop_all}
 use Rattle.std.proofs.lemmas.Result.{err_from_is_err_and}
 use Rattle.zic_source.specs.Event.{events_of}
-use Rattle.zic_source.specs.Source.{no_lines, SourceLines}
+use Rattle.zic_source.specs.Source.{no_lines}
 use Rattle.zic_source.specs.Texts.{texts_of}
 use Rattle.zic_source.specs.code.Lines.{source_lines}
 use Rattle.zic_source.proofs.events.Leads.{IsSoFar, so_far_begins, so_far_ends}

@@ -1,6 +1,6 @@
 use Rattle.std.proofs.Common.{◌≡◌, ◌+◌, ◌-◌, ◌∷◌, [], ◌++◌, List, length, ap, ◌∙◌, arith}
 use Rattle.zic_lines.specs.declared.zone_line.ZoneLine.{ZoneLine}
-use Rattle.zic_source.specs.Source.{SourceLines, ZoneLines}
+use Rattle.zic_source.specs.Source.{ZoneLines}
 use Rattle.zic_source.proofs.lookups.LastZone.{continued_is}
 use Rattle.zic_source.proofs.lines.Lines.continue_zone.Goals as goal
 

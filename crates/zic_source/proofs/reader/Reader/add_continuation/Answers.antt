@@ -1,5 +1,4 @@
-use Rattle.std.proofs.Common.{List, length, sym, ap, subst, arith}
-use Rattle.zic_lines.specs.declared.rule.Rule.{Rule}
+use Rattle.std.proofs.Common.{length, sym, ap, subst, arith}
 use Rattle.zic_source.specs.Source.{SourceLines, zone_lines_of}
 use Rattle.zic_source.specs.code.Lines.{source_lines}
 use Rattle.zic_source.specs.code.Names.{IndexesNames}

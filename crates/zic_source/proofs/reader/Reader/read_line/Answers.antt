@@ -1,14 +1,13 @@
-use Rattle.std.proofs.Common.{◌≡◌, [], ℕ, List, inl, inr, Some, sym, ap, subst, ◌∙◌}
+use Rattle.std.proofs.Common.{◌≡◌, [], ℕ, List, inl, inr, Some, sym, subst, ◌∙◌}
 use Rattle.std.proofs.lemmas.List.{nil_from_length}
 use Rattle.std.proofs.lemmas.Result.{err_from_is_err_and}
 use Rattle.zic_base.specs.Fault.{fault_of}
 use Rattle.zic_lines.specs.Line.{PlacedLine}
-use Rattle.zic_lines.specs.Field.{fields}
 use Rattle.zic_lines.specs.Grammar.{FieldsSay}
 use Rattle.zic_source.specs.Grammar.{is_open}
 use Rattle.zic_source.specs.FirstFault.{SaysNext}
 use Rattle.zic_source.specs.code.Lines.{source_lines}
-use Rattle.zic_source.proofs.events.Leads.{blank_leads, entry_leads, open_is, if_some_map, on_ok_map, refusal_map, want_map}
+use Rattle.zic_source.proofs.events.Leads.{blank_leads, entry_leads, open_is, if_some_map, on_ok_map, refusal_map}
 use Rattle.zic_source.proofs.events.Passes.{fields_fail}
 use Rattle.zic_source.proofs.reader.Reader.read_line.Goals as goal
 
@@ -31,7 +30,8 @@ returns-clause-read c =
     let awaited : c.is_some-awaited.result ≡ is_open source = c.is_some-awaited.ensures ∙ open_is source c.open_place.result c.open_place.ensures in
     let says : SaysNext source line c.in_ok-entry.entry = (
       (c.in_ok-take_line.ensures.ok.0, subst (λ (fs : List (List ℕ)). FieldsSay c.args.place fs (Some c.in_ok-entry.entry)) c.in_ok-take_line.ensures.ok.1 c.in_ok-entry.ensures.says.0),
-      c.in_ok-entry.ensures.says.1 ∙ awaited) in
+      c.in_ok-entry.ensures.says.1 ∙ awaited,
+    ) in
     on_ok_map c.add.result _ _ (entry_leads source (source_lines c.add.new.self.lines) line c.in_ok-entry.entry says) c.add.ensures.added
 
 pub returns-clause-fault : goal.returns-clause-fault
@@ -41,5 +41,6 @@ returns-clause-fault c =
     let awaited : c.is_some-awaited.result ≡ is_open source = c.is_some-awaited.ensures ∙ open_is source c.open_place.result c.open_place.ensures in
     let says : SaysNext source line c.in_ok-entry.entry = (
       (c.in_ok-take_line.ensures.ok.0, subst (λ (fs : List (List ℕ)). FieldsSay c.args.place fs (Some c.in_ok-entry.entry)) c.in_ok-take_line.ensures.ok.1 c.in_ok-entry.ensures.says.0),
-      c.in_ok-entry.ensures.says.1 ∙ awaited) in
+      c.in_ok-entry.ensures.says.1 ∙ awaited,
+    ) in
     refusal_map c.add.result _ _ (λ fault h. inr (c.in_ok-entry.entry, says, h)) c.add.ensures.fault

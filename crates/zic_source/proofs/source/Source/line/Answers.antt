@@ -1,7 +1,5 @@
-use Rattle.std.proofs.Common.{◌≡◌, ◌<◌, length, Some, List, ap, subst, refl, arith}
-use Rattle.std.specs.Prelude.{slice_get}
+use Rattle.std.proofs.Common.{◌<◌, length, ap, subst, refl, arith}
 use Rattle.std.proofs.lemmas.Option.{slice_get_read}
-use Rattle.zic_lines.specs.declared.rule.Rule.{Rule}
 use Rattle.zic_source.specs.Source.{SourceLines, lines_of_zone}
 use Rattle.zic_source.specs.Sound.{IsSoundZone, IsSoundLine}
 use Rattle.zic_source.proofs.Elements.{all_got}

@@ -1,4 +1,4 @@
-use Rattle.std.proofs.Common.{◌≡◌, ◌<◌, length, ap, refl, arith}
+use Rattle.std.proofs.Common.{◌<◌, length, ap, refl, arith}
 use Rattle.std.proofs.lemmas.Option.{slice_get_read}
 use Rattle.zic_source.specs.Source.{SourceLines}
 use Rattle.zic_source.specs.code.Lines.{source_lines}
