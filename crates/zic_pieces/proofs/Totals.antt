@@ -1,11 +1,11 @@
 -- Sums over all passes.
-use Rattle.std.proofs.Common.{◌≡◌, ◌≢◌, ℕ, zero, suc, ◌+◌, ◌<◌, ◌≤◌, List, [], ◌∷◌, ◌++◌, max, set, refl, sym, ap, ◌∙◌, subst, arith}
+use Rattle.std.proofs.Common.{◌≡◌, ◌≢◌, ℕ, zero, suc, ◌+◌, ◌≤◌, List, [], ◌∷◌, ◌++◌, max, set, refl, sym, ap, arith}
 use mathlib.Core.Option.{some, some-injective, some-ne-none}
 use lib.ListN.{get_elem?}
 use Rattle.zic_pieces.specs.declared.event.Event.{Event}
 use Rattle.zic_pieces.specs.declared.event.Known.{Known}
-use Rattle.zic_pieces.specs.Events.{draws, drawn_by, past, past_of, weigh}
-use Rattle.zic_pieces.specs.Core.{total, weigh_below}
+use Rattle.zic_pieces.specs.Events.{draws, drawn_by, past, weigh}
+use Rattle.zic_pieces.specs.Core.{total}
 
 -- one pass is changed
 pub total_set : (f : Known → ℕ) (vs : List Known) (id : ℕ) (v w : Known) → get_elem? vs id ≡ some v → total f (set vs id w) + f v ≡ total f vs + f w

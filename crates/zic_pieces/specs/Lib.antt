@@ -1,2 +1,7 @@
 pub mod Events
+pub mod Given
 pub mod Core
+pub mod Passes
+pub mod Answers
+pub mod Settlement
+pub mod code
