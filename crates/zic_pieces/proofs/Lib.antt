@@ -6,3 +6,4 @@ pub mod Sounds
 pub mod Steps
 pub mod Kept
 pub mod Settles
+pub mod Works

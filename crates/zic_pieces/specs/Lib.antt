@@ -4,4 +4,5 @@ pub mod Core
 pub mod Passes
 pub mod Answers
 pub mod Settlement
+pub mod Task
 pub mod code
