@@ -7,3 +7,6 @@ pub mod Steps
 pub mod Kept
 pub mod Settles
 pub mod Works
+pub mod Orders
+pub mod Crews
+pub mod Decides

@@ -63,14 +63,14 @@ module _ {X F : Type 0} (o : ℕ → Result X F) (n : ℕ) where
   -- what was done over some events, and over those after them
   pub work_append : (xs ys : List Event) (a b : List (ℕ × X)) (h k : Halt) → IsWork o n xs a h → IsWork o n ys b k → IsWork o n (xs ++ ys) (a ++ b) (the_lesser h k)
   work_append xs ys a b h k p q = record {
-      whole = whole_append n xs ys p.whole q.whole;
-      own = λ i x m. ⊎_elim (p.own i x) (q.own i x) (at_either a b (i, x) m);
-      done = λ i more. (let e = ap (times i) (given_append n xs ys p.whole) ∙ weigh_append (one_at i) (given n xs) (given n ys) in
-          dite (dec_le 1 (times i (given n xs)))
-            (λ some_front. ⊎_elim (λ m. inl (m.0, at_front a b (i, m.0) m.1)) (λ m. inr (has_front xs ys (Reported i) m)) (p.done i some_front))
-            (λ none_front. ⊎_elim (λ m. inl (m.0, at_back a b (i, m.0) m.1)) (λ m. inr (has_back xs ys (Reported i) m)) (q.done i (omega arith))));
-      halts = halt_append xs ys h k p.halts q.halts;
-    }
+    whole = whole_append n xs ys p.whole q.whole;
+    own = λ i x m. ⊎_elim (p.own i x) (q.own i x) (at_either a b (i, x) m);
+    done = λ i more. (let e = ap (times i) (given_append n xs ys p.whole) ∙ weigh_append (one_at i) (given n xs) (given n ys) in
+        dite (dec_le 1 (times i (given n xs)))
+        (λ some_front. ⊎_elim (λ m. inl (m.0, at_front a b (i, m.0) m.1)) (λ m. inr (has_front xs ys (Reported i) m)) (p.done i some_front))
+        (λ none_front. ⊎_elim (λ m. inl (m.0, at_back a b (i, m.0) m.1)) (λ m. inr (has_back xs ys (Reported i) m)) (q.done i (omega arith))));
+    halts = halt_append xs ys h k p.halts q.halts;
+  }
 
   no_values : (i : ℕ) (x : X) → IsKeptAt {X = X} [] i x → ⊥
   no_values i x m = some-ne-none (i, x) (sym m.1)
@@ -85,11 +85,11 @@ module _ {X F : Type 0} (o : ℕ → Result X F) (n : ℕ) where
   -- a draw past the last piece
   pub work_end : (i s : ℕ) → n ≤ i → IsWork o n (Drew i s ∷ []) [] None
   work_end i s high = record {
-      whole = whole_end n i s [] refl high;
-      own = λ j x m. absurd (no_values j x m);
-      done = λ j more. (let e = ap (times j) (given_end n i s [] refl) in absurd (omega arith));
-      halts = λ j m. no_report j i s m;
-    }
+    whole = whole_end n i s [] refl high;
+    own = λ j x m. absurd (no_values j x m);
+    done = λ j more. (let e = ap (times j) (given_end n i s [] refl) in absurd (omega arith));
+    halts = λ j m. no_report j i s m;
+  }
 
   no_report_two : (i j s g b : ℕ) → Has (Drew j s ∷ Glanced g b ∷ []) (Reported i) → ⊥
   no_report_two i j s g b m = ⊎_elim (no_report i j s) (λ r. (let e = has_one (Glanced g b) (Reported i) r in absurd (cc))) (has_either (Drew j s ∷ []) (Glanced g b ∷ []) (Reported i) m)
@@ -97,11 +97,11 @@ module _ {X F : Type 0} (o : ℕ → Result X F) (n : ℕ) where
   -- a claim that skips a piece
   pub work_skip : (i s g b : ℕ) → g < i → IsWork o n (Drew i s ∷ Glanced g b ∷ []) [] None
   work_skip i s g b less = record {
-      whole = whole_claim n i s g b [] refl;
-      own = λ j x m. absurd (no_values j x m);
-      done = λ j more. (let e = ap (times j) (given_skip n i s g b [] refl less) in absurd (omega arith));
-      halts = λ j m. no_report_two j i s g b m;
-    }
+    whole = whole_claim n i s g b [] refl;
+    own = λ j x m. absurd (no_values j x m);
+    done = λ j more. (let e = ap (times j) (given_skip n i s g b [] refl less) in absurd (omega arith));
+    halts = λ j m. no_report_two j i s g b m;
+  }
 
   -- which number a claim gave
   the_given : (i s g b j : ℕ) → i < n → i ≤ g → 0 < times j (given n (Drew i s ∷ Glanced g b ∷ [])) → i ≡ j
@@ -115,11 +115,11 @@ module _ {X F : Type 0} (o : ℕ → Result X F) (n : ℕ) where
   -- a claim that gives a piece, whose value is kept
   pub work_keep : (i s g b : ℕ) (x : X) → i < n → i ≤ g → o i ≡ Ok x → IsWork o n (Drew i s ∷ Glanced g b ∷ []) ((i, x) ∷ []) None
   work_keep i s g b x low le is = record {
-      whole = whole_claim n i s g b [] refl;
-      own = λ j y m. subst (λ (p : ℕ × X). (o p.0 ≡ Ok p.1) × (p.0 < n)) (one_value i j x y m) (is, low);
-      done = λ j more. inl (x, (0, ap (λ k. some (k, x)) (the_given i s g b j low le more)));
-      halts = λ j m. no_report_two j i s g b m;
-    }
+    whole = whole_claim n i s g b [] refl;
+    own = λ j y m. subst (λ (p : ℕ × X). (o p.0 ≡ Ok p.1) × (p.0 < n)) (one_value i j x y m) (is, low);
+    done = λ j more. inl (x, (0, ap (λ k. some (k, x)) (the_given i s g b j low le more)));
+    halts = λ j m. no_report_two j i s g b m;
+  }
 
   -- a claim that gives a piece, which is reported
   pub work_halt : (i s g b : ℕ) (r : PieceStop F) → i < n → i ≤ g → IsReason (o i) r → IsWork o n ((Drew i s ∷ Glanced g b ∷ []) ++ Reported i ∷ []) [] (Some (i, r))
@@ -130,8 +130,12 @@ module _ {X F : Type 0} (o : ℕ → Result X F) (n : ℕ) where
         own = λ j x m. absurd (no_values j x m);
         done = λ j more. (let e = ap (times j) (given_append n two (Reported i ∷ []) (whole_claim n i s g b [] refl) ∙ append-nil (given n two)) in
             inr (has_back two (Reported i ∷ []) (Reported j) (0, ap (λ k. some (Reported k)) (the_given i s g b j low le (omega arith)))));
-        halts = (low, has_back two (Reported i ∷ []) (Reported i) (0, refl),
-          (λ j m. ⊎_elim (λ q. absurd (no_report_two j i s g b q)) (λ q. (let e : Reported i ≡ Reported j = has_one (Reported i) (Reported j) q in let same : i ≡ j = cc in omega arith)) (has_either two (Reported i ∷ []) (Reported j) m)), is);
+        halts = (
+          low,
+          has_back two (Reported i ∷ []) (Reported i) (0, refl),
+          (λ j m. ⊎_elim (λ q. absurd (no_report_two j i s g b q)) (λ q. (let e : Reported i ≡ Reported j = has_one (Reported i) (Reported j) q in let same : i ≡ j = cc in omega arith)) (has_either two (Reported i ∷ []) (Reported j) m)),
+          is,
+        );
       }
 
 -- the draw and the glance of a claim, as two events at the end
@@ -143,9 +147,9 @@ module _ {X F : Type 0} (o : ℕ → Result X F) (v : Known) (vals : List (ℕ �
   step_end w answer = ⊎_elim
       (λ (same : (v.ended ≡ true) × (w ≡ v)). subst (λ (u : Known). IsWork o u.pieces u.events vals halt) (sym same.1) so_far)
       (λ over. (let i : ℕ = over.0 in
-          let more = work_append o v.pieces v.events (Drew i v.seen ∷ []) vals [] halt None so_far (work_end o v.pieces i v.seen over.2) in
-          let tidy = subst (λ (h : Option (ℕ × PieceStop F)). IsWork o v.pieces (v.events ++ Drew i v.seen ∷ []) vals h) (lesser_none halt) (subst (λ (l : List (ℕ × X)). IsWork o v.pieces (v.events ++ Drew i v.seen ∷ []) l (the_lesser halt None)) (append-nil vals) more) in
-          subst (λ (u : Known). IsWork o u.pieces u.events vals halt) (sym over.3) tidy))
+      let more = work_append o v.pieces v.events (Drew i v.seen ∷ []) vals [] halt None so_far (work_end o v.pieces i v.seen over.2) in
+      let tidy = subst (λ (h : Option (ℕ × PieceStop F)). IsWork o v.pieces (v.events ++ Drew i v.seen ∷ []) vals h) (lesser_none halt) (subst (λ (l : List (ℕ × X)). IsWork o v.pieces (v.events ++ Drew i v.seen ∷ []) l (the_lesser halt None)) (append-nil vals) more) in
+      subst (λ (u : Known). IsWork o u.pieces u.events vals halt) (sym over.3) tidy))
       answer
 
   pub step_skip : (i : ℕ) (w : Known) → Answers v (Skip i) w → IsWork o w.pieces w.events vals halt
@@ -188,3 +192,7 @@ nearer i g v w draws sound =
 
 pub report_past : (i : ℕ) (w u : Known) → u ≡ reported i w → u.pieces + 1025 - past u.events ≡ w.pieces + 1025 - past w.events
 report_past i w u is = ap (λ (k : Known). k.pieces + 1025 - past k.events) is ∙ (let a = past_append w.events (Reported i ∷ []) in omega arith)
+
+pub work_as : {X F : Type 0} (o : ℕ → Result X F) (n m : ℕ) (es ds : List Event) (a b : List (ℕ × X)) (h k : Option (ℕ × PieceStop F)) → IsWork o n es a h → m ≡ n → ds ≡ es → b ≡ a → k ≡ h → IsWork o m ds b k
+work_as {X} {F} o n m es ds a b h k w p q r s =
+    subst (λ (z : ℕ × List Event × List (ℕ × X) × Option (ℕ × PieceStop F)). IsWork o z.0 z.1 z.2 z.3) (λ i. (sym p i, sym q i, sym r i, sym s i)) w

@@ -3,10 +3,13 @@
 
 mod claim;
 mod claims;
+mod crew;
 mod event;
 mod gate;
+mod order;
 mod pass;
 mod rule;
+mod run;
 mod task;
 #[cfg(test)]
 mod tests;
@@ -17,4 +20,5 @@ pub use claims::{Claims, MOST_PIECES};
 pub use event::{Event, Known};
 pub use gate::{Gate, Open};
 pub use pass::Pass;
+pub use run::run_task;
 pub use task::{PieceStop, Task, TaskStop};

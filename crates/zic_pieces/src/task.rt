@@ -17,6 +17,7 @@ pub enum PieceStop<F> {
 /// A task of pieces 0, 1, 2, .. Each piece of a given task has one value, or one fault.
 pub trait Task {
     type Out: Send + Drop;
+
     type Fault: Send + Drop;
 
     ghost use Rattle.std.specs.Prelude.{ℕ, Result};
