@@ -1,11 +1,8 @@
 -- What the workers' work comes to, once their claims are settled.
-use Rattle.std.proofs.Common.{◌≡◌, ◌⊎◌, ℕ, zero, suc, ◌+◌, ◌<◌, ◌≤◌, List, length, Option, Some, None, Result, Ok, Err, refl, sym, ap, ◌∙◌, subst, inl, inr, ⊎_elim, arith}
-use mathlib.Core.Option.{some}
-use lib.ListN.{get_elem?}
+use Rattle.std.proofs.Common.{◌≡◌, ℕ, ◌<◌, ◌≤◌, List, Option, Some, None, Result, sym, ◌∙◌, subst, ⊎_elim, arith}
 use Rattle.zic_pieces.specs.declared.event.Event.{Event}
-use Rattle.zic_pieces.specs.declared.event.Event.TheVariants.{Reported}
 use Rattle.zic_pieces.specs.declared.task.PieceStop.{PieceStop}
-use Rattle.zic_pieces.specs.Events.{Has, times}
+use Rattle.zic_pieces.specs.Events.{times}
 use Rattle.zic_pieces.specs.Given.{given}
 use Rattle.zic_pieces.specs.Passes.{Shared, Held, IsOf}
 use Rattle.zic_pieces.specs.Settlement.{IsLeast}

@@ -1,5 +1,5 @@
 -- What was done over some events and over those after them.
-use Rattle.std.proofs.Common.{◌≡◌, ◌≢◌, ◌⊎◌, ℕ, zero, suc, ◌+◌, ◌-◌, ◌<◌, ◌≤◌, Bool, true, false, not, ◌&&◌, ◌||◌, nat_lt, nat_le, List, [], ◌∷◌, ◌++◌, length, cond, Option, Some, None, Result, Ok, Err, refl, sym, ap, ◌∙◌, subst, inl, inr, ⊎_elim, arith, append_assoc}
+use Rattle.std.proofs.Common.{◌≡◌, ◌⊎◌, ℕ, zero, suc, ◌+◌, ◌-◌, ◌<◌, ◌≤◌, Bool, true, false, nat_lt, List, [], ◌∷◌, ◌++◌, cond, Option, Some, None, Result, Ok, refl, sym, ap, ◌∙◌, subst, inl, inr, ⊎_elim, arith, append_assoc}
 use Rattle.std.proofs.lemmas.List.{append-nil}
 use Rattle.std.proofs.lemmas.Bool.Decides.{nat_tests}
 use mathlib.Core.Option.{some, some-injective, some-ne-none}
@@ -12,8 +12,8 @@ use Rattle.zic_pieces.specs.declared.event.Event.TheVariants.{Drew, Reported, Gl
 use Rattle.zic_pieces.specs.declared.task.PieceStop.{PieceStop}
 use Rattle.zic_pieces.specs.declared.event.Known.{Known}
 use Rattle.zic_pieces.specs.declared.claim.Claim.TheVariants.{Do, Skip, End}
-use Rattle.zic_pieces.specs.Events.{Has, past, weigh, times, one_at}
-use Rattle.zic_pieces.specs.Given.{given, is_whole}
+use Rattle.zic_pieces.specs.Events.{Has, past, times, one_at}
+use Rattle.zic_pieces.specs.Given.{given}
 use Rattle.zic_pieces.specs.Core.{drew, reported, glanced}
 use Rattle.zic_pieces.specs.Passes.{IsSound}
 use Rattle.zic_pieces.specs.Answers.{Answers, DrawsThenGlances}

@@ -1,4 +1,4 @@
-use Rattle.std.proofs.Common.{◌≡◌, ℕ, sym, ap, ◌∙◌, subst, arith}
+use Rattle.std.proofs.Common.{sym, ◌∙◌, subst}
 use Rattle.zic_pieces.specs.Task.{IsStop}
 use Rattle.zic_pieces.specs.code.Order.{AllBelow, EachHas, AreInOrder}
 use Rattle.zic_pieces.proofs.Decides.{settled, none_below, none_each, none_values, some_stop}

@@ -1,4 +1,4 @@
-use Rattle.std.proofs.Common.{◌≡◌, ◌+◌, ◌∙◌, arith}
+use Rattle.std.proofs.Common.{◌∙◌, arith}
 use Rattle.zic_pieces.specs.code.Crew.{IsFresh}
 use Rattle.zic_pieces.proofs.Crews.{crew_of, finished, read_each}
 use Rattle.zic_pieces.proofs.run.run_workers.Goals as goal

@@ -1,4 +1,4 @@
-use Rattle.std.proofs.Common.{rules, ◌≡◌, ℕ, List, length, slice_index_or, sym, ap, ◌∙◌, subst, arith}
+use Rattle.std.proofs.Common.{rules, sym, subst}
 use Rattle.zic_pieces.specs.code.Crew.{IsFresh}
 use Rattle.zic_pieces.proofs.run.start_workers.Goals as goal
 

@@ -1,7 +1,6 @@
-use Rattle.std.proofs.Common.{◌≡◌, ◌+◌, ◌-◌, ◌<◌, ◌≤◌, rules, sym, ap, ◌∙◌, subst, arith}
+use Rattle.std.proofs.Common.{◌≡◌, rules, ap, ◌∙◌, arith}
 use Rattle.zic_pieces.specs.declared.event.Known.{Known}
-use Rattle.zic_pieces.specs.Passes.{Held}
-use Rattle.zic_pieces.proofs.Works.{work_none, step_end, step_skip, step_keep, step_halt, nearer, report_past}
+use Rattle.zic_pieces.proofs.Works.{step_end, step_skip, step_keep, step_halt, nearer, report_past}
 use Rattle.zic_pieces.proofs.work.work.Goals as goal
 
 pub loop-i-smaller-in-Err : goal.loop-i-smaller-in-Err

@@ -1,4 +1,4 @@
-use Rattle.std.proofs.Common.{◌≡◌, ℕ, ◌+◌, ◌-◌, ◌≤◌}
+use Rattle.std.proofs.Common.{◌≡◌, ◌+◌, ◌-◌}
 use Rattle.zic_pieces.specs.Events.{past}
 use Rattle.zic_pieces.specs.Passes.{IsOf}
 use Rattle.zic_pieces.specs.code.Work.{IsWork}
