@@ -10,3 +10,4 @@ pub mod Works
 pub mod Orders
 pub mod Crews
 pub mod Decides
+pub mod Heard

@@ -4,5 +4,6 @@ pub mod Core
 pub mod Passes
 pub mod Answers
 pub mod Settlement
+pub mod Laws
 pub mod Task
 pub mod code

@@ -6,6 +6,7 @@ mod claims;
 mod crew;
 mod event;
 mod gate;
+pub mod laws;
 mod order;
 mod pass;
 mod rule;
