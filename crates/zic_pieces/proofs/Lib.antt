@@ -1,0 +1,13 @@
+pub mod Totals
+pub mod Members
+pub mod Keeps
+pub mod Givens
+pub mod Sounds
+pub mod Steps
+pub mod Kept
+pub mod Settles
+pub mod Works
+pub mod Orders
+pub mod Crews
+pub mod Decides
+pub mod Heard

@@ -1,0 +1,13 @@
+use Rattle.std.proofs.Common.{◌-◌, rules, sym, subst, arith}
+use Rattle.zic_pieces.specs.code.Rule.{Sat, IsKept}
+use Rattle.zic_pieces.proofs.Steps.{split_allowed}
+use Rattle.zic_pieces.proofs.Kept.{kept_left}
+use Rattle.zic_pieces.proofs.claims.Claims.split.Goals as goal
+
+pub split_seat-seat-requires : goal.split_seat-seat-requires
+split_seat-seat-requires c = let n = c.if-pass-eq0.false in (search rules, omega arith, split_allowed _ _ _ (omega arith))
+
+pub invariant_of-pass : goal.invariant_of-pass
+invariant_of-pass c =
+    let n = c.if-pass-eq0.false in
+    subst (λ (m : Sat). IsKept m (c.pass.inside.room - 1) c.pass.inside.ended c.pass.inside.given) (sym c.split_seat-seat.ensures.2) (kept_left _ _ _ _ c.pass.invariant (omega arith))

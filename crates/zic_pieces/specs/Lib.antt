@@ -1,0 +1,9 @@
+pub mod Events
+pub mod Given
+pub mod Core
+pub mod Passes
+pub mod Answers
+pub mod Settlement
+pub mod Laws
+pub mod Task
+pub mod code

@@ -1,0 +1,5 @@
+pub mod Rule
+pub mod Work
+pub mod Order
+pub mod Crew
+pub mod Stop

@@ -1,0 +1,182 @@
+//! Shared claims on numbered pieces.
+
+ghost use Rattle.std.specs.Prelude.{◌≡◌, ℕ, ◌+◌, ◌≤◌, ◌<◌, length, IfOk, IsTrue};
+ghost use Rattle.zic_pieces.specs.Events.{draws, times};
+ghost use Rattle.zic_pieces.specs.Given.{given, skipped};
+ghost use Rattle.zic_pieces.specs.Settlement.{IsEachBelow, IsLeast, FindReports};
+ghost use Rattle.zic_pieces.specs.Core.{first, both, glanced, reported};
+ghost use Rattle.zic_pieces.specs.Answers.{Answers, IsCut};
+ghost use Rattle.zic_pieces.specs.Passes.{IsOf, IsSound};
+
+use crate::claim::{Claim, Settled, Split};
+use crate::event::Known;
+use crate::pass::Pass;
+use crate::rule::{Core, Draw, FAULT, Glance, Learn, NEXT, Part, Report};
+use atomic_table::Table;
+use std::alloc::{AllocError, Global};
+use std::marker::Model;
+
+/// The most pieces that claims share out.
+pub const MOST_PIECES: u64 = 4_294_967_296;
+
+/// The most passes there are at once.
+const MOST_PASSES: u64 = 1024;
+
+/// Claims on pieces 0, 1, 2, .. for any number of threads, over two atomic words. No call waits for another.
+///
+/// Contracts see which claims they are, and how many pieces there are.
+#[derive(Drop)]
+pub struct Claims {
+    table: Table<(), Known, u64, Core, Global>,
+    pieces: u64,
+}
+
+impl Model for Claims {
+    ghost use Rattle.std.specs.Prelude.{◌≡◌, ◌≤◌};
+    ghost use Rattle.zic_pieces.specs.Passes.{Shared};
+
+    ghost Value = { Shared };
+
+    ghost view = { λ c. record { table = c.table.shared.table_id; pieces = c.pieces } };
+
+    ghost invariant = { λ c. (c.table.shared.table_id.words ≡ 2) × (c.table.shared.table_id.slots ≡ 0) × (c.table.shared.key ≡ c.pieces) × (c.pieces ≤ 4294967296) };
+}
+
+impl Claims {
+    /// Claims on `pieces` pieces, and their first pass. `Err` where memory was refused.
+    pub fn new(alloc: Global, pieces: u64) -> Result<(Claims, Pass), AllocError>
+        requires { pieces ≤ 4294967296 }
+        ensures claims { IfOk result (λ r. (r.0.pieces ≡ pieces) × IsOf r.0 r.1) }
+        ensures pass { IfOk result (λ r. r.1.known ≡ first pieces) }
+    {
+        let (table, seat) = Table::of_words(alloc, &[0, pieces], &pieces)?;
+        let pass = Pass {
+            seat,
+            room: MOST_PASSES - 1,
+            ended: false,
+            given: 0,
+        };
+        Ok((Claims { table, pieces }, pass))
+    }
+
+    /// Draws a number, by one atomic step, and where it is a piece looks at the least number reported, by another.
+    /// A pass that has ended answers `End` and takes no step.
+    pub fn claim(&self, pass: &mut Pass) -> Claim
+        requires { IsOf self.now pass.old }
+        ensures whose { pass.new.table ≡ pass.old.table }
+        ensures answer { Answers pass.old.known result pass.new.known }
+        ensures sound { IsSound pass.new.known }
+    {
+        if pass.ended {
+            return Claim::End;
+        }
+        let i = self.table.shared.fetch_add::<Draw>(&mut pass.seat, NEXT, 1);
+        if i >= self.pieces {
+            pass.ended = true;
+            return Claim::End;
+        }
+        let least = self.table.shared.load::<Glance>(&mut pass.seat, FAULT);
+        if least < i {
+            return Claim::Skip(i);
+        }
+        pass.given += 1;
+        Claim::Do(i)
+    }
+
+    /// Cuts a pass of room r above 0 into one of room r - 1, which keeps the events, and one of room 0. Both keep what
+    /// the old pass had seen, and whether it had ended.
+    pub fn split(&self, mut pass: Pass) -> Split
+        requires { IsOf self.now pass }
+        ensures { IsCut pass result }
+    {
+        if pass.room == 0 {
+            return Split::Full(pass);
+        }
+        let seat = self.table.shared.split_seat::<Part>(&mut pass.seat);
+        pass.room -= 1;
+        let other = Pass {
+            seat,
+            room: 0,
+            ended: pass.ended,
+            given: 0,
+        };
+        Split::Two(pass, other)
+    }
+
+    /// Makes two passes one. Its room is the sum of the two rooms and 1; it has the first pass's events and then the
+    /// second's, and the lesser of what they had seen; and it has ended if either had.
+    pub fn join(&self, first: Pass, second: Pass) -> Pass
+        requires first { IsOf self.now first }
+        requires second { IsOf self.now second }
+        ensures joined { (result.table ≡ first.table) × (result.known ≡ both first.known second.known) }
+        ensures sound { IsSound result.known }
+    {
+        let Pass {
+            mut seat,
+            room,
+            ended,
+            given,
+        } = first;
+        let shared = &self.table.shared;
+        shared.join_seat::<Part>(&mut seat, second.seat);
+        shared.load::<Learn>(&mut seat, NEXT);
+        Pass {
+            seat,
+            room: room + second.room + 1,
+            ended: ended | second.ended,
+            given: given + second.given,
+        }
+    }
+
+    /// Reports the number `i`: no claim of a greater number that looks later is given.
+    pub fn report(&self, pass: &mut Pass, i: u64)
+        requires whose { IsOf self.now pass.old }
+        requires piece { i < self.now.pieces }
+        ensures reported { (pass.new.table ≡ pass.old.table) × (pass.new.known ≡ reported i pass.old.known) }
+        ensures sound { IsSound pass.new.known }
+    {
+        self.table
+            .shared
+            .fetch_min::<Report>(&mut pass.seat, FAULT, i);
+    }
+
+    /// The least number reported so far, or the number of pieces if none was.
+    pub fn glance(&self, pass: &mut Pass) -> u64
+        requires { IsOf self.now pass.old }
+        ensures glanced { (pass.new.table ≡ pass.old.table) × (pass.new.known ≡ glanced result pass.old.known) }
+        ensures seen { result ≤ pass.old.known.seen }
+        ensures sound { IsSound pass.new.known }
+    {
+        self.table.shared.load::<Glance>(&mut pass.seat, FAULT)
+    }
+
+    /// Ends the claims, once all passes are joined to one.
+    pub fn settle(self, pass: Pass) -> Settled
+        requires whose { IsOf self pass }
+        requires all { pass.known.parts ≡ 1024 }
+        ensures draws { (m : ℕ) × (m ≤ self.pieces + 1024) × IsEachBelow m (draws pass.known.events) }
+        ensures glances { FindReports self.pieces pass.known.events }
+        ensures least { IsLeast self.pieces pass.known.events result.least }
+        ensures given { result.given ≡ length (given self.pieces pass.known.events) }
+        ensures ended { result.ended ≡ pass.known.ended }
+        ensures all { IsTrue result.ended → (i : ℕ) → i < self.pieces → times i (draws pass.known.events) ≡ 1 }
+        ensures each { IsTrue result.ended → (i : ℕ) → i < self.pieces → i ≤ result.least → times i (given self.pieces pass.known.events) ≡ 1 }
+        ensures skipped { (i : ℕ) → i ≤ result.least → times i (skipped self.pieces pass.known.events) ≡ 0 }
+    {
+        let Claims { table, pieces: _ } = self;
+        let Pass {
+            seat,
+            room: _,
+            ended,
+            given,
+        } = pass;
+        let closed = table.close_with(seat);
+        let least = closed.word(FAULT);
+        closed.free();
+        Settled {
+            least,
+            given,
+            ended,
+        }
+    }
+}

@@ -1,0 +1,54 @@
+//! A caller's token of shared claims.
+
+ghost use Rattle.std.specs.Prelude.{◌≡◌, ◌+◌, length};
+ghost use Rattle.zic_pieces.specs.Given.{given};
+
+use crate::event::Known;
+use atomic_table::Seat;
+use std::marker::Model;
+
+/// A caller's token of claims. It tells its thread's calls apart from those of other threads, and remembers what they did.
+///
+/// Contracts see whose it is and what it knows: its events in order, the least number that it has seen, its room and
+/// whether it has ended.
+#[derive(Drop)]
+pub struct Pass {
+    pub(crate) seat: Seat<(), Known>,
+    pub(crate) room: u64,
+    pub(crate) ended: bool,
+    pub(crate) given: u64,
+}
+
+impl Model for Pass {
+    ghost use Rattle.zic_pieces.specs.Passes.{Held};
+    ghost use Rattle.zic_pieces.specs.code.Rule.{IsKept};
+
+    ghost Value = { Held };
+
+    ghost view = { λ p. record { table = p.seat.table_id; known = p.seat.me.0 } };
+
+    ghost invariant = { λ p. IsKept p.seat.me p.room p.ended p.given };
+}
+
+impl Pass {
+    /// How often it can still be split: at most 1,023.
+    pub fn room(&self) -> u64
+        ensures { self.now.known.parts ≡ result + 1 }
+    {
+        self.room
+    }
+
+    /// Whether a claim of it has answered `End`, or of a pass that it came from or took in.
+    pub fn ended(&self) -> bool
+        ensures { result ≡ self.now.known.ended }
+    {
+        self.ended
+    }
+
+    /// How many pieces its claims gave.
+    pub fn given(&self) -> u64
+        ensures { result ≡ length (given self.now.known.pieces self.now.known.events) }
+    {
+        self.given
+    }
+}

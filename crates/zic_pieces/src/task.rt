@@ -1,0 +1,50 @@
+//! A task of numbered pieces, and how it ends.
+
+ghost use Rattle.std.specs.Prelude.{◌≡◌, ◌<◌};
+ghost use Rattle.zic_pieces.specs.Task.{IsOutcome};
+
+use std::alloc::Global;
+
+/// Why a piece has no value.
+#[derive(Debug, Drop)]
+pub enum PieceStop<F> {
+    /// The piece's fault.
+    Fault(F),
+    /// Memory was refused. That tells nothing of the piece.
+    Memory,
+}
+
+/// A task of pieces 0, 1, 2, .. Each piece of a given task has one value, or one fault.
+pub trait Task {
+    type Out: Send + Drop;
+
+    type Fault: Send + Drop;
+
+    ghost use Rattle.std.specs.Prelude.{ℕ, Result};
+
+    // How many pieces there are.
+    ghost count: { Self → ℕ };
+
+    // What each piece comes to.
+    ghost outcome: { Self → ℕ → Result Self.Out Self.Fault };
+
+    /// How many pieces there are.
+    fn pieces(&self) -> u64
+        ensures { result ≡ count self.now };
+
+    /// The value of piece `i`, or why it has none.
+    fn perform(&self, alloc: Global, i: u64) -> Result<Self::Out, PieceStop<Self::Fault>>
+        requires { i < count self.now }
+        ensures { IsOutcome (outcome self.now i) result };
+}
+
+/// Why a task has no values.
+#[derive(Debug, Drop)]
+pub enum TaskStop<F> {
+    /// This piece has this fault, and every piece below it has a value.
+    Fault(u64, F),
+    /// Memory was refused: in this piece, or to keep its value, and every piece below it has a value; or elsewhere.
+    Memory(Option<u64>),
+    /// A worker could not be started. It is never answered, since the other workers go on.
+    NoThread,
+}

@@ -1,0 +1,391 @@
+//! Claims and tasks, by examples worked by hand, in one thread and in several.
+
+ghost use Rattle.std.specs.Prelude.{◌<◌, ◌≤◌};
+ghost use Rattle.zic_pieces.specs.Passes.{IsOf};
+
+use crate::{Claim, Claims, Gate, Open, Pass, PieceStop, Settled, Split, Task, TaskStop, run_task};
+use std::alloc::Global;
+use std::sync::atomic::{AtomicU64, Ordering};
+use std::test::Fail;
+use std::thread;
+
+#[test]
+fn two_passes_share_three_pieces(rt: HostRuntime) -> Result<(), Fail> {
+    let (claims, first) = Claims::new(rt.alloc(), 3)?;
+    let Split::Two(mut p, mut q) = claims.split(first) else {
+        panic!(rt; "the first pass has room")
+    };
+    assert!(rt; claims.claim(&mut p) == Claim::Do(0));
+    assert!(rt; claims.claim(&mut q) == Claim::Do(1));
+    claims.report(&mut p, 0);
+    assert!(rt; claims.claim(&mut q) == Claim::Skip(2));
+    assert!(rt; claims.glance(&mut q) == 0);
+    assert!(rt; claims.claim(&mut p) == Claim::End);
+    assert!(rt; claims.claim(&mut p) == Claim::End);
+    assert!(rt; p.ended() && p.given() == 1 && q.given() == 1);
+    let all = claims.join(p, q);
+    let settled = claims.settle(all);
+    assert!(rt;
+        settled
+            == Settled {
+                least: 0,
+                given: 2,
+                ended: true
+            }
+    );
+    Ok(())
+}
+
+#[test]
+fn no_pieces_end_at_once(rt: HostRuntime) -> Result<(), Fail> {
+    let (claims, mut pass) = Claims::new(rt.alloc(), 0)?;
+    assert!(rt; claims.claim(&mut pass) == Claim::End);
+    let settled = claims.settle(pass);
+    assert!(rt;
+        settled
+            == Settled {
+                least: 0,
+                given: 0,
+                ended: true
+            }
+    );
+    Ok(())
+}
+
+#[test]
+fn the_first_pass_splits_1023_times(rt: HostRuntime) -> Result<(), Fail> {
+    let (claims, mut pass) = Claims::new(rt.alloc(), 1)?;
+    assert!(rt; pass.room() == 1023);
+    let (mut cuts, mut full) = (0u64, false);
+    for _ in 0u64..1030 {
+        match claims.split(pass) {
+            Split::Two(old, new) => {
+                assert!(rt; new.room() == 0 && cuts < 1023);
+                pass = old;
+                cuts += 1;
+            }
+            Split::Full(same) => {
+                full = true;
+                pass = same;
+                break;
+            }
+        }
+    }
+    assert!(rt; full && cuts == 1023 && pass.room() == 0);
+    Ok(())
+}
+
+/// Four claims in a row.
+fn four(claims: &Claims, mut pass: Pass) -> [Claim; 4]
+    requires { IsOf claims.now pass }
+{
+    let a = claims.claim(&mut pass);
+    let b = claims.claim(&mut pass);
+    let c = claims.claim(&mut pass);
+    [a, b, c, claims.claim(&mut pass)]
+}
+
+/// How often a claim stands in two rows.
+fn count(xs: &[Claim; 4], ys: &[Claim; 4], claim: Claim) -> usize {
+    xs.iter().filter(|c| **c == claim).count() + ys.iter().filter(|c| **c == claim).count()
+}
+
+#[test]
+fn two_threads_draw_each_number_once(rt: HostRuntime) -> Result<(), Fail> {
+    for _ in 0..100 {
+        let (claims, first) = Claims::new(rt.alloc(), 3)?;
+        let Split::Two(p, q) = claims.split(first) else {
+            panic!(rt; "the first pass has room")
+        };
+        let shared = &claims;
+        let (xs, ys) = thread::join(
+            &rt,
+            || -> [Claim; 4]
+                requires { IsOf shared.now p }
+            { four(shared, p) },
+            || -> [Claim; 4]
+                requires { IsOf shared.now q }
+            { four(shared, q) },
+        );
+        for i in 0..3 {
+            assert!(rt; count(&xs, &ys, Claim::Do(i)) == 1, "{i}");
+        }
+        assert!(rt; count(&xs, &ys, Claim::End) == 5);
+    }
+    Ok(())
+}
+
+/// Piece i has the value i * i, but two pieces have a fault, and one answers want of memory.
+#[derive(Drop)]
+struct Squares {
+    pieces: u64,
+    faults: (u64, u64),
+    memory: u64,
+}
+
+/// No piece has this number.
+const NONE: u64 = u64::MAX;
+
+impl Task for Squares {
+    type Out = u64;
+
+    type Fault = u64;
+
+    ghost use Rattle.std.specs.Prelude.{◌==◌, ◌||◌, ◌*◌, ◌%◌, ◌^◌, Ok, Err, if◌then◌else◌};
+
+    ghost count = { λ s. s.pieces };
+
+    ghost outcome = { λ s i. if (i == s.faults.0) || (i == s.faults.1) then Err i else Ok ((i * i) % 2 ^ 64) };
+
+    fn pieces(&self) -> u64 {
+        self.pieces
+    }
+
+    fn perform(&self, _alloc: Global, i: u64) -> Result<u64, PieceStop<u64>> {
+        if i == self.memory {
+            return Err(PieceStop::Memory);
+        }
+        if i == self.faults.0 || i == self.faults.1 {
+            return Err(PieceStop::Fault(i));
+        }
+        Ok(i.wrapping_mul(i))
+    }
+}
+
+#[test]
+fn values_stand_in_order(rt: HostRuntime) -> Result<(), Fail> {
+    let squares = Squares {
+        pieces: 5,
+        faults: (NONE, NONE),
+        memory: NONE,
+    };
+    for workers in 1..9 {
+        let Ok(values) = run_task(&rt, rt.alloc(), &squares, workers, &Open) else {
+            panic!(rt; "{workers} workers")
+        };
+        assert!(rt;
+            values.as_slice() == [0, 1, 4, 9, 16].as_slice(),
+            "{workers} workers"
+        );
+    }
+    let nothing = Squares {
+        pieces: 0,
+        faults: (NONE, NONE),
+        memory: NONE,
+    };
+    let Ok(values) = run_task(&rt, rt.alloc(), &nothing, 3, &Open) else {
+        panic!(rt; "no pieces")
+    };
+    assert!(rt; values.is_empty());
+    Ok(())
+}
+
+#[test]
+fn the_least_stop_decides(rt: HostRuntime) {
+    for workers in 1..9 {
+        let two_faults = Squares {
+            pieces: 5,
+            faults: (3, 1),
+            memory: NONE,
+        };
+        let Err(TaskStop::Fault(1, 1)) = run_task(&rt, rt.alloc(), &two_faults, workers, &Open)
+        else {
+            panic!(rt; "faults at 3 and 1")
+        };
+        let memory_first = Squares {
+            pieces: 5,
+            faults: (3, NONE),
+            memory: 2,
+        };
+        let Err(TaskStop::Memory(Some(2))) = run_task(
+            &rt,
+            rt.alloc(),
+            &memory_first,
+            workers,
+            &Open,
+        ) else {
+            panic!(rt; "memory at 2, a fault at 3")
+        };
+        let fault_first = Squares {
+            pieces: 5,
+            faults: (1, NONE),
+            memory: 3,
+        };
+        let Err(TaskStop::Fault(1, 1)) = run_task(&rt, rt.alloc(), &fault_first, workers, &Open)
+        else {
+            panic!(rt; "a fault at 1, memory at 3")
+        };
+    }
+}
+
+/// Counts who enters: all, and pieces 0, 1 and 2.
+#[derive(Drop)]
+struct Counter {
+    all: AtomicU64,
+    first: [AtomicU64; 3],
+}
+
+impl Gate for Counter {
+    fn enter(&self, i: u64) {
+        self.all.fetch_add(1, Ordering::SeqCst);
+        if i < 3 {
+            self.first[i as usize].fetch_add(1, Ordering::SeqCst);
+        }
+    }
+}
+
+#[test]
+fn every_piece_up_to_the_least_fault_is_entered_once(rt: HostRuntime) {
+    let task = Squares {
+        pieces: 100,
+        faults: (2, NONE),
+        memory: NONE,
+    };
+    for _ in 0..100 {
+        for workers in [1, 2, 8, 64] {
+            let gate = Counter {
+                all: AtomicU64::new(0),
+                first: [AtomicU64::new(0), AtomicU64::new(0), AtomicU64::new(0)],
+            };
+            let Err(TaskStop::Fault(2, 2)) = run_task(&rt, rt.alloc(), &task, workers, &gate) else {
+                panic!(rt; "{workers} workers")
+            };
+            for entered in &gate.first {
+                assert!(rt; entered.load(Ordering::SeqCst) == 1, "{workers} workers");
+            }
+            let all = gate.all.load(Ordering::SeqCst);
+            assert!(rt;
+                3 <= all && (workers > 1 || all == 3),
+                "{workers} workers, {all}"
+            );
+        }
+    }
+}
+
+/// How long a piece waits for another, in turns.
+const MOST_TURNS: u64 = 1_000_000;
+
+/// Waits until the flag is up, and says whether it was in time.
+fn wait_for(flag: &AtomicU64) -> bool {
+    for _ in 0..MOST_TURNS {
+        if flag.load(Ordering::SeqCst) == 1 {
+            return true;
+        }
+        thread::yield_now();
+    }
+    false
+}
+
+/// Holds piece 0 until piece 1 has entered.
+#[derive(Drop)]
+struct Hold {
+    one_entered: AtomicU64,
+    late: AtomicU64,
+}
+
+impl Gate for Hold {
+    fn enter(&self, i: u64) {
+        if i == 1 {
+            self.one_entered.store(1, Ordering::SeqCst);
+        } else if !wait_for(&self.one_entered) {
+            self.late.store(1, Ordering::SeqCst);
+        }
+    }
+}
+
+#[test]
+fn two_workers_are_at_the_gate_at_once(rt: HostRuntime) {
+    let task = Squares {
+        pieces: 2,
+        faults: (NONE, NONE),
+        memory: NONE,
+    };
+    for _ in 0..100 {
+        let gate = Hold {
+            one_entered: AtomicU64::new(0),
+            late: AtomicU64::new(0),
+        };
+        let Ok(values) = run_task(&rt, rt.alloc(), &task, 2, &gate) else {
+            panic!(rt; "two pieces")
+        };
+        assert!(rt;
+            values.as_slice() == [0, 1].as_slice() && gate.late.load(Ordering::SeqCst) == 0
+        );
+    }
+}
+
+/// Two pieces, each of which waits until the other has begun.
+#[derive(Drop)]
+struct Meet {
+    begun: [AtomicU64; 2],
+    late: AtomicU64,
+}
+
+impl Task for Meet {
+    type Out = u64;
+
+    type Fault = ();
+
+    ghost use Rattle.std.specs.Prelude.{Ok};
+
+    ghost count = { λ _. 2 };
+
+    ghost outcome = { λ _ i. Ok i };
+
+    fn pieces(&self) -> u64 {
+        2
+    }
+
+    fn perform(&self, _alloc: Global, i: u64) -> Result<u64, PieceStop<()>> {
+        self.begun[i as usize].store(1, Ordering::SeqCst);
+        if !wait_for(&self.begun[1 - i as usize]) {
+            self.late.store(1, Ordering::SeqCst);
+        }
+        Ok(i)
+    }
+}
+
+#[test]
+fn two_pieces_are_performed_at_once(rt: HostRuntime) {
+    for _ in 0..100 {
+        let task = Meet {
+            begun: [AtomicU64::new(0), AtomicU64::new(0)],
+            late: AtomicU64::new(0),
+        };
+        let Ok(values) = run_task(&rt, rt.alloc(), &task, 2, &Open) else {
+            panic!(rt; "two pieces")
+        };
+        assert!(rt;
+            values.as_slice() == [0, 1].as_slice() && task.late.load(Ordering::SeqCst) == 0
+        );
+    }
+}
+
+#[test]
+fn many_workers_answer_as_one(rt: HostRuntime) {
+    let mut seed = 1u64;
+    for _ in 0..100 {
+        seed = seed
+            .wrapping_mul(6364136223846793005)
+            .wrapping_add(1442695040888963407);
+        let (a, b) = (seed >> 40, (seed >> 20) % 20_000);
+        let task = Squares {
+            pieces: 10_000,
+            faults: (a % 20_000, b),
+            memory: NONE,
+        };
+        let least = task.faults.0.min(task.faults.1);
+        match run_task(&rt, rt.alloc(), &task, 64, &Open) {
+            Ok(values) => {
+                assert!(rt; 10_000 <= least && values.len() == 10_000);
+                for i in 0..values.len() {
+                    assert!(rt; values[i] == (i as u64).wrapping_mul(i as u64));
+                }
+            }
+            Err(TaskStop::Fault(piece, fault)) => assert!(rt;
+                piece == least && fault == least && least < 10_000
+            ),
+            Err(_) => panic!(rt; "want of memory"),
+        }
+    }
+}
