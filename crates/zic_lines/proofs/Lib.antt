@@ -7,4 +7,3 @@ pub mod LinkLines
 pub mod Entries
 pub mod Scan
 pub mod FieldEnds
-pub mod Formats

@@ -1,12 +1,12 @@
 //! The FORMAT of a zone's line.
 
-ghost use Rattle.std.specs.Prelude.{◌≡◌, ◌==◌, ◌∷◌, is_some, IfSome, IfOk, Some};
-ghost use Rattle.std.specs.List.{slice_split};
+ghost use Rattle.std.specs.Prelude.{◌≡◌, is_some, IfSome, IfOk, Some};
+ghost use Rattle.zic_words.specs.Parts.{split_at_most_once};
 ghost use Rattle.zic_lines.specs.Format.{format_of, has_slash, slashed, conversion};
 
 use std::alloc::{AllocError, Global};
 use zic_base::ShortText;
-use zic_words::{is_dash, split_once};
+use zic_words::{is_dash, split_at_most_once};
 
 /// A part of a FORMAT, printable ASCII and white space; up to 16 octets are kept inline.
 pub type FormatPart = ShortText<16>;
@@ -42,17 +42,13 @@ fn parts(alloc: Global, first: &[u8], second: &[u8]) -> Result<(FormatPart, Form
 
 /// A FORMAT without `%`: one abbreviation, or two with `/` between them.
 fn slashed(alloc: Global, text: &[u8]) -> Option<Result<Format, AllocError>>
-    ensures just { is_some result ≡ is_some (slashed (slice_split (λ byte. byte == 47) text.now)) }
-    ensures format { IfSome result (λ made. IfOk made (λ format. slashed (slice_split (λ byte. byte == 47) text.now) ≡ Some format)) }
+    ensures just { is_some result ≡ is_some (slashed (split_at_most_once text.now 47)) }
+    ensures format { IfSome result (λ made. IfOk made (λ format. slashed (split_at_most_once text.now 47) ≡ Some format)) }
 {
-    let (standard, daylight) = split_once(text, b'/');
+    let (standard, daylight) = split_at_most_once(text, b'/')?;
     let Some(daylight) = daylight else {
         return Some(ShortText::new(alloc, standard).map(Format::Plain));
     };
-    let (daylight, more) = split_once(daylight, b'/');
-    if more.is_some() {
-        return None;
-    }
     Some(parts(alloc, standard, daylight).map(|parts| Format::Pair(parts.0, parts.1)))
 }
 
@@ -81,12 +77,11 @@ pub(crate) fn parse_format(alloc: Global, field: &[u8]) -> Option<Result<Format,
     if is_dash(field) {
         return Some(ShortText::new(alloc, &[]).map(Format::Plain));
     }
-    let (before, rest) = split_once(field, b'%');
+    let (before, rest) = split_at_most_once(field, b'%')?;
     let Some(rest) = rest else {
         return slashed(alloc, before);
     };
-    let (rest, more) = split_once(rest, b'%');
-    if more.is_some() || has_slash(before) || has_slash(rest) {
+    if has_slash(before) || has_slash(rest) {
         return None;
     }
     conversion(alloc, before, rest)

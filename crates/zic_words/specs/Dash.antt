@@ -5,7 +5,7 @@ use Rattle.std.specs.Prelude.{ℕ, Bool, false, List, [], ◌∷◌, ◌==◌}
 abbrev pub dash : List ℕ
 dash = 45 ∷ []
 
--- the field `-`, also written `""`
+-- The field is `-`. One without text is read as `-` where a line is cut into fields.
 abbrev pub is_dash : List ℕ → Bool
 is_dash [] = false
 is_dash (byte ∷ []) = byte == 45

@@ -29,7 +29,7 @@ pub use month::parse_month;
 pub use name::{LONGEST_NAME, Name};
 pub use saving::{Saving, save};
 pub use set_name::SetName;
-pub use split::{split_at_most_once, split_once};
+pub use split::split_at_most_once;
 pub use time::{GREATEST_OFFSET, MOST_DIGITS, offset};
 pub use year::{FIRST_YEAR, LAST_YEAR, ends_before, is_one_leap_year, last_year, parse_year};
 

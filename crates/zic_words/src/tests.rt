@@ -1,6 +1,7 @@
 //! Words, by the examples of zic(8) and by hand.
 
 use super::*;
+use crate::split::split_once;
 use std::test::Fail;
 use zic_calendar::On;
 
