@@ -6,9 +6,6 @@ use std::test::Fail;
 use zic_calendar::On;
 use zic_words::{ClockForm, ClockTime};
 
-/// One byte more than a line may have.
-const LINE_TOO_LONG: [u8; 2049] = [b' '; 2049];
-
 const PLACE: Place = Place { text: 1, line: 7 };
 
 /// What this line says where a continuation line is awaited or not, if there is memory for it.
@@ -102,8 +99,7 @@ fn link_line(rt: HostRuntime) -> Result<(), Fail> {
 #[test]
 fn blank_lines_and_faults(rt: HostRuntime) -> Result<(), Fail> {
     assert!(rt; matches!(entry(rt.alloc(), false, b" \t # nothing")?, Ok(None)));
-    let rows: [(&[u8], Kind); 7] = [
-        (&LINE_TOO_LONG, Kind::LineTooLong),
+    let rows: [(&[u8], Kind); 6] = [
         (b"Zone \x80 \"A", Kind::NotAscii),
         (b"Zone \"A 0 - UTC", Kind::Quote),
         (b"Zonk A 0 - UTC", Kind::Keyword),
@@ -120,8 +116,13 @@ fn blank_lines_and_faults(rt: HostRuntime) -> Result<(), Fail> {
 
 #[test]
 fn most_bytes_and_fields(rt: HostRuntime) -> Result<(), Fail> {
-    let line = [b' '; LONGEST_LINE];
+    let mut line = vec![in rt.alloc(); b' '; 2048]?;
     assert!(rt; matches!(entry(rt.alloc(), false, &line)?, Ok(None)));
+    line.push(b' ')?;
+    assert_eq!(rt;
+        entry(rt.alloc(), false, &line)?.err(),
+        Some(Kind::LineTooLong)
+    );
     let seven = entry(rt.alloc(), true, b"0 - UTC 2000 Mar 1 2:00")?;
     assert!(rt; matches!(seven, Ok(Some(Entry::Continuation(_)))));
     let eight = entry(rt.alloc(), true, b"0 - UTC 2000 Mar 1 2:00 x")?;

@@ -18,9 +18,9 @@ pub use limit::{MOST_NAMES, MOST_RULES, MOST_RULES_OF_SET, MOST_ZONE_LINES};
 pub use reader::read_source;
 pub use source::Source;
 pub use zic_lines::{
-    Fault, Format, FormatPart, Kind, Link, Place, Rule, Rules, Stop, Until, ZoneLine,
+    Fault, Format, FormatPart, Kind, Link, Moment, Place, Rule, Rules, Stop, Until, ZoneLine,
 };
-pub use zic_words::{ClockForm, Letter, Name, Saving, SetName};
+pub use zic_words::{ClockForm, ClockTime, Letter, Name, Saving, SetName};
 
 #[cfg(test)]
 mod tests;
