@@ -1,29 +1,50 @@
 //! Claims and tasks, by examples worked by hand, in one thread and in several.
 
-ghost use Rattle.std.specs.Prelude.{◌<◌, ◌≤◌};
+ghost use Rattle.std.specs.Prelude.{◌≡◌, ◌<◌, ◌≤◌, IfOk};
+ghost use Rattle.zic_pieces.specs.Core.{first as first_pass};
 ghost use Rattle.zic_pieces.specs.Passes.{IsOf};
 
 use crate::{Claim, Claims, Gate, Open, Pass, PieceStop, Settled, Split, Task, TaskStop, run_task};
-use std::alloc::Global;
+use std::alloc::{AllocError, Global};
+use std::process::Abort;
+use std::sync::Wait;
 use std::sync::atomic::{AtomicU64, Ordering};
 use std::test::Fail;
 use std::thread;
+use std::thread::Threads;
 
-#[test]
-fn two_passes_share_three_pieces(rt: HostRuntime) -> Result<(), Fail> {
-    let (claims, first) = Claims::new(rt.alloc(), 3)?;
-    let Split::Two(mut p, mut q) = claims.split(first) else {
+/// Claims on so many pieces, tried twice: one growth may be refused while a test runs.
+fn new_claims(alloc: Global, pieces: u64) -> Result<(Claims, Pass), AllocError>
+    requires { pieces ≤ 4294967296 }
+    ensures claims { IfOk result (λ r. (r.0.pieces ≡ pieces) × IsOf r.0 r.1) }
+    ensures pass { IfOk result (λ r. r.1.known ≡ first_pass pieces) }
+{
+    match Claims::new(alloc, pieces) {
+        Err(AllocError) => Claims::new(alloc, pieces),
+        made => made,
+    }
+}
+
+fn three_passes_share_three_pieces(rt: &impl Abort, alloc: Global) -> Result<(), Fail> {
+    let (claims, first) = new_claims(alloc, 3)?;
+    let Split::Two(first, mut q) = claims.split(first) else {
         panic!(rt; "the first pass has room")
+    };
+    let Split::Two(mut p, mut last) = claims.split(first) else {
+        panic!(rt; "the first pass has room still")
     };
     assert!(rt; claims.claim(&mut p) == Claim::Do(0));
     assert!(rt; claims.claim(&mut q) == Claim::Do(1));
     claims.report(&mut p, 0);
     assert!(rt; claims.claim(&mut q) == Claim::Skip(2));
-    assert!(rt; claims.glance(&mut q) == 0);
+    assert!(rt; claims.glance(&mut last) == 0);
     assert!(rt; claims.claim(&mut p) == Claim::End);
     assert!(rt; claims.claim(&mut p) == Claim::End);
-    assert!(rt; p.ended() && p.given() == 1 && q.given() == 1);
-    let all = claims.join(p, q);
+    assert!(rt; claims.claim(&mut last) == Claim::End);
+    assert!(rt; p.ended() && p.given() == 1 && q.given() == 1 && last.given() == 0);
+    let two = claims.join(p, q);
+    let all = claims.join(last, two);
+    assert!(rt; all.room() == 1023);
     let settled = claims.settle(all);
     assert!(rt;
         settled
@@ -36,9 +57,8 @@ fn two_passes_share_three_pieces(rt: HostRuntime) -> Result<(), Fail> {
     Ok(())
 }
 
-#[test]
-fn no_pieces_end_at_once(rt: HostRuntime) -> Result<(), Fail> {
-    let (claims, mut pass) = Claims::new(rt.alloc(), 0)?;
+fn no_pieces_end_at_once(rt: &impl Abort, alloc: Global) -> Result<(), Fail> {
+    let (claims, mut pass) = new_claims(alloc, 0)?;
     assert!(rt; claims.claim(&mut pass) == Claim::End);
     let settled = claims.settle(pass);
     assert!(rt;
@@ -52,9 +72,8 @@ fn no_pieces_end_at_once(rt: HostRuntime) -> Result<(), Fail> {
     Ok(())
 }
 
-#[test]
-fn the_first_pass_splits_1023_times(rt: HostRuntime) -> Result<(), Fail> {
-    let (claims, mut pass) = Claims::new(rt.alloc(), 1)?;
+fn the_first_pass_splits_1023_times(rt: &impl Abort, alloc: Global) -> Result<(), Fail> {
+    let (claims, mut pass) = new_claims(alloc, 1)?;
     assert!(rt; pass.room() == 1023);
     let (mut cuts, mut full) = (0u64, false);
     for _ in 0u64..1030 {
@@ -72,6 +91,16 @@ fn the_first_pass_splits_1023_times(rt: HostRuntime) -> Result<(), Fail> {
         }
     }
     assert!(rt; full && cuts == 1023 && pass.room() == 0);
+    Ok(())
+}
+
+#[test]
+fn calls_in_one_thread_answer_the_same_each_time(rt: HostRuntime) -> Result<(), Fail> {
+    for _ in 0..100 {
+        three_passes_share_three_pieces(&rt, rt.alloc())?;
+        no_pieces_end_at_once(&rt, rt.alloc())?;
+        the_first_pass_splits_1023_times(&rt, rt.alloc())?;
+    }
     Ok(())
 }
 
@@ -93,7 +122,7 @@ fn count(xs: &[Claim; 4], ys: &[Claim; 4], claim: Claim) -> usize {
 #[test]
 fn two_threads_draw_each_number_once(rt: HostRuntime) -> Result<(), Fail> {
     for _ in 0..100 {
-        let (claims, first) = Claims::new(rt.alloc(), 3)?;
+        let (claims, first) = new_claims(rt.alloc(), 3)?;
         let Split::Two(p, q) = claims.split(first) else {
             panic!(rt; "the first pass has room")
         };
@@ -152,15 +181,32 @@ impl Task for Squares {
     }
 }
 
+/// Runs a task, and again where it wants memory: one growth may be refused while a test runs, but no two.
+fn run<R: Threads + Wait + Sync, T: Task + Sync, G: Gate + Sync>(
+    rt: &R,
+    alloc: Global,
+    task: &T,
+    workers: u64,
+    gate: &G,
+) -> Result<Vec<T::Out>, TaskStop<T::Fault>>
+    requires workers { (1 ≤ workers) × (workers ≤ 64) }
+    requires pieces { T.count task.now ≤ 4294967296 }
+{
+    match run_task(rt, alloc, task, workers, gate) {
+        Err(TaskStop::Memory(_)) => run_task(rt, alloc, task, workers, gate),
+        answer => answer,
+    }
+}
+
 #[test]
-fn values_stand_in_order(rt: HostRuntime) -> Result<(), Fail> {
+fn values_stand_in_order(rt: HostRuntime) {
     let squares = Squares {
         pieces: 5,
         faults: (NONE, NONE),
         memory: NONE,
     };
     for workers in 1..9 {
-        let Ok(values) = run_task(&rt, rt.alloc(), &squares, workers, &Open) else {
+        let Ok(values) = run(&rt, rt.alloc(), &squares, workers, &Open) else {
             panic!(rt; "{workers} workers")
         };
         assert!(rt;
@@ -173,11 +219,10 @@ fn values_stand_in_order(rt: HostRuntime) -> Result<(), Fail> {
         faults: (NONE, NONE),
         memory: NONE,
     };
-    let Ok(values) = run_task(&rt, rt.alloc(), &nothing, 3, &Open) else {
+    let Ok(values) = run(&rt, rt.alloc(), &nothing, 3, &Open) else {
         panic!(rt; "no pieces")
     };
     assert!(rt; values.is_empty());
-    Ok(())
 }
 
 #[test]
@@ -188,8 +233,7 @@ fn the_least_stop_decides(rt: HostRuntime) {
             faults: (3, 1),
             memory: NONE,
         };
-        let Err(TaskStop::Fault(1, 1)) = run_task(&rt, rt.alloc(), &two_faults, workers, &Open)
-        else {
+        let Err(TaskStop::Fault(1, 1)) = run(&rt, rt.alloc(), &two_faults, workers, &Open) else {
             panic!(rt; "faults at 3 and 1")
         };
         let memory_first = Squares {
@@ -197,13 +241,8 @@ fn the_least_stop_decides(rt: HostRuntime) {
             faults: (3, NONE),
             memory: 2,
         };
-        let Err(TaskStop::Memory(Some(2))) = run_task(
-            &rt,
-            rt.alloc(),
-            &memory_first,
-            workers,
-            &Open,
-        ) else {
+        let Err(TaskStop::Memory(Some(2))) = run(&rt, rt.alloc(), &memory_first, workers, &Open)
+        else {
             panic!(rt; "memory at 2, a fault at 3")
         };
         let fault_first = Squares {
@@ -211,8 +250,7 @@ fn the_least_stop_decides(rt: HostRuntime) {
             faults: (1, NONE),
             memory: 3,
         };
-        let Err(TaskStop::Fault(1, 1)) = run_task(&rt, rt.alloc(), &fault_first, workers, &Open)
-        else {
+        let Err(TaskStop::Fault(1, 1)) = run(&rt, rt.alloc(), &fault_first, workers, &Open) else {
             panic!(rt; "a fault at 1, memory at 3")
         };
     }
@@ -247,9 +285,11 @@ fn every_piece_up_to_the_least_fault_is_entered_once(rt: HostRuntime) {
                 all: AtomicU64::new(0),
                 first: [AtomicU64::new(0), AtomicU64::new(0), AtomicU64::new(0)],
             };
-            let Err(TaskStop::Fault(2, 2)) = run_task(&rt, rt.alloc(), &task, workers, &gate) else {
-                panic!(rt; "{workers} workers")
-            };
+            match run_task(&rt, rt.alloc(), &task, workers, &gate) {
+                Err(TaskStop::Fault(2, 2)) => {}
+                Err(TaskStop::Memory(_)) => continue,
+                _ => panic!(rt; "{workers} workers"),
+            }
             for entered in &gate.first {
                 assert!(rt; entered.load(Ordering::SeqCst) == 1, "{workers} workers");
             }
@@ -305,7 +345,7 @@ fn two_workers_are_at_the_gate_at_once(rt: HostRuntime) {
             one_entered: AtomicU64::new(0),
             late: AtomicU64::new(0),
         };
-        let Ok(values) = run_task(&rt, rt.alloc(), &task, 2, &gate) else {
+        let Ok(values) = run(&rt, rt.alloc(), &task, 2, &gate) else {
             panic!(rt; "two pieces")
         };
         assert!(rt;
@@ -352,7 +392,7 @@ fn two_pieces_are_performed_at_once(rt: HostRuntime) {
             begun: [AtomicU64::new(0), AtomicU64::new(0)],
             late: AtomicU64::new(0),
         };
-        let Ok(values) = run_task(&rt, rt.alloc(), &task, 2, &Open) else {
+        let Ok(values) = run(&rt, rt.alloc(), &task, 2, &Open) else {
             panic!(rt; "two pieces")
         };
         assert!(rt;
@@ -375,7 +415,7 @@ fn many_workers_answer_as_one(rt: HostRuntime) {
             memory: NONE,
         };
         let least = task.faults.0.min(task.faults.1);
-        match run_task(&rt, rt.alloc(), &task, 64, &Open) {
+        match run(&rt, rt.alloc(), &task, 64, &Open) {
             Ok(values) => {
                 assert!(rt; 10_000 <= least && values.len() == 10_000);
                 for i in 0..values.len() {
