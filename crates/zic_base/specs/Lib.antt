@@ -4,3 +4,4 @@ pub mod Memory
 pub mod Option
 pub mod Check
 pub mod Byte
+pub mod code

@@ -7,7 +7,6 @@ ghost use Rattle.std.specs.Cmp.Lexicographic.{nat_list_eq_equiv};
 ghost use Rattle.std.specs.Cmp.Rules.{hashing};
 ghost use Rattle.std.proofs.Common.{rules};
 
-use smallvec::SmallVec;
 use std::alloc::{AllocError, Global};
 use std::hash::{Hash, Hasher};
 use std::marker::Model;
@@ -16,15 +15,71 @@ use std::marker::Model;
 /// are.
 #[derive(Debug, Drop)]
 pub struct ShortText<const N: usize> {
-    octets: SmallVec<u8, N>,
+    octets: Octets<N>,
+}
+
+/// Where the octets of a text lie.
+#[derive(Debug, Drop)]
+enum Octets<const N: usize> {
+    Inline(Inline<N>),
+    Heap(Vec<u8>),
+}
+
+/// At most `N` octets; clauses see their list.
+#[derive(Debug, Drop)]
+struct Inline<const N: usize> {
+    len: usize,
+    /// The octets and zeros after them.
+    places: [u8; N],
+}
+
+impl<const N: usize> Model for Inline<N> {
+    ghost use Rattle.std.specs.Prelude.{◌≤◌, List, ℕ, take};
+
+    ghost Value = { List ℕ };
+
+    ghost view = { λ t. take t.len t.places };
+
+    ghost invariant = { λ t. t.len ≤ N };
+}
+
+impl<const N: usize> Inline<N> {
+    /// A copy of these octets.
+    fn new(octets: &[u8]) -> Self
+        requires { length octets.now ≤ N }
+        ensures { result ≡ octets.now }
+    {
+        let len = octets.len();
+        let mut places = [0; N];
+        places[..len].copy_from_slice(octets);
+        Inline { len, places }
+    }
+
+    /// The octets.
+    fn octets(&self) -> &[u8]
+        ensures { result.now ≡ self.now }
+    {
+        &self.places[..self.len]
+    }
+
+    /// The same octets.
+    fn copy(&self) -> Self
+        ensures { result ≡ self.now }
+    {
+        Inline {
+            len: self.len,
+            places: self.places,
+        }
+    }
 }
 
 impl<const N: usize> Model for ShortText<N> {
     ghost use Rattle.std.specs.Prelude.{List, ℕ};
+    ghost use Rattle.zic_base.specs.code.ShortText.{octets_of};
 
     ghost Value = { List ℕ };
 
-    ghost view = { λ t. t.octets.items };
+    ghost view = { λ t. octets_of t.octets };
 }
 
 impl<const N: usize> ShortText<N> {
@@ -33,7 +88,11 @@ impl<const N: usize> ShortText<N> {
         ensures ok { IfOk result (λ text. text ≡ octets.now) }
         ensures inline { length octets.now ≤ N → IsOk result }
     {
-        let octets = SmallVec::from_slice(alloc, octets)?;
+        let octets = if octets.len() <= N {
+            Octets::Inline(Inline::new(octets))
+        } else {
+            Octets::Heap(Vec::from_slice(alloc, octets)?)
+        };
         Ok(ShortText { octets })
     }
 
@@ -41,7 +100,10 @@ impl<const N: usize> ShortText<N> {
     pub fn octets(&self) -> &[u8]
         ensures { result.now ≡ self.now }
     {
-        &self.octets
+        match &self.octets {
+            Octets::Inline(inline) => inline.octets(),
+            Octets::Heap(heap) => heap.as_slice(),
+        }
     }
 }
 
@@ -49,7 +111,11 @@ impl<const N: usize> Clone for ShortText<N> {
     ghost is_clone = { λ text copy. copy ≡ text };
 
     fn clone(&self) -> Result<ShortText<N>, AllocError> {
-        ShortText::new(*self.octets.allocator(), self.octets())
+        let octets = match &self.octets {
+            Octets::Inline(inline) => Octets::Inline(inline.copy()),
+            Octets::Heap(heap) => Octets::Heap(heap.clone()?),
+        };
+        Ok(ShortText { octets })
     }
 }
 

@@ -16,7 +16,7 @@ use zic_words::SetName;
 /// The numbers of each set's rules, from 0 in the order of the texts and their lines.
 #[derive(Debug, Drop)]
 pub(crate) struct Sets {
-    numbers: HashMap<SetName, SmallVec<usize, 4>>,
+    numbers: HashMap<SetName, SmallVec<usize, 2>>,
 }
 
 impl Sets {

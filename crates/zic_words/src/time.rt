@@ -120,6 +120,13 @@ fn magnitude(text: &[u8]) -> Option<Time>
     let hours = 3600 * u64::from(number(MOST_DIGITS, hours)?);
     match rest {
         Some(rest) => {
+            // Most times are hours and minutes.
+            if let Some(minutes) = sixtieths(rest) {
+                return Some(Time {
+                    seconds: hours + 60 * minutes,
+                    billionths: 0,
+                });
+            }
             let rest = minutes(rest)?;
             Some(Time {
                 seconds: hours + rest.seconds,

@@ -6,6 +6,8 @@ ghost use Rattle.std.specs.Str.{str_to_ascii_lowercase};
 ghost use Rattle.zic_words.specs.Word.{begins_word, only_word};
 
 /// Whether a text in lower case begins with this front, which may have any ASCII case.
+// Out of line, so that a loop over words is short enough to be unrolled: it mostly compares first letters.
+#[inline(never)]
 fn begins(text: &[u8], front: &[u8]) -> bool
     ensures { result ≡ starts_with nat_eq text.now (str_to_ascii_lowercase front.now) }
 {
