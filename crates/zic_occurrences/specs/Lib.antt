@@ -1,0 +1,5 @@
+pub mod code
+pub mod Listing
+pub mod Occurrence
+pub mod Order
+pub use Rattle.zic_source.specs.Sound
