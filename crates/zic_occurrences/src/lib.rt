@@ -3,4 +3,4 @@
 
 mod occurrence;
 
-pub use occurrence::{TimedOccurrence, last_named_year, occurrences};
+pub use occurrence::TimedOccurrence;

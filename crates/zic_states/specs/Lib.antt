@@ -1,0 +1,10 @@
+pub mod Abbreviation
+pub mod Change
+pub mod End
+pub mod Fault
+pub mod Kept
+pub mod State
+pub mod Until
+pub mod Zone
+pub use Rattle.zic_occurrences.specs.Occurrence
+pub use Rattle.zic_occurrences.specs.Order

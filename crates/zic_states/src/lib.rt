@@ -1,0 +1,5 @@
+//! What a zone shows at an instant.
+#![tactic(auto)]
+
+/// How many seconds a minute has.
+pub const MINUTE: u32 = 60;
