@@ -1,2 +1,4 @@
 pub mod Bounds
 pub mod Shift
+pub mod Same
+pub mod ForEver
