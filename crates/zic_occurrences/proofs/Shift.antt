@@ -1,5 +1,5 @@
 -- After the last year that a set names, its occurrences come again after 400 years.
-use Rattle.std.proofs.Common.{◌≡◌, ℕ, ◌≤◌, All, ◌⊎◌, inl, inr, refl, sym, arith, ℤ, pos, neg_ℤ, ◌+ℤ◌, ◌-ℤ◌, ◌<ℤ◌, ◌≤ℤ◌, Option, Some, None, unwrap_or, IfSome}
+use Rattle.std.proofs.Common.{◌≡◌, ℕ, ◌≤◌, All, inl, inr, refl, arith, ℤ, pos, neg_ℤ, ◌+ℤ◌, ◌-ℤ◌, ◌<ℤ◌, ◌≤ℤ◌, Option, Some, None, unwrap_or, IfSome}
 use Rattle.std.proofs.lemmas.Int.{ints, by_lt_z}
 use Rattle.zic_lines.specs.declared.moment.Moment.{Moment}
 use Rattle.zic_words.specs.declared.clock.ClockForm.{ClockForm}
