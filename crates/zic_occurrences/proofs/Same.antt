@@ -1,10 +1,10 @@
 -- One rule in one year is one occurrence, and where no two nominal seconds are equal it has at most one instant.
-use Rattle.std.proofs.Common.{◌≡◌, ℕ, ◌⊎◌, inl, inr, sym, ap, subst, ◌∙◌, arith, ℤ, ◌<ℤ◌, ◌≤ℤ◌, List, Some}
+use Rattle.std.proofs.Common.{◌≡◌, ℕ, inl, inr, sym, ap, ◌∙◌, arith, ℤ, List, Some}
 use Rattle.std.specs.Prelude.{slice_get}
 use Rattle.std.proofs.lemmas.Int.{ints}
 use Rattle.zic_lines.specs.declared.rule.Rule.{Rule}
 use Rattle.zic_occurrences.specs.Occurrence.{RuleSet, Occurrence, IsOccurrence, AreSame, nominal}
-use Rattle.zic_occurrences.specs.Order.{IsPredecessor, IsSavedBefore, IsInstant, instant_by}
+use Rattle.zic_occurrences.specs.Order.{IsSavedBefore, IsInstant, instant_by}
 
 -- different occurrences have different nominal seconds
 abbrev pub Differ : RuleSet → Type 0
@@ -17,10 +17,14 @@ one_place xs i j x y e a b = cc
 same_parts : (n m : ℕ) (r s : Rule) (y z : ℤ) → n ≡ m → r ≡ s → y ≡ z → Path Occurrence (record { number = n; rule = r; year = y }) (record { number = m; rule = s; year = z })
 same_parts n m r s y z a b c = ap (λ (k : ℕ). record { number = k; rule = r; year = y }) a ∙ ap (λ (k : Rule). record { number = m; rule = k; year = y }) b ∙ ap (λ (k : ℤ). record { number = m; rule = s; year = k }) c
 
-pub same_occurrence : (set : RuleSet) (o p : Occurrence) → IsOccurrence set o → IsOccurrence set p → AreSame o p → o ≡ p
-same_occurrence set o p is_o is_p same =
+-- two that are numbered as the set has them and agree in number and year are one
+pub same_numbered : (set : RuleSet) (o p : Occurrence) → slice_get set.rules o.number ≡ Some o.rule → slice_get set.rules p.number ≡ Some p.rule → AreSame o p → o ≡ p
+same_numbered set o p at_o at_p same =
     same_parts o.number p.number o.rule p.rule o.year p.year same.number
-    (one_place set.rules o.number p.number o.rule p.rule same.number is_o.member.numbered is_p.member.numbered) same.year
+    (one_place set.rules o.number p.number o.rule p.rule same.number at_o at_p) same.year
+
+pub same_occurrence : (set : RuleSet) (o p : Occurrence) → IsOccurrence set o → IsOccurrence set p → AreSame o p → o ≡ p
+same_occurrence set o p is_o is_p = same_numbered set o p is_o.member.numbered is_p.member.numbered
 
 -- what is saved before an occurrence is one
 one_saving : (set : RuleSet) (o : Occurrence) (a b : ℤ) → Differ set → IsSavedBefore set o a → IsSavedBefore set o b → a ≡ b
