@@ -15,7 +15,7 @@ pub one_place : {X : Type 0} (xs : List X) (i j : ℕ) (x y : X) → i ≡ j →
 one_place xs i j x y e a b = cc
 
 same_parts : (n m : ℕ) (r s : Rule) (y z : ℤ) → n ≡ m → r ≡ s → y ≡ z → Path Occurrence (record { number = n; rule = r; year = y }) (record { number = m; rule = s; year = z })
-same_parts n m r s y z a b c = ap (λ (k : ℕ). record { number = k; rule = r; year = y }) a ∙ ap (λ (k : Rule). record { number = m; rule = k; year = y }) b ∙ ap (λ (k : ℤ). record { number = m; rule = s; year = k }) c
+same_parts n m r s y z a b c = cc
 
 -- two that are numbered as the set has them and agree in number and year are one
 pub same_numbered : (set : RuleSet) (o p : Occurrence) → slice_get set.rules o.number ≡ Some o.rule → slice_get set.rules p.number ≡ Some p.rule → AreSame o p → o ≡ p
