@@ -1,12 +1,12 @@
 -- Where occurrences lie in time: within 19 days outside their years, and their instants within 21 days.
 use Rattle.std.proofs.Common.{◌≡◌, ℕ, zero, suc, ◌*◌, ◌≤◌, All, inl, inr, refl, arith, ℤ, pos, ◌+ℤ◌, ◌*ℤ◌, ◌<ℤ◌, ◌≤ℤ◌, unsigned_abs}
-use Rattle.std.proofs.lemmas.Int.{ints}
+use Rattle.std.proofs.lemmas.Int.{ints, by_lt_z}
 use Rattle.zic_calendar.specs.declared.day_form.On.{On}
 use Rattle.zic_calendar.specs.declared.day_form.On.TheVariants.{Day, Last, After, Before}
 use Rattle.zic_calendar.specs.Calendar.{days_in_month, days_in_year, day_number}
 use Rattle.zic_calendar.specs.DayForm.{FormFits, form_day, IsNearMonth}
 use Rattle.zic_calendar.proofs.YearLemmas.{year_start-later}
-use Rattle.zic_calendar.proofs.DateLemmas.{day_number-rises, day_number-next_year, days_of_months-zero, first_has, last_has}
+use Rattle.zic_calendar.proofs.DateLemmas.{day_number-rises, day_number-period, day_number-next_year, days_of_months-zero, first_has, last_has}
 use Rattle.zic_calendar.proofs.FormLemmas.{form_bounds, form_day-period}
 use Rattle.zic_words.specs.Month.{IsMonth}
 use Rattle.zic_lines.specs.declared.moment.Moment.{Moment}
@@ -120,10 +120,24 @@ next_year rule y next e sound here there =
     rw (nominal_second-is y rule.moment, nominal_second-is next rule.moment)
     (second_rises (form_day y rule.moment.month rule.moment.on) (form_day next rule.moment.month rule.moment.on) rule.moment.at.seconds (form_next_year y next rule.moment.month rule.moment.on e sound.moment.month (sound.fits y here) (sound.fits next there)))
 
+-- so one rule's nominal seconds rise with the year
+pub rises_with_year : (set : RuleSet) (o : Occurrence) (year : ℤ) → All IsSoundRule set.rules → IsOccurrence set o → IsOccurrence set (record o { year = year }) → o.year <ℤ year → nominal o <ℤ nominal_second year o.rule.moment
+rises_with_year set o year sound is later lt =
+    by_lt_z year (o.year +ℤ pos 2)
+    (λ near. next_year o.rule o.year year (omega (arith, ints)) (sound_rule set o sound is) is.holds later.holds)
+    (λ far. two_years set o (record o { year = year }) sound is later far)
+
 -- 400 years are 12,622,780,800 seconds
 pub nominal_second-period : (y later : ℤ) (moment : Moment) → later ≡ y +ℤ pos 400 → nominal_second later moment ≡ nominal_second y moment +ℤ pos 12_622_780_800
 nominal_second-period y later moment e =
     rw (nominal_second-is y moment, nominal_second-is later moment) (second_moves (form_day y moment.month moment.on) (form_day later moment.month moment.on) moment.at.seconds (form_day-period y later moment.month moment.on e))
+
+year_moves : (day later : ℤ) → later ≡ day +ℤ pos 146_097 → pos 86_400 *ℤ later ≡ (pos 86_400 *ℤ day) +ℤ pos 12_622_780_800
+year_moves day later h = omega (arith, ints)
+
+pub year_second-period : (y later : ℤ) → later ≡ y +ℤ pos 400 → year_second later ≡ year_second y +ℤ pos 12_622_780_800
+year_second-period y later e =
+    rw (year_second-is y, year_second-is later) (year_moves (day_number y 1 1) (day_number later 1 1) (day_number-period y later 1 1 e))
 
 -- ---- instants
 
