@@ -1,4 +1,5 @@
 pub mod code
+pub mod Laws
 pub mod Listing
 pub mod Occurrence
 pub mod Order

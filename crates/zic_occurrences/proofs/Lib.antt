@@ -1,0 +1,6 @@
+pub mod Bounds
+pub mod Shift
+pub mod Same
+pub mod ForEver
+pub mod Search
+pub mod Instants
