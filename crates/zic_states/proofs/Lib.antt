@@ -1,0 +1,4 @@
+pub mod Assumed
+pub mod Orders
+pub mod Lines
+pub mod Kept
