@@ -1,19 +1,19 @@
 -- The explicit end of a zone is one.
-use Rattle.std.proofs.Common.{◌≡◌, ◌<◌, ◌≤◌, ℕ, zero, suc, inl, List, Some, None, sym, ap, subst, ◌∙◌, arith}
+use Rattle.std.proofs.Common.{◌≡◌, ℕ, zero, suc, inl, List, sym, ap, subst, ◌∙◌, arith}
 use Rattle.std.specs.Prelude.{ℤ, pos, ◌+ℤ◌, ◌<ℤ◌, ◌≤ℤ◌}
 use Rattle.std.specs.Int.{int_max}
 use Rattle.std.proofs.lemmas.Int.{ints, by_lt_z}
 use Rattle.std.proofs.lemmas.Option.{same_Some}
-use Rattle.zic_calendar.specs.Calendar.{day_number}
+use Rattle.zic_calendar.specs.Calendar.{IsDate}
 use Rattle.zic_calendar.proofs.DateLemmas.{day_number-rises, first_has}
 use Rattle.zic_lines.specs.declared.rules.Rules.{Rules}
 use Rattle.zic_lines.specs.declared.rules.Rules.TheVariants.{Standard, Amount, Set}
 use Rattle.zic_lines.specs.declared.zone_line.ZoneLine.{ZoneLine}
 use Rattle.zic_occurrences.specs.Listing.{IsLastNamed}
 use Rattle.zic_occurrences.specs.Occurrence.{RuleSet, year_second}
-use Rattle.zic_states.specs.End.{IsLastLine, IsYearOf, IsLastYear, IsEndOfFixed, IsEndBy, IsEnd}
+use Rattle.zic_states.specs.End.{IsYearOf, IsLastYear, IsEndOfFixed, IsEndBy, IsEnd}
 use Rattle.zic_states.specs.Laws.{HasSetsInOrder}
-use Rattle.zic_states.specs.Zone.{Zone, line_at, Ends}
+use Rattle.zic_states.specs.Zone.{Zone, line_at}
 use Rattle.zic_states.proofs.Lines.{last_line, one_end_of}
 use Rattle.zic_states.proofs.Orders.{same_number, same_int}
 
@@ -21,21 +21,22 @@ use Rattle.zic_states.proofs.Orders.{same_number, same_int}
 years_rise : (y z : ℤ) → y <ℤ z → year_second y <ℤ year_second z
 unfolding year_second
 years_rise y z lt =
-    let days : day_number y 1 1 <ℤ day_number z 1 1 =
-        day_number-rises y 1 1 z 1 1 (first_has y 1 (omega arith) (omega arith)) (first_has z 1 (omega arith) (omega arith)) (inl lt) in
+    let first : (x : ℤ) → IsDate x 1 1 = λ x. first_has x 1 (omega arith) (omega arith) in
+    let days = day_number-rises y 1 1 z 1 1 (first y) (first z) (inl lt) in
     omega (arith, ints)
+
+not_later : (y z : ℤ) → y ≤ℤ z → year_second y ≤ℤ year_second z
+not_later y z le = by_lt_z y z
+    (λ lt. let rise = years_rise y z lt in omega (arith, ints))
+    (λ ge. let same : y ≡ z = omega (arith, ints) in rw same (omega (arith, ints)))
 
 -- an instant lies in no year before its year
 no_year_before : (t y z : ℤ) → IsYearOf t y → IsYearOf t z → y <ℤ z → ⊥
 no_year_before t y z one other lt =
     let end = one.not_over in
     let start = other.begun in
-    by_lt_z (y +ℤ pos 1) z
-        (λ before. let rise = years_rise (y +ℤ pos 1) z before in omega (arith, ints))
-        (λ not_before.
-            let same : z ≡ y +ℤ pos 1 = omega (arith, ints) in
-            let start' : year_second (y +ℤ pos 1) ≤ℤ t = subst (λ (x : ℤ). year_second x ≤ℤ t) same start in
-            omega (arith, ints))
+    let rise = not_later (y +ℤ pos 1) z (omega (arith, ints)) in
+    omega (arith, ints)
 
 one_year : (t y z : ℤ) → IsYearOf t y → IsYearOf t z → y ≡ z
 one_year t y z one other = same_int y z (no_year_before t y z one other) (no_year_before t z y other one)
@@ -71,9 +72,9 @@ module _ (zone : Zone) (sets : HasSetsInOrder zone) where
 
   pub one_end : (a b : ℤ) → IsEnd zone a → IsEnd zone b → a ≡ b
   one_end a b (i, line, last, by) (j, line', last', by') =
-      let same = same_number i j
-          (last_line zone sets i j line line' last.is_line last'.is_line last.no_until)
-          (last_line zone sets j i line' line last'.is_line last.is_line last'.no_until) in
+      let not_before = last_line zone sets i j line line' last.is_line last'.is_line last.no_until in
+      let not_after = last_line zone sets j i line' line last'.is_line last.is_line last'.no_until in
+      let same = same_number i j not_before not_after in
       let same_line = same_Some line line' (sym last.is_line ∙ ap (line_at zone) same ∙ last'.is_line) in
-      one_end_by i line.rules a b by
-          (subst (λ (l : ZoneLine). IsEndBy zone i l.rules b) (sym same_line) (subst (λ (n : ℕ). IsEndBy zone n line'.rules b) (sym same) by'))
+      let by_too = subst (λ (n : ℕ). IsEndBy zone n line'.rules b) (sym same) by' in
+      one_end_by i line.rules a b by (subst (λ (l : ZoneLine). IsEndBy zone i l.rules b) (sym same_line) by_too)

@@ -14,7 +14,7 @@ use Rattle.zic_source.proofs.Elements.{all_got, got}
 use Rattle.zic_occurrences.specs.Order.{IsInOrder}
 use Rattle.zic_states.specs.Laws.{HasSetsInOrder, IsOrderly, EachUntilIsRead}
 use Rattle.zic_states.specs.Until.{IsUntil, set_of}
-use Rattle.zic_states.specs.Zone.{Zone, lines_of, line_at, Ends, Governs, IsNotOver}
+use Rattle.zic_states.specs.Zone.{Zone, lines_of, line_at, Ends, Governs}
 use Rattle.zic_states.proofs.Assumed.{one_until}
 use Rattle.zic_states.proofs.Orders.{in_order_unless_out, same_number}
 
@@ -64,9 +64,9 @@ module _ (zone : Zone) (sets : HasSetsInOrder zone) where
   flagged : (lines : ZoneLines) (i : ℕ) (line : ZoneLine) → lines_of zone ≡ Some lines → line_at zone i ≡ Some line
       → ((i < length lines.continuations) × (has_until line ≡ true)) ⊎ ((i ≡ length lines.continuations) × (has_until line ≡ false))
   flagged lines i line is e =
-      flags lines.continuations i (has_until line)
-          (ap (λ (flags : List Bool). slice_get flags i) (sym (sound_zone lines is).untils)
-          ∙ slice_get-map has_until (lines_of_zone lines) i ∙ ap (option_map has_until) (sym (line_at_is zone lines i is) ∙ e))
+      let untils = ap (λ (bs : List Bool). slice_get bs i) (sym (sound_zone lines is).untils) in
+      let at = ap (option_map has_until) (sym (line_at_is zone lines i is) ∙ e) in
+      flags lines.continuations i (has_until line) (untils ∙ slice_get-map has_until (lines_of_zone lines) i ∙ at)
 
   -- a line that another follows has an UNTIL
   pub until_before : (i j : ℕ) (a b : ZoneLine) → line_at zone i ≡ Some a → line_at zone j ≡ Some b → i < j
@@ -93,66 +93,62 @@ module _ (zone : Zone) (sets : HasSetsInOrder zone) where
   pub ends_at : (i : ℕ) (line : ZoneLine) (t : ℤ) → line_at zone i ≡ Some line → IsUntil zone.source.rules line t → Ends zone i t
   ends_at i line t e is = subst (λ (o : Option ZoneLine). IsSomeAnd o (λ l. IsUntil zone.source.rules l t)) (sym e) is
 
+  -- a line ends once
   pub one_end_of : (i : ℕ) (t u : ℤ) → Ends zone i t → Ends zone i u → t ≡ u
   one_end_of i t u ends ends' =
-      let found = some_and_has (line_at zone i) (λ l. IsUntil zone.source.rules l t) ends in
-      let found' = some_and_has (line_at zone i) (λ l. IsUntil zone.source.rules l u) ends' in
-      let same = same_Some found'.0 found.0 (sym found'.1 ∙ found.1) in
-      one_until zone.source.rules found.0 sets.sound.rules (sound_line i found.0 found.1) (set_in_order i found.0 found.1) t u
-          found.2 (subst (λ (l : ZoneLine). IsUntil zone.source.rules l u) same found'.2)
+      let (line, at, is) = some_and_has (line_at zone i) (λ l. IsUntil zone.source.rules l t) ends in
+      let (line', at', is') = some_and_has (line_at zone i) (λ l. IsUntil zone.source.rules l u) ends' in
+      let same = same_Some line' line (sym at' ∙ at) in
+      let is_too = subst (λ (l : ZoneLine). IsUntil zone.source.rules l u) same is' in
+      one_until zone.source.rules line sets.sound.rules (sound_line i line at) (set_in_order i line at) t u is is_too
 
-  module _ (rising : (i : ℕ) (t u : ℤ) → Ends zone i t → Ends zone (suc i) u → t <ℤ u) (read : EachUntilIsRead zone) where
-    ends_before : (i : ℕ) (u : ℤ) → Ends zone (suc i) u → (t : ℤ) × Ends zone i t
-    ends_before i u ends =
-        let found = some_and_has (line_at zone (suc i)) (λ l. IsUntil zone.source.rules l u) ends in
-        let one = line_before i (suc i) found.0 found.1 (omega arith) in
-        let has = until_before i (suc i) one.0 found.0 one.1 found.1 (omega arith) in
-        let at = read i one.0 has.0 one.1 has.1 in
-        (at.0, ends_at i one.0 at.0 one.1 at.1)
+  same_end : (i j : ℕ) (t u : ℤ) → i ≡ j → Ends zone i t → Ends zone j u → t ≡ u
+  same_end i j t u same ends later = one_end_of j t u (subst (λ (k : ℕ). Ends zone k t) same ends) later
 
-    ends_rise : (i j : ℕ) (t u : ℤ) → i ≤ j → Ends zone i t → Ends zone j u → t ≤ℤ u
-    ends_rise i zero t u le ends later =
-        let e : i ≡ 0 = omega arith in
-        let same = one_end_of 0 t u (subst (λ (k : ℕ). Ends zone k t) e ends) later in
-        omega (arith, ints)
-    ends_rise i (suc j) t u le ends later = ⊎_elim
-        (λ lt.
-            let middle = ends_before j u later in
-            let below = ends_rise i j t middle.0 (omega arith) ends middle.1 in
-            let above = rising j middle.0 u middle.1 later in
-            omega (arith, ints))
-        (λ ge.
-            let e : i ≡ suc j = omega arith in
-            let same = one_end_of (suc j) t u (subst (λ (k : ℕ). Ends zone k t) e ends) later in
-            omega (arith, ints))
-        (cases_lt i (suc j))
+module _ (zone : Zone) (orderly : IsOrderly zone) (read : EachUntilIsRead zone) where
+  rises : (i : ℕ) (t u : ℤ) → Ends zone i t → Ends zone (suc i) u → t <ℤ u
+  rises i t u ends next_ends = by_lt_z t u
+      (λ lt. lt)
+      (λ not_after. absurd (orderly.untils (record {
+        number = i;
+        earlier = t;
+        later = u;
+        ends = ends;
+        next_ends = next_ends;
+        not_after = not_after;
+      })))
 
-    not_both : (i j : ℕ) (a b : ZoneLine) (t : ℤ) → i < j → Governs zone i a t → Governs zone j b t → ⊥
-    not_both i zero a b t lt one other = absurd (omega arith)
-    not_both i (suc j) a b t lt one other =
-        let has = until_before i (suc j) a b one.is_line other.is_line lt in
-        let over = MatchOption-at_some (Unit {0}) (λ _. (end : ℤ) × IsUntil zone.source.rules a end × (t <ℤ end)) has.0 has.1 one.not_over in
-        let begun = other.begun in
-        let le = ends_rise i j over.0 begun.0 (omega arith) (ends_at i a over.0 one.is_line over.1) begun.1 in
-        let before = over.2 in
-        let after = begun.2 in
-        omega (arith, ints)
+  ends_before : (i : ℕ) (u : ℤ) → Ends zone (suc i) u → (t : ℤ) × Ends zone i t
+  ends_before i u ends =
+      let (later, at_later, is) = some_and_has (line_at zone (suc i)) (λ l. IsUntil zone.source.rules l u) ends in
+      let (line, at) = line_before zone orderly.sets i (suc i) later at_later (omega arith) in
+      let (until, has) = until_before zone orderly.sets i (suc i) line later at at_later (omega arith) in
+      let (t, is_until) = read i line until at has in
+      (t, ends_at zone orderly.sets i line t at is_until)
 
-rising : (zone : Zone) → IsOrderly zone → (i : ℕ) (t u : ℤ) → Ends zone i t → Ends zone (suc i) u → t <ℤ u
-rising zone orderly i t u ends later = by_lt_z t u (λ lt. lt)
-    (λ not_after. absurd (orderly.untils (record {
-      number = i;
-      earlier = t;
-      later = u;
-      ends = ends;
-      next_ends = later;
-      not_after = not_after;
-    })))
+  ends_rise : (i j : ℕ) (t u : ℤ) → i ≤ j → Ends zone i t → Ends zone j u → t ≤ℤ u
+  ends_rise i zero t u le ends later = let same = same_end zone orderly.sets i 0 t u (omega arith) ends later in omega (arith, ints)
+  ends_rise i (suc j) t u le ends later =
+      elim (cases_lt i (suc j)) [
+        | inl lt ↦
+            let (middle, at) = ends_before j u later in
+            let below = ends_rise i j t middle (omega arith) ends at in
+            let above = rises j middle u at later in
+            omega (arith, ints)
+        | inr ge ↦ let same = same_end zone orderly.sets i (suc j) t u (omega arith) ends later in omega (arith, ints)
+      ]
 
-pub one_line : (zone : Zone) (t : ℤ) (i j : ℕ) (a b : ZoneLine) → IsOrderly zone → EachUntilIsRead zone
-    → Governs zone i a t → Governs zone j b t → (i ≡ j) × (a ≡ b)
-one_line zone t i j a b orderly read one other =
-    let same : i ≡ j = same_number i j
-        (λ lt. not_both zone orderly.sets (rising zone orderly) read i j a b t lt one other)
-        (λ gt. not_both zone orderly.sets (rising zone orderly) read j i b a t gt other one) in
-    (same, same_Some a b (sym one.is_line ∙ ap (line_at zone) same ∙ other.is_line))
+  not_both : (i j : ℕ) (a b : ZoneLine) (t : ℤ) → i < j → Governs zone i a t → Governs zone j b t → ⊥
+  not_both i zero a b t lt one other = absurd (omega arith)
+  not_both i (suc j) a b t lt one other =
+      let (until, has) = until_before zone orderly.sets i (suc j) a b one.is_line other.is_line lt in
+      let EndsLater : Type 0 = (end : ℤ) × IsUntil zone.source.rules a end × (t <ℤ end) in
+      let (end, is_until, before) = MatchOption-at_some (Unit {0}) (λ _. EndsLater) until has one.not_over in
+      let (start, starts, after) = other.begun in
+      let rise = ends_rise i j end start (omega arith) (ends_at zone orderly.sets i a end one.is_line is_until) starts in
+      omega (arith, ints)
+
+  pub one_line : (t : ℤ) (i j : ℕ) (a b : ZoneLine) → Governs zone i a t → Governs zone j b t → (i ≡ j) × (a ≡ b)
+  one_line t i j a b one other =
+      let same = same_number i j (λ lt. not_both i j a b t lt one other) (λ gt. not_both j i b a t gt other one) in
+      (same, same_Some a b (sym one.is_line ∙ ap (line_at zone) same ∙ other.is_line))

@@ -1,10 +1,10 @@
 -- Sets in order.
-use Rattle.std.proofs.Common.{◌≡◌, ◌<◌, ℕ, ◌⊎◌, inl, inr, ⊎_elim, Some, sym, ap, ◌∙◌, arith}
-use Rattle.std.specs.Prelude.{ℤ, ◌<ℤ◌, ◌≤ℤ◌, slice_get}
+use Rattle.std.proofs.Common.{◌≡◌, ◌<◌, ℕ, inl, inr, ⊎_elim, sym, ap, ◌∙◌, arith}
+use Rattle.std.specs.Prelude.{ℤ, ◌<ℤ◌, slice_get}
 use Rattle.std.proofs.lemmas.Bool.{cases_lt}
 use Rattle.std.proofs.lemmas.Int.{ints, by_lt_z}
 use Rattle.std.proofs.lemmas.Option.{same_Some}
-use Rattle.zic_occurrences.specs.Occurrence.{RuleSet, Occurrence, IsOccurrence, AreSame, nominal}
+use Rattle.zic_occurrences.specs.Occurrence.{RuleSet, Occurrence, IsOccurrence, AreSame}
 use Rattle.zic_occurrences.specs.Order.{IsInOrder, IsOutOfOrder}
 
 pub same_number : (m n : ℕ) → (m < n → ⊥) → (n < m → ⊥) → m ≡ n
@@ -28,15 +28,19 @@ in_order_unless_out set offset never = record {
   differ = λ o p one other tied. same_unless o p
       (λ different. never (o, p, inl (record { one = one; other = other; different = different; tied = tied })));
   rise = λ o p t u is predecessor at_later at_earlier. by_lt_z u t (λ lt. lt)
-      (λ not_after. absurd (never (o, p, inr (record {
-        is = is;
-        predecessor = predecessor;
-        later = t;
-        earlier = u;
-        at_later = at_later;
-        at_earlier = at_earlier;
-        not_after = not_after;
-      }))));
+      (λ not_after. absurd (never (
+        o,
+        p,
+        inr (record {
+          is = is;
+          predecessor = predecessor;
+          later = t;
+          earlier = u;
+          at_later = at_later;
+          at_earlier = at_earlier;
+          not_after = not_after;
+        }),
+      )));
 }
 
 -- a number has one rule

@@ -10,15 +10,16 @@ use Rattle.zic_states.specs.Zone.{Zone, Keeps, Shows}
 use Rattle.zic_states.proofs.Kept.{one_kept}
 use Rattle.zic_states.proofs.Lines.{one_line}
 
-pub one_state : (zone : Zone) (t : ℤ) (a b : Shown) → IsOrderly zone → EachUntilIsRead zone
-    → Shows zone t a → Shows zone t b → a ≡ b
-one_state zone t a b orderly read one other =
-    let line = one_line zone t one.keeps.number other.keeps.number one.line other.line orderly read one.keeps.governs other.keeps.governs in
-    let kept = one_kept zone orderly.sets one.keeps.number one.line t one.kept other.kept one.keeps.governs.is_line one.keeps.keeps
-        (subst (λ (l : ZoneLine). Keeps zone one.keeps.number l t other.kept) (sym line.1)
-            (subst (λ (i : ℕ). Keeps zone i other.line t other.kept) (sym line.0) other.keeps.keeps)) in
-    let offset : a.offset ≡ b.offset = one.offset ∙ (λ k. (line.1 k).offset +ℤ (kept k).saving) ∙ sym other.offset in
+pub one_state : (zone : Zone) → IsOrderly zone → EachUntilIsRead zone → (t : ℤ) (a b : Shown) → Shows zone t a → Shows zone t b → a ≡ b
+one_state zone orderly read t a b one other =
+    let by = one.keeps in
+    let by' = other.keeps in
+    let (number, line) = one_line zone orderly read t by.number by'.number one.line other.line by.governs by'.governs in
+    let keeps = subst (λ (i : ℕ). Keeps zone i other.line t other.kept) (sym number) by'.keeps in
+    let keeps_too = subst (λ (l : ZoneLine). Keeps zone by.number l t other.kept) (sym line) keeps in
+    let kept = one_kept zone orderly.sets by.number one.line t one.kept other.kept by.governs.is_line by.keeps keeps_too in
+    let offset : a.offset ≡ b.offset = one.offset ∙ (λ k. (line k).offset +ℤ (kept k).saving) ∙ sym other.offset in
     let daylight : a.daylight ≡ b.daylight = one.daylight ∙ (λ k. (kept k).daylight) ∙ sym other.daylight in
-    let name : a.name ≡ b.name = same_Some a.name b.name
-        (sym one.name ∙ (λ k. abbreviation (line.1 k).format (offset k) (kept k).daylight (kept k).letter) ∙ other.name) in
+    let filled = sym one.name ∙ (λ k. abbreviation (line k).format (offset k) (kept k).daylight (kept k).letter) ∙ other.name in
+    let name = same_Some a.name b.name filled in
     λ k. record { offset = offset k; daylight = daylight k; name = name k }

@@ -34,33 +34,34 @@ HasBeginning zone = (end : ℤ) × (t : ℤ) × IsEnd zone end × (t <ℤ end) �
 -- at an instant at most one line governs
 abbrev pub OneLine : Type 0
 OneLine =
-    (zone : Zone) (t : ℤ) (i j : ℕ) (a b : ZoneLine) → IsOrderly zone → EachUntilIsRead zone
-    → Governs zone i a t → Governs zone j b t → (i ≡ j) × (a ≡ b)
+    (zone : Zone) → IsOrderly zone → EachUntilIsRead zone
+    → (t : ℤ) (i j : ℕ) (a b : ZoneLine) → Governs zone i a t → Governs zone j b t → (i ≡ j) × (a ≡ b)
 
 -- at an instant a line keeps at most one thing
 abbrev pub OneKept : Type 0
 OneKept =
-    (zone : Zone) (i : ℕ) (line : ZoneLine) (t : ℤ) (a b : Kept) → HasSetsInOrder zone → line_at zone i ≡ Some line
+    (zone : Zone) → HasSetsInOrder zone
+    → (i : ℕ) (line : ZoneLine) (t : ℤ) (a b : Kept) → line_at zone i ≡ Some line
     → Keeps zone i line t a → Keeps zone i line t b → a ≡ b
 
 -- at an instant a zone shows at most one state
 abbrev pub OneState : Type 0
 OneState =
-    (zone : Zone) (t : ℤ) (a b : Shown) → IsOrderly zone → EachUntilIsRead zone
-    → Shows zone t a → Shows zone t b → a ≡ b
+    (zone : Zone) → IsOrderly zone → EachUntilIsRead zone
+    → (t : ℤ) (a b : Shown) → Shows zone t a → Shows zone t b → a ≡ b
 
 -- A zone has at most one explicit end.
 abbrev pub OneEnd : Type 0
-OneEnd = (zone : Zone) (a b : ℤ) → HasSetsInOrder zone → IsEnd zone a → IsEnd zone b → a ≡ b
+OneEnd = (zone : Zone) → HasSetsInOrder zone → (a b : ℤ) → IsEnd zone a → IsEnd zone b → a ≡ b
 
 -- at most one list has all changes of a zone
 abbrev pub OneListOfChanges : Type 0
 OneListOfChanges =
-    (zone : Zone) (a b : List Change) → IsOrderly zone → EachUntilIsRead zone
-    → AreChanges zone a → AreChanges zone b → a ≡ b
+    (zone : Zone) → IsOrderly zone → EachUntilIsRead zone
+    → (a b : List Change) → AreChanges zone a → AreChanges zone b → a ≡ b
 
--- A zone has at most one first state, where there is an instant at which it could show one.
+-- A zone has at most one first state, where some instant comes before its end and all changes.
 abbrev pub OneFirstState : Type 0
 OneFirstState =
-    (zone : Zone) (a b : Shown) → IsOrderly zone → EachUntilIsRead zone → HasBeginning zone
-    → IsFirstState zone a → IsFirstState zone b → a ≡ b
+    (zone : Zone) → IsOrderly zone → EachUntilIsRead zone → HasBeginning zone
+    → (a b : Shown) → IsFirstState zone a → IsFirstState zone b → a ≡ b

@@ -2,4 +2,4 @@ use Rattle.zic_states.proofs.Changes.{one_first_state}
 use Rattle.zic_states.proofs.laws.a_zone_has_one_first_state.Goals as goal
 
 pub returns : goal.returns
-returns c = λ zone a b orderly read begins. one_first_state zone orderly read begins a b
+returns c = one_first_state

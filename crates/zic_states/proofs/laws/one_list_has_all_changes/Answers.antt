@@ -2,4 +2,4 @@ use Rattle.zic_states.proofs.Changes.{one_list_of_changes}
 use Rattle.zic_states.proofs.laws.one_list_has_all_changes.Goals as goal
 
 pub returns : goal.returns
-returns c = λ zone a b orderly read. one_list_of_changes zone orderly read a b
+returns c = one_list_of_changes
