@@ -4,14 +4,16 @@ use Rattle.std.specs.Prelude.{ℤ, ◌<ℤ◌, ◌≤ℤ◌, IsSomeAnd, slice_ge
 use Rattle.std.proofs.lemmas.Bool.{cases_lt}
 use Rattle.std.proofs.lemmas.Int.{ints, by_lt_z}
 use Rattle.std.proofs.lemmas.Option.{option_and_then_some, same_Some, slice_get-map, slice_get_within, MatchOption-at_some}
+use Rattle.zic_base.specs.declared.fault.Kind.TheVariants as kind
 use Rattle.zic_lines.specs.Entry.{has_until}
 use Rattle.zic_lines.specs.declared.rules.Rules.TheVariants.{Set}
 use Rattle.zic_lines.specs.declared.until.Until.{Until}
 use Rattle.zic_lines.specs.declared.zone_line.ZoneLine.{ZoneLine}
-use Rattle.zic_source.specs.Sound.{IsSoundLine, IsSoundZone}
+use Rattle.zic_source.specs.Sound.{IsSoundLine, IsSoundZone, IsSoundSource}
 use Rattle.zic_source.specs.Source.{ZoneLines, lines_of_zone}
 use Rattle.zic_source.proofs.Elements.{all_got, got}
 use Rattle.zic_occurrences.specs.Order.{IsInOrder}
+use Rattle.zic_states.specs.Fault.{IsSound}
 use Rattle.zic_states.specs.Laws.{HasSetsInOrder, IsOrderly, EachUntilIsRead}
 use Rattle.zic_states.specs.Until.{IsUntil, set_of}
 use Rattle.zic_states.specs.Zone.{Zone, lines_of, line_at, Ends, Governs}
@@ -44,6 +46,15 @@ flags [] (suc i) b e = absurd cc
 flags (x ∷ xs) zero b e = inl (omega arith, cc)
 flags (x ∷ xs) (suc i) b e =
     ⊎_elim (λ early. inl (omega (arith, early.0), early.1)) (λ last. inr (ap suc last.0, last.1)) (flags xs i b e)
+
+-- ---- order
+
+-- a zone with no fault is orderly
+pub orderly : (zone : Zone) → IsSoundSource zone.source → IsSound zone → IsOrderly zone
+orderly zone source sound = record {
+  sets = record { sound = source; in_order = sound kind.RulesOutOfOrder };
+  untils = sound kind.UntilNotRising;
+}
 
 -- ---- a zone whose sets are in order
 

@@ -1,4 +1,4 @@
--- What a zone shows is unique: each law is the contract of a function of the module `laws`.
+-- Laws of what zones show: each is the contract of a function of the module `laws`.
 use Rattle.std.specs.Prelude.{◌≡◌, ℕ, ℤ, ◌<ℤ◌, List, Some}
 use Rattle.zic_lines.specs.declared.until.Until.{Until}
 use Rattle.zic_lines.specs.declared.zone_line.ZoneLine.{ZoneLine}

@@ -1,5 +1,5 @@
-//! What a zone shows is unique, as contracts: no function here does anything. The crates above cite
-//! the lemmas in `proofs/` that prove them.
+//! Laws of what zones show as contracts: no function here does anything. The crates above cite the lemmas in `proofs/` that
+//! prove them.
 ghost use Rattle.zic_states.specs.Laws.{OneLine, OneKept, OneState, OneEnd, OneListOfChanges, OneFirstState};
 
 /// At an instant at most one line governs.

@@ -2,6 +2,3 @@
 #![tactic(auto)]
 
 pub mod laws;
-
-/// How many seconds a minute has.
-pub const MINUTE: u32 = 60;
