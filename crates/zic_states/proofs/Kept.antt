@@ -72,31 +72,22 @@ one_kept_by_rules rules line (Amount saving) IsSuch sound order a b one other = 
 one_kept_by_rules rules line (Set name) IsSuch sound order a b one other =
     one_kept_by_set (set_of rules name) line.offset sound (order name refl) IsSuch a b one other
 
--- what is kept at an instant by the line of this number
-abbrev KeepsAt : Zone → ℕ → ℤ → Kept → Type 0
-KeepsAt zone i t kept = (line : ZoneLine) × (line_at zone i ≡ Some line) × Keeps zone i line t kept
-
-one_kept_at : (zone : Zone) (i : ℕ)
-    → ((line : ZoneLine) (t : ℤ) (a b : Kept) → line_at zone i ≡ Some line → Keeps zone i line t a → Keeps zone i line t b → a ≡ b)
-    → (t : ℤ) (a b : Kept) → KeepsAt zone i t a → KeepsAt zone i t b → a ≡ b
-one_kept_at zone i by_line t a b one other =
-    let same = same_Some other.0 one.0 (sym other.1 ∙ one.1) in
-    by_line one.0 t a b one.1 one.2 (subst (λ (x : ZoneLine). Keeps zone i x t b) same other.2)
-
 module _ (zone : Zone) (sets : HasSetsInOrder zone) where
   one_kept_by : (i : ℕ) (line : ZoneLine) (t : ℤ) (a b : Kept) → line_at zone i ≡ Some line
       → KeepsBy zone line t a → KeepsBy zone line t b → a ≡ b
   one_kept_by i line t a b e = one_kept_by_rules zone.source.rules line line.rules _ sets.sound.rules (set_in_order zone sets i line e) a b
 
   -- where one thing is kept by the earlier line, the window has one end
-  one_window_end : (i : ℕ) (KeepsBefore : ℤ → Kept → Type 0) (later : ZoneLine) (t u : ℤ)
-      → ((s : ℤ) (a b : Kept) → KeepsBefore s a → KeepsBefore s b → a ≡ b) → line_at zone (suc i) ≡ Some later
-      → IsWindowEnd zone i KeepsBefore later t → IsWindowEnd zone i KeepsBefore later u → t ≡ u
-  one_window_end i KeepsBefore later t u one_before e one other =
+  one_window_end : (i : ℕ) (later : ZoneLine) (t u : ℤ)
+      → ((line : ZoneLine) (s : ℤ) (a b : Kept) → line_at zone i ≡ Some line → Keeps zone i line s a → Keeps zone i line s b → a ≡ b)
+      → line_at zone (suc i) ≡ Some later
+      → IsWindowEnd zone i (Keeps zone i) later t → IsWindowEnd zone i (Keeps zone i) later u → t ≡ u
+  one_window_end i later t u one_before e one other =
       let start = one_end_of zone sets i one.start other.start one.starts other.starts in
       let earlier = same_Some one.earlier other.earlier (sym one.is_earlier ∙ other.is_earlier) in
-      let keeps = subst (λ (s : ℤ). KeepsBefore (s -ℤ pos 1) other.kept) (sym start) other.keeps in
-      let kept = one_before (one.start -ℤ pos 1) one.kept other.kept one.keeps keeps in
+      let keeps = subst (λ (s : ℤ). Keeps zone i other.earlier (s -ℤ pos 1) other.kept) (sym start) other.keeps in
+      let keeps_too = subst (λ (l : ZoneLine). Keeps zone i l (one.start -ℤ pos 1) other.kept) (sym earlier) keeps in
+      let kept = one_before one.earlier (one.start -ℤ pos 1) one.kept other.kept one.is_earlier one.keeps keeps_too in
       let keeps_by_itself = subst (λ (s : ℤ). KeepsBy zone later s other.by_itself) (sym start) other.keeps_by_itself in
       let by_itself = one_kept_by (suc i) later one.start one.by_itself other.by_itself e one.keeps_by_itself keeps_by_itself in
       one.is ∙ (λ k. start k +ℤ int_max (pos 0) (((earlier k).offset +ℤ (kept k).saving) -ℤ (later.offset +ℤ (by_itself k).saving))) ∙ sym other.is
@@ -106,5 +97,5 @@ module _ (zone : Zone) (sets : HasSetsInOrder zone) where
   unfolding Keeps
   one_kept zero line t a b e one other = one_kept_by zero line t a b e one other
   one_kept (suc i) line t a b e (end, window, keeps) (end', window', keeps') =
-      let same = one_window_end i (KeepsAt zone i) line end end' (one_kept_at zone i (one_kept i)) e window window' in
+      let same = one_window_end i line end end' (one_kept i) e window window' in
       one_kept_by (suc i) line (int_max t end) a b e keeps (subst (λ (s : ℤ). KeepsBy zone line (int_max t s) b) (sym same) keeps')
