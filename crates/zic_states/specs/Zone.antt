@@ -53,13 +53,13 @@ KeepsBy zone line t kept = RulesKeep zone.source.rules line line.rules (λ u. (u
 -- The window of a line that follows another. The earlier line shows an offset one second before the start; by itself the later
 -- line would show another at the start. Where that one is less, clocks stand still for the difference, and what the later line's
 -- occurrences say within it holds from the start on.
-pub record IsWindowEnd (zone : Zone) (i : ℕ) (Keeps : ℤ → Kept → Type 0) (later : ZoneLine) (end : ℤ) : Type 0 where
+pub record IsWindowEnd (zone : Zone) (i : ℕ) (Keeps : ZoneLine → ℤ → Kept → Type 0) (later : ZoneLine) (end : ℤ) : Type 0 where
   pub start : ℤ
   pub starts : Ends zone i start
   pub earlier : ZoneLine
   pub is_earlier : line_at zone i ≡ Some earlier
   pub kept : Kept
-  pub keeps : Keeps (start -ℤ pos 1) kept
+  pub keeps : Keeps earlier (start -ℤ pos 1) kept
   pub by_itself : Kept
   pub keeps_by_itself : KeepsBy zone later start by_itself
   pub is : end ≡ start +ℤ int_max (pos 0) ((earlier.offset +ℤ kept.saving) -ℤ (later.offset +ℤ by_itself.saving))
@@ -68,8 +68,7 @@ pub record IsWindowEnd (zone : Zone) (i : ℕ) (Keeps : ℤ → Kept → Type 0)
 unfoldable pub Keeps : Zone → ℕ → ZoneLine → ℤ → Kept → Type 0
 Keeps zone zero line t kept = KeepsBy zone line t kept
 Keeps zone (suc i) line t kept =
-    (end : ℤ) × IsWindowEnd zone i (λ u k. (earlier : ZoneLine) × (line_at zone i ≡ Some earlier) × Keeps zone i earlier u k) line end
-    × KeepsBy zone line (int_max t end) kept
+    (end : ℤ) × IsWindowEnd zone i (Keeps zone i) line end × KeepsBy zone line (int_max t end) kept
 
 -- The zone keeps this at t by this line, which governs.
 pub record ZoneKeeps (zone : Zone) (t : ℤ) (line : ZoneLine) (kept : Kept) : Type 0 where

@@ -1,5 +1,4 @@
 //! What a zone shows at an instant.
 #![tactic(auto)]
 
-/// How many seconds a minute has.
-pub const MINUTE: u32 = 60;
+pub mod laws;
