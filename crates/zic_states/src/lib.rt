@@ -1,5 +1,10 @@
 //! What a zone shows at an instant.
 #![tactic(auto)]
 
-/// How many seconds a minute has.
-pub const MINUTE: u32 = 60;
+pub mod laws;
+mod until;
+
+pub use until::until_instant;
+
+#[cfg(test)]
+mod tests;
