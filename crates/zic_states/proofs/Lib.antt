@@ -1,0 +1,4 @@
+pub mod Assumed
+pub mod Ordered
+pub mod Listed
+pub mod Walked
