@@ -2,3 +2,4 @@ pub mod Assumed
 pub mod Ordered
 pub mod Listed
 pub mod Walked
+pub mod LineWalk

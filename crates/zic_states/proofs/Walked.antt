@@ -31,7 +31,7 @@ pub record IsPassed (set : RuleSet) (offset bound : ℤ) (until : Until) (xs : L
 
 -- ---- bounds
 
-within_bounds : (limit : ℕ) (z : ℤ) → IsWithin limit z → (neg_ℤ (pos limit) ≤ℤ z) × (z ≤ℤ pos limit)
+pub within_bounds : (limit : ℕ) (z : ℤ) → IsWithin limit z → (neg_ℤ (pos limit) ≤ℤ z) × (z ≤ℤ pos limit)
 within_bounds limit (pos n) le = (omega (arith, ints), omega (arith, ints))
 within_bounds limit (negsuc n) le = (omega (arith, ints), omega (arith, ints))
 
