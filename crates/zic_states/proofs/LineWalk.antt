@@ -1,20 +1,23 @@
 -- The walk through the occurrences of a line's set, on the line.
-use Rattle.std.proofs.Common.{◌≡◌, ℕ, ◌+◌, ◌<◌, List, length, Some, All, sym, ap, ◌∙◌, subst, ℤ, ◌<ℤ◌, ◌≤ℤ◌}
+use Rattle.std.proofs.Common.{◌≡◌, ℕ, ◌+◌, ◌<◌, Bool, true, false, List, length, Some, All, sym, ap, ◌∙◌, subst, arith, ℤ, ◌<ℤ◌, ◌≤ℤ◌, to_z, of_z, w32, w64}
+use lib.Signed.{le_z}
 use Rattle.std.specs.Prelude.{slice_get}
+use Rattle.std.proofs.lemmas.Int.{ints}
 use Rattle.std.proofs.lemmas.Option.{same_Some, slice_get_within}
 use Rattle.zic_words.specs.declared.clock.ClockForm.{ClockForm}
+use Rattle.zic_words.specs.Time.{IsWithin}
 use Rattle.zic_lines.specs.declared.rule.Rule.{Rule}
 use Rattle.zic_lines.specs.declared.rules.Rules.{Rules}
 use Rattle.zic_lines.specs.declared.until.Until.{Until}
 use Rattle.zic_lines.specs.declared.zone_line.ZoneLine.{ZoneLine}
-use Rattle.zic_source.specs.Sound.{IsSoundRule, IsSoundLine, IsSoundUntil}
+use Rattle.zic_source.specs.Sound.{IsSoundRule, IsSoundLine, IsSoundUntil, IsWithinDay}
 use Rattle.zic_occurrences.specs.declared.occurrence.TimedOccurrence.{TimedOccurrence}
 use Rattle.zic_occurrences.specs.Order.{instant_by}
 use Rattle.zic_states.specs.Until.{IsReadAfter, IsSavedAtUntil, set_of, until_by}
 use Rattle.zic_states.specs.code.Walk.{AreOccurrencesOfSet}
 use Rattle.zic_states.proofs.Ordered.{IsOrdered}
 use Rattle.zic_states.proofs.Listed.{IsListing, element}
-use Rattle.zic_states.proofs.Walked.{IsPassed, one_more_passed, stops_at, stops_at_end}
+use Rattle.zic_states.proofs.Walked.{IsPassed, one_more_passed, stops_at, stops_at_end, within_bounds}
 
 -- so many occurrences of the line's set don't stop the reading
 abbrev pub IsPassedOnLine : (rules : List Rule) (line : ZoneLine) (until : Until) (xs : List TimedOccurrence) → ℕ → ℤ → Type 0
@@ -73,9 +76,22 @@ read_at_end rules line until xs rules_sound line_sound sound w k saved end passe
     let g = listing rules line until xs rules_sound line_sound w in
     saved_so rules line until xs w k saved (passed w) (stops_at_end g until sound w.listed.1 k end saved (passed w))
 
--- a reading of equal numbers
-pub same_reading : (form : ClockForm) (o offset s saved n second : ℤ) → o ≡ offset → s ≡ saved → n ≡ second
-    → instant_by form o s n ≡ instant_by form offset saved second
-same_reading form o offset s saved n second same_offset same_saved same_second =
-    ap (λ (x : ℤ). instant_by form x s n) same_offset ∙ ap (λ (x : ℤ). instant_by form offset x n) same_saved
-    ∙ ap (λ (x : ℤ). instant_by form offset saved x) same_second
+-- ---- what the code computes
+
+pub le_from_test : (a b : ℤ) → le_z a b ≡ true → a ≤ℤ b
+le_from_test a b test = grind (arith, ints)
+
+pub lt_from_test : (a b : ℤ) → le_z a b ≡ false → b <ℤ a
+lt_from_test a b test = grind (arith, ints)
+
+pub cast_within_day : (z : ℤ) → IsWithinDay z → to_z w32 (of_z w32 z) ≡ z
+cast_within_day z within = let bounds = within_bounds 86_400 z within in omega (arith, ints)
+
+-- the instant of numbers that fit
+pub same_reading : (form : ClockForm) (offset saved n second : ℤ) → IsWithinDay offset → IsWithin 300_000_000_000 n → n ≡ second
+    → instant_by form (to_z w32 (of_z w32 offset)) saved (to_z w64 (of_z w64 n)) ≡ instant_by form offset saved second
+same_reading form offset saved n second within_day within same =
+    let bounds = within_bounds 300_000_000_000 n within in
+    let cast : to_z w64 (of_z w64 n) ≡ n = omega (arith, ints) in
+    ap (λ (x : ℤ). instant_by form x saved (to_z w64 (of_z w64 n))) (cast_within_day offset within_day)
+    ∙ ap (λ (x : ℤ). instant_by form offset saved x) (cast ∙ same)
