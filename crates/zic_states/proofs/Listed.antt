@@ -55,17 +55,17 @@ pub stands_before : {set : RuleSet} {offset bound : ℤ} {xs : List TimedOccurre
 stands_before {set} {offset} {bound} {xs} g i j o p at_o at_p lt =
     let given = g.ordered in
     let rise : at_o.x.instant <ℤ at_p.x.instant =
-      instants_rise set offset given.sound given.within given.order p o at_p.x.instant at_o.x.instant at_p.stands.is at_o.stands.is lt at_p.stands.instant at_o.stands.instant
+    instants_rise set offset given.sound given.within given.order p o at_p.x.instant at_o.x.instant at_p.stands.is at_o.stands.is lt at_p.stands.instant at_o.stands.instant
     in
     elim (cases_order i j) [
       | inl e ↦
-        let same : at_o.x ≡ at_p.x = same_Some at_o.x at_p.x (sym at_o.got ∙ ap (slice_get xs) e ∙ at_p.got) in
-        let instants : at_o.x.instant ≡ at_p.x.instant = ap (λ (x : TimedOccurrence). x.instant) same in
-        absurd (omega (arith, ints))
+          let same : at_o.x ≡ at_p.x = same_Some at_o.x at_p.x (sym at_o.got ∙ ap (slice_get xs) e ∙ at_p.got) in
+          let instants : at_o.x.instant ≡ at_p.x.instant = ap (λ (x : TimedOccurrence). x.instant) same in
+          absurd (omega (arith, ints))
       | inr (inl before) ↦ before
       | inr (inr after) ↦
-        let falls : at_p.x.instant <ℤ at_o.x.instant = rises g j i at_p.x at_o.x at_p.got at_o.got after in
-        absurd (omega (arith, ints))
+          let falls : at_p.x.instant <ℤ at_o.x.instant = rises g j i at_p.x at_o.x at_p.got at_o.got after in
+          absurd (omega (arith, ints))
     ]
 
 -- what stands before another is an occurrence before it
@@ -77,14 +77,14 @@ comes_before {set} {offset} {bound} {xs} g i j o p at_o at_p lt =
     elim (compare_occurrences set offset given.order o p at_o.stands.is at_p.stands.is) [
       | inl before ↦ before
       | inr (inl same) ↦
-        let At : Occurrence → Type 0 = λ q. IsInstant set offset q at_o.x.instant in
-        let instants : at_o.x.instant ≡ at_p.x.instant =
+          let At : Occurrence → Type 0 = λ q. IsInstant set offset q at_o.x.instant in
+          let instants : at_o.x.instant ≡ at_p.x.instant =
           one_instant set offset given.sound given.within given.order p at_o.x.instant at_p.x.instant at_p.stands.is (subst At same at_o.stands.instant) at_p.stands.instant
-        in
-        absurd (omega (arith, ints))
+          in
+          absurd (omega (arith, ints))
       | inr (inr after) ↦
-        let back : j < i = stands_before g j i p o at_p at_o after in
-        absurd (omega arith)
+          let back : j < i = stands_before g j i p o at_p at_o after in
+          absurd (omega arith)
     ]
 
 -- The first of the list is the first of all.
@@ -92,12 +92,12 @@ pub first_is_next : {set : RuleSet} {offset bound : ℤ} {xs : List TimedOccurre
     → (k : ℕ) (p : Occurrence) → k ≡ 0 → IsAt set offset bound xs k p → IsNext set None p
 first_is_next {set} {offset} {bound} {xs} g k p none at =
     let first : IsFirst set p = λ q is_q. by_lt_z (nominal q) (nominal p)
-      (λ lt.
-      let before : nominal q <ℤ bound = let end = at.before in omega (arith, ints) in
-      let place = find g q is_q before in
-      let less : place.0 < k = stands_before g place.0 k q p place.1 at lt in
-      absurd (omega arith))
-      (λ le. le)
+    (λ lt.
+    let before : nominal q <ℤ bound = let end = at.before in omega (arith, ints) in
+    let place = find g q is_q before in
+    let less : place.0 < k = stands_before g place.0 k q p place.1 at lt in
+    absurd (omega arith))
+    (λ le. le)
     in
     (at.stands.is, first)
 
@@ -106,14 +106,14 @@ pub later_is_next : {set : RuleSet} {offset bound : ℤ} {xs : List TimedOccurre
     → (j k : ℕ) (o p : Occurrence) → k ≡ j + 1 → IsAt set offset bound xs j o → IsAt set offset bound xs k p → IsNext set (Some o) p
 later_is_next {set} {offset} {bound} {xs} g j k o p one_more at_o at_p =
     let greatest : (q : Occurrence) → IsOccurrence set q → nominal q <ℤ nominal p → nominal q ≤ℤ nominal o = λ q is_q lt.
-      let before : nominal q <ℤ bound = let end = at_p.before in omega (arith, ints) in
-      let place = find g q is_q before in
-      let less : place.0 < k = stands_before g place.0 k q p place.1 at_p lt in
-      by_lt_z (nominal o) (nominal q)
-      (λ between.
-      let more : j < place.0 = stands_before g j place.0 o q at_o place.1 between in
-      absurd (omega arith))
-      (λ le. le)
+    let before : nominal q <ℤ bound = let end = at_p.before in omega (arith, ints) in
+    let place = find g q is_q before in
+    let less : place.0 < k = stands_before g place.0 k q p place.1 at_p lt in
+    by_lt_z (nominal o) (nominal q)
+    (λ between.
+    let more : j < place.0 = stands_before g j place.0 o q at_o place.1 between in
+    absurd (omega arith))
+    (λ le. le)
     in
     let predecessor : IsPredecessor set p o = record {
       is = at_o.stands.is;

@@ -102,6 +102,6 @@ one_until rules line rules_sound line_sound order t u one other =
     let same : one.until ≡ other.until = same_Some one.until other.until (sym one.has ∙ other.has) in
     let Saved : Until → Type 0 = λ x. IsSavedAtUntil rules line.offset x line.rules other.saved in
     let saved : one.saved ≡ other.saved =
-      one_saving rules line.offset one.until line.rules order one.saved other.saved one.is_saved (subst Saved (sym same) other.is_saved)
+    one_saving rules line.offset one.until line.rules order one.saved other.saved one.is_saved (subst Saved (sym same) other.is_saved)
     in
     one.is ∙ ap (until_by line.offset one.until) saved ∙ ap (λ (x : Until). until_by line.offset x other.saved) same ∙ sym other.is

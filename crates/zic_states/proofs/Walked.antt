@@ -64,14 +64,14 @@ beyond : {set : RuleSet} {offset : ℤ} → IsOrdered set offset → (until : Un
 beyond {set} {offset} given until sound bound saved within enough o u is at past =
     let second = nominal_second (pos until.year) until.moment in
     let a : until_by offset until saved ≤ℤ (second +ℤ pos 172_800) =
-      instant_not_after until.moment.at.form offset saved second given.within within
+    instant_not_after until.moment.at.form offset saved second given.within within
     in
     let b : second <ℤ (year_second (pos until.year +ℤ pos 1) +ℤ pos 1_641_600) =
-      moment_to (pos until.year) until.moment sound.moment sound.fits
+    moment_to (pos until.year) until.moment sound.moment sound.fits
     in
     let lt : (pos until.year +ℤ pos 1) <ℤ pos (until.year + 2) = omega (arith, ints) in
     let c : (year_second (pos until.year +ℤ pos 1) +ℤ pos 31_536_000) ≤ℤ year_second (pos (until.year + 2)) =
-      years_apart (pos until.year +ℤ pos 1) (pos (until.year + 2)) lt
+    years_apart (pos until.year +ℤ pos 1) (pos (until.year + 2)) lt
     in
     let d : (nominal o -ℤ pos 172_800) ≤ℤ u = (near set offset given.sound given.within given.order o u is at).0 in
     omega (arith, ints)
@@ -103,11 +103,11 @@ before_or_same {set} {offset} {bound} {xs} g k (Some o) p is_at at (Some c) is_c
       | inl lt ↦ inl lt
       | inr (inl same) ↦ inr (ap Some same)
       | inr (inr gt) ↦
-        let place = find g c is_c (let end = at.before in omega (arith, ints)) in
-        let less : place.0 < k = stands_before g place.0 k c p place.1 at before in
-        let more : is_at.0 < place.0 = stands_before g is_at.0 place.0 o c is_at.2 place.1 gt in
-        let one_more = is_at.1 in
-        absurd (omega arith)
+          let place = find g c is_c (let end = at.before in omega (arith, ints)) in
+          let less : place.0 < k = stands_before g place.0 k c p place.1 at before in
+          let more : is_at.0 < place.0 = stands_before g is_at.0 place.0 o c is_at.2 place.1 gt in
+          let one_more = is_at.1 in
+          absurd (omega arith)
     ]
 
 -- ---- the walk
@@ -122,17 +122,17 @@ pub one_more_passed : {set : RuleSet} {offset bound : ℤ} {xs : List TimedOccur
     → at.x.instant <ℤ until_by offset until saved → IsPassed set offset bound until xs (k + 1) p.rule.saving.seconds
 one_more_passed {set} {offset} {bound} {xs} g until k saved p passed at lt =
     let goes_on : Stops set offset until passed.b → ⊥ = λ stops.
-      let ge : until_by offset until (saved_after passed.b) ≤ℤ at.x.instant =
-        stops p at.x.instant (next_at g k passed.b p passed.is_at at) at.stands.instant
-      in
-      let same : until_by offset until saved ≡ until_by offset until (saved_after passed.b) = ap (until_by offset until) passed.saved_is in
-      absurd (omega (arith, ints))
+    let ge : until_by offset until (saved_after passed.b) ≤ℤ at.x.instant =
+    stops p at.x.instant (next_at g k passed.b p passed.is_at at) at.stands.instant
+    in
+    let same : until_by offset until saved ≡ until_by offset until (saved_after passed.b) = ap (until_by offset until) passed.saved_is in
+    absurd (omega (arith, ints))
     in
     let first : (c : Option Occurrence) → IsStage set c → ComesBefore c (Some p) → Stops set offset until c → ⊥ = λ c is_c before stops.
-      elim (before_or_same g k passed.b p passed.is_at at c is_c before) [
-        | inl earlier ↦ passed.first c is_c earlier stops
-        | inr same ↦ goes_on (subst (Stops set offset until) same stops)
-      ]
+    elim (before_or_same g k passed.b p passed.is_at at c is_c before) [
+      | inl earlier ↦ passed.first c is_c earlier stops
+      | inr same ↦ goes_on (subst (Stops set offset until) same stops)
+    ]
     in
     record { b = Some p; is_at = (k, refl, at); saved_is = refl; first = first }
 
@@ -143,13 +143,13 @@ pub stops_at : {set : RuleSet} {offset bound : ℤ} {xs : List TimedOccurrence} 
 stops_at {set} {offset} {bound} {xs} g until k saved p passed at le =
     let given = g.ordered in
     let stops : Stops set offset until passed.b = λ next u is_next at_u.
-      let same_next : next ≡ p = one_next set offset given.order passed.b next p is_next (next_at g k passed.b p passed.is_at at) in
-      let At : Occurrence → Type 0 = λ q. IsInstant set offset q u in
-      let same : u ≡ at.x.instant =
-        one_instant set offset given.sound given.within given.order p u at.x.instant at.stands.is (subst At same_next at_u) at.stands.instant
-      in
-      let read : until_by offset until saved ≡ until_by offset until (saved_after passed.b) = ap (until_by offset until) passed.saved_is in
-      omega (arith, ints)
+    let same_next : next ≡ p = one_next set offset given.order passed.b next p is_next (next_at g k passed.b p passed.is_at at) in
+    let At : Occurrence → Type 0 = λ q. IsInstant set offset q u in
+    let same : u ≡ at.x.instant =
+    one_instant set offset given.sound given.within given.order p u at.x.instant at.stands.is (subst At same_next at_u) at.stands.instant
+    in
+    let read : until_by offset until saved ≡ until_by offset until (saved_after passed.b) = ap (until_by offset until) passed.saved_is in
+    omega (arith, ints)
     in
     record { is = stage_is g k passed.b passed.is_at; stops = stops; first = passed.first }
 
@@ -176,8 +176,8 @@ stops_at_end {set} {offset} {bound} {xs} g until sound enough k end saved passed
     let At : ℕ → Type 0 = λ n. IsStageAt set offset bound xs n passed.b in
     let is_b = stage_is g k passed.b passed.is_at in
     let stops : Stops set offset until passed.b = λ next u is_next at_u.
-      by_lt_z (nominal next) bound
-      (λ before. absurd (past_end g passed.b next (subst At end passed.is_at) is_next before))
-      (λ past. beyond given until sound bound (saved_after passed.b) (saved_within set given.sound passed.b is_b) enough next u (next_is set passed.b next is_next) at_u past)
+    by_lt_z (nominal next) bound
+    (λ before. absurd (past_end g passed.b next (subst At end passed.is_at) is_next before))
+    (λ past. beyond given until sound bound (saved_after passed.b) (saved_within set given.sound passed.b is_b) enough next u (next_is set passed.b next is_next) at_u past)
     in
     record { is = is_b; stops = stops; first = passed.first }

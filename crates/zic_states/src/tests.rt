@@ -71,7 +71,10 @@ fn untils(rt: HostRuntime) -> Result<(), Fail> {
             Some(*until),
             "{line:?}"
         );
-        assert_eq!(rt; until_instant(&source, source.line(0, 1), &occurrences), None);
+        assert_eq!(rt;
+            until_instant(&source, source.line(0, 1), &occurrences),
+            None
+        );
     }
     Ok(())
 }

@@ -18,7 +18,7 @@ returns-then-instant-occurrence c =
     let until = c.args.until in
     let second = c.nominal_second-second in
     let read : c.instant_by-instant.result ≡ until_by line.offset until (to_z w32 c.loop-occurrence.saved-bits) =
-      c.instant_by-instant.ensures ∙ same_reading until.moment.at.form _ _ _ _ c.requires.line.offset second.ensures.range second.ensures.value
+    c.instant_by-instant.ensures ∙ same_reading until.moment.at.form _ _ _ _ c.requires.line.offset second.ensures.range second.ensures.value
     in
     let fits : FitsSigned w64 (get_or xs k none).instant = search rules in
     let found = (get_or xs k none).instant in
@@ -32,7 +32,7 @@ rule-requires c =
     let xs = c.args.occurrences.now in
     let k = c.loop-occurrence.occurrence-index in
     let known = rule_known c.args.source.now.rules c.args.line.now c.args.until xs c.requires.rules c.requires.line c.requires.occurrences k
-      (get_or xs k none) (slice_get-get_or xs k none c.loop-occurrence-test.true)
+    (get_or xs k none) (slice_get-get_or xs k none c.loop-occurrence-test.true)
     in
     omega (arith, known, c.from.ensures)
 
@@ -46,7 +46,7 @@ loop-occurrence-preserved c =
     let second = c.nominal_second-second in
     let rule = c.rule.result.now in
     let read : c.instant_by-instant.result ≡ until_by line.offset until (to_z w32 c.loop-occurrence.saved-bits) =
-      c.instant_by-instant.ensures ∙ same_reading until.moment.at.form _ _ _ _ c.requires.line.offset second.ensures.range second.ensures.value
+    c.instant_by-instant.ensures ∙ same_reading until.moment.at.form _ _ _ _ c.requires.line.offset second.ensures.range second.ensures.value
     in
     let fits : FitsSigned w64 (get_or xs k none).instant = search rules in
     let found = (get_or xs k none).instant in
