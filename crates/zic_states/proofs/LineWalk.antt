@@ -17,7 +17,7 @@ use Rattle.zic_states.specs.Until.{IsReadAfter, IsSavedAtUntil, set_of, until_by
 use Rattle.zic_states.specs.code.Walk.{AreOccurrencesOfSet}
 use Rattle.zic_states.proofs.Ordered.{IsOrdered}
 use Rattle.zic_states.proofs.Listed.{IsListing, element}
-use Rattle.zic_states.proofs.Walked.{IsPassed, one_more_passed, stops_at, stops_at_end, within_bounds}
+use Rattle.zic_states.proofs.Walked.{IsPassed, one_more_passed, stops_at, stops_at_end}
 
 -- so many occurrences of the line's set don't stop the reading
 abbrev pub IsPassedOnLine : (rules : List Rule) (line : ZoneLine) (until : Until) (xs : List TimedOccurrence) → ℕ → ℤ → Type 0
@@ -85,13 +85,12 @@ pub lt_from_test : (a b : ℤ) → le_z a b ≡ false → b <ℤ a
 lt_from_test a b test = grind (arith, ints)
 
 pub cast_within_day : (z : ℤ) → IsWithinDay z → to_z w32 (of_z w32 z) ≡ z
-cast_within_day z within = let bounds = within_bounds 86_400 z within in omega (arith, ints)
+cast_within_day z within = omega (arith, ints)
 
 -- the instant of numbers that fit
 pub same_reading : (form : ClockForm) (offset saved n second : ℤ) → IsWithinDay offset → IsWithin 300_000_000_000 n → n ≡ second
     → instant_by form (to_z w32 (of_z w32 offset)) saved (to_z w64 (of_z w64 n)) ≡ instant_by form offset saved second
 same_reading form offset saved n second within_day within same =
-    let bounds = within_bounds 300_000_000_000 n within in
     let cast : to_z w64 (of_z w64 n) ≡ n = omega (arith, ints) in
     ap (λ (x : ℤ). instant_by form x saved (to_z w64 (of_z w64 n))) (cast_within_day offset within_day)
     ∙ ap (λ (x : ℤ). instant_by form offset saved x) (cast ∙ same)

@@ -2,13 +2,14 @@
 use Rattle.std.proofs.Common.{◌≡◌, ℕ, ◌+◌, ◌<◌, ◌≤◌, List, length, Option, Some, None, All, ◌⊎◌, inl, inr, refl, sym, ap, ◌∙◌, subst, arith, ℤ, pos, negsuc, neg_ℤ, ◌+ℤ◌, ◌-ℤ◌, ◌<ℤ◌, ◌≤ℤ◌, lit≤}
 use Rattle.std.specs.Prelude.{slice_get}
 use Rattle.std.proofs.lemmas.Int.{ints, by_lt_z}
-use Rattle.std.proofs.lemmas.Option.{slice_get_within, get_or_from_slice_get}
+use Rattle.std.proofs.lemmas.Option.{slice_get_within}
 use Rattle.zic_words.specs.declared.clock.ClockForm.{ClockForm}
 use Rattle.zic_words.specs.declared.clock.ClockForm.TheVariants.{Wall, Standard, Universal}
 use Rattle.zic_words.specs.Time.{IsWithin}
 use Rattle.zic_lines.specs.declared.rule.Rule.{Rule}
 use Rattle.zic_lines.specs.declared.until.Until.{Until}
 use Rattle.zic_source.specs.Sound.{IsSoundRule, IsSoundUntil, IsWithinDay}
+use Rattle.zic_source.proofs.Elements.{all_got}
 use Rattle.zic_occurrences.specs.declared.occurrence.TimedOccurrence.{TimedOccurrence}
 use Rattle.zic_occurrences.specs.Occurrence.{RuleSet, Occurrence, IsOccurrence, nominal, nominal_second, year_second}
 use Rattle.zic_occurrences.specs.Order.{IsInstant, instant_by}
@@ -31,31 +32,16 @@ pub record IsPassed (set : RuleSet) (offset bound : ℤ) (until : Until) (xs : L
 
 -- ---- bounds
 
-pub within_bounds : (limit : ℕ) (z : ℤ) → IsWithin limit z → (neg_ℤ (pos limit) ≤ℤ z) × (z ≤ℤ pos limit)
-within_bounds limit (pos n) le = (omega (arith, ints), omega (arith, ints))
-within_bounds limit (negsuc n) le = (omega (arith, ints), omega (arith, ints))
-
+-- an instant comes at most 48 hours after what its clock shows
 instant_not_after : (form : ClockForm) (offset saved second : ℤ) → IsWithinDay offset → IsWithinDay saved
     → instant_by form offset saved second ≤ℤ (second +ℤ pos 172_800)
 instant_not_after Universal offset saved second within_offset within_saved = omega (arith, ints)
-instant_not_after Standard offset saved second within_offset within_saved =
-    let o = within_bounds 86_400 offset within_offset in omega (arith, ints)
-instant_not_after Wall offset saved second within_offset within_saved =
-    let o = within_bounds 86_400 offset within_offset in
-    let s = within_bounds 86_400 saved within_saved in
-    omega (arith, ints)
-
-rule_within : (rules : List Rule) → All IsSoundRule rules → (number : ℕ) (rule : Rule) → slice_get rules number ≡ Some rule
-    → IsWithinDay rule.saving.seconds
-rule_within rules sound number rule got =
-    let at = sound number rule (slice_get_within rules number rule got) in
-    let Within : Rule → Type 0 = λ r. IsSoundRule r in
-    let is : IsSoundRule rule = subst Within (get_or_from_slice_get rules number rule rule got) at in
-    is.saving
+instant_not_after Standard offset saved second within_offset within_saved = omega (arith, ints)
+instant_not_after Wall offset saved second within_offset within_saved = omega (arith, ints)
 
 saved_within : (set : RuleSet) → All IsSoundRule set.rules → (b : Option Occurrence) → IsStage set b → IsWithinDay (saved_after b)
 saved_within set sound None is = lit≤ tt
-saved_within set sound (Some o) is = rule_within set.rules sound o.number o.rule is.member.numbered
+saved_within set sound (Some o) is = (all_got IsSoundRule set.rules o.number o.rule sound is.member.numbered).saving
 
 -- an occurrence two years after an UNTIL, or later, comes after it
 beyond : {set : RuleSet} {offset : ℤ} → IsOrdered set offset → (until : Until) → IsSoundUntil until → (bound saved : ℤ) → IsWithinDay saved
