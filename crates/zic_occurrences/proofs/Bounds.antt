@@ -13,7 +13,7 @@ use Rattle.zic_lines.specs.declared.moment.Moment.{Moment}
 use Rattle.zic_lines.specs.declared.rule.Rule.{Rule}
 use Rattle.zic_words.specs.declared.clock.ClockForm.{ClockForm}
 use Rattle.zic_words.specs.declared.clock.ClockForm.TheVariants.{Wall, Standard, Universal}
-use Rattle.zic_source.specs.Sound.{IsSoundRule, OccursIn, IsWithinDay}
+use Rattle.zic_source.specs.Sound.{IsSoundRule, IsSoundMoment, OccursIn, IsWithinDay}
 use Rattle.zic_source.proofs.Elements.{all_got}
 use Rattle.zic_occurrences.specs.Occurrence.{RuleSet, Occurrence, IsOccurrence, nominal, nominal_second, year_second}
 use Rattle.zic_occurrences.specs.Order.{IsSavedBefore, IsInstant, instant_by}
@@ -89,6 +89,12 @@ years_apart y later h = rw (year_second-is y, year_second-is later) (year_apart 
 
 -- ---- nominal seconds
 
+-- a moment of a year comes less than 19 days after the year's end
+pub moment_to : (year next : ℤ) (moment : Moment) → next ≡ year +ℤ pos 1 → IsSoundMoment moment → FormFits year moment.month moment.on → nominal_second year moment <ℤ (year_second next +ℤ pos (19 * 86_400))
+moment_to year next moment e sound fits =
+    let days = form_in_year year next moment.month moment.on e sound.month fits in
+    rw (year_second-is next, nominal_second-is year moment) (second_to (day_number next 1 1) (form_day year moment.month moment.on) moment.at.seconds days.1 sound.at)
+
 -- the rule of an occurrence is sound
 pub sound_rule : (set : RuleSet) (o : Occurrence) → All IsSoundRule set.rules → IsOccurrence set o → IsSoundRule o.rule
 sound_rule set o sound is = all_got IsSoundRule set.rules o.number o.rule sound is.member.numbered
@@ -103,8 +109,7 @@ nominal_from set o sound is =
 pub nominal_to : (set : RuleSet) (o : Occurrence) (next : ℤ) → next ≡ o.year +ℤ pos 1 → All IsSoundRule set.rules → IsOccurrence set o → nominal o <ℤ (year_second next +ℤ pos (19 * 86_400))
 nominal_to set o next e sound is =
     let rule = sound_rule set o sound is in
-    let days = form_in_year o.year next o.rule.moment.month o.rule.moment.on e rule.moment.month (rule.fits o.year is.holds) in
-    rw (year_second-is next, nominal_second-is o.year o.rule.moment) (second_to (day_number next 1 1) (form_day o.year o.rule.moment.month o.rule.moment.on) o.rule.moment.at.seconds days.1 rule.moment.at)
+    moment_to o.year next o.rule.moment e rule.moment (rule.fits o.year is.holds)
 
 -- where years differ by two, that of the later year is greater
 pub two_years : (set : RuleSet) (o p : Occurrence) → All IsSoundRule set.rules → IsOccurrence set o → IsOccurrence set p → (o.year +ℤ pos 2) ≤ℤ p.year → nominal o <ℤ nominal p

@@ -15,7 +15,7 @@ use Rattle.zic_states.specs.Kept.{Kept, IsLastOf, NoneIs, IsFirstStandard, IsLet
 use Rattle.zic_states.specs.Laws.{HasSetsInOrder}
 use Rattle.zic_states.specs.Until.{set_of}
 use Rattle.zic_states.specs.Zone.{Zone, line_at, KeepsBy, IsWindowEnd, Keeps}
-use Rattle.zic_states.proofs.Assumed.{instants_rise}
+use Rattle.zic_occurrences.proofs.Instants.{instants_rise}
 use Rattle.zic_states.proofs.Orders.{same_int, same_rule}
 use Rattle.zic_states.proofs.Lines.{set_in_order, one_end_of}
 

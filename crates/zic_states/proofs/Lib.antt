@@ -1,7 +1,11 @@
-pub mod Assumed
+pub mod Given
 pub mod Orders
 pub mod Lines
 pub mod Kept
 pub mod States
 pub mod Ends
 pub mod Changes
+pub mod Ordered
+pub mod Listed
+pub mod Walked
+pub mod LineWalk

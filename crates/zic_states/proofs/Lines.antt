@@ -17,7 +17,7 @@ use Rattle.zic_states.specs.Fault.{IsSound}
 use Rattle.zic_states.specs.Laws.{HasSetsInOrder, IsOrderly, EachUntilIsRead}
 use Rattle.zic_states.specs.Until.{IsUntil, set_of}
 use Rattle.zic_states.specs.Zone.{Zone, lines_of, line_at, Ends, Governs}
-use Rattle.zic_states.proofs.Assumed.{one_until}
+use Rattle.zic_states.proofs.Ordered.{one_until}
 use Rattle.zic_states.proofs.Orders.{in_order_unless_out, same_number}
 
 some_and_has : {A : Type 0} (o : Option A) (P : A → Type 0) → IsSomeAnd o P → (x : A) × (o ≡ Some x) × P x

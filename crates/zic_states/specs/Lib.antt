@@ -1,9 +1,11 @@
 pub mod Abbreviation
 pub mod Change
+pub mod code
 pub mod End
 pub mod Fault
 pub mod Kept
 pub mod Laws
+pub mod Occurrences
 pub mod State
 pub mod Until
 pub mod Zone

@@ -2,3 +2,9 @@
 #![tactic(auto)]
 
 pub mod laws;
+mod until;
+
+pub use until::until_instant;
+
+#[cfg(test)]
+mod tests;
