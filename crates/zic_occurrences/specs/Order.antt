@@ -1,5 +1,5 @@
--- The order of a set's occurrences in all years, and their instants: zic(8), FILES, Rule lines. That each instant comes after
--- the one before it, and that no two nominal seconds are equal, is an own choice.
+-- The order of a set's occurrences in all years, and their instants: zic(8), FILES, Rule lines. The order by nominal seconds, that
+-- no two of them are equal, and that each instant comes after the one before it, are own choices.
 use Rattle.std.specs.Prelude.{◌≡◌, ℤ, pos, ◌-ℤ◌, ◌<ℤ◌, ◌≤ℤ◌, ◌⊎◌}
 use Rattle.zic_words.specs.declared.clock.ClockForm.{ClockForm}
 use Rattle.zic_words.specs.declared.clock.ClockForm.TheVariants.{Wall, Standard, Universal}

@@ -1,4 +1,4 @@
--- The explicit end of a zone, from which on the footer says what it shows. Own choice.
+-- The explicit end of a zone: its file lists the changes before it. Own choice.
 use Rattle.std.specs.Prelude.{◌≡◌, ℕ, zero, suc, ℤ, pos, ◌+ℤ◌, ◌<ℤ◌, ◌≤ℤ◌, Some, None, List}
 use Rattle.std.specs.Int.{int_max}
 use Rattle.zic_lines.specs.declared.rules.Rules.{Rules}

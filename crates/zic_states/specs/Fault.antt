@@ -66,7 +66,7 @@ pub record HasBadAbbreviation (zone : Zone) : Type 0 where
   pub shows : Shows zone t state
   pub breaks : is_abbreviation state.name ≡ false
 
--- This kind of fault applies to the zone.
+-- This kind of fault, one of the five of a zone's states, applies to the zone.
 abbrev pub Applies : Zone → Kind → Type 0
 Applies zone kind.OffsetRange = HasOffsetOutOfRange zone
 Applies zone kind.RulesOutOfOrder = HasRulesOutOfOrder zone

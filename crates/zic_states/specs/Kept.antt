@@ -1,4 +1,5 @@
--- What the RULES of a line keep: zic(8), FILES.
+-- What the RULES of a line keep: zic(8), FILES. That nothing is saved before the first occurrence, whatever the first rule of
+-- standard time saves, is an own choice.
 use Rattle.std.specs.Prelude.{◌≡◌, ℤ, pos, ◌≤ℤ◌, Bool, false, List, ℕ, Option, Some, None, ◌⊎◌}
 use Rattle.zic_lines.specs.declared.rule.Rule.{Rule}
 use Rattle.zic_lines.specs.declared.rules.Rules.{Rules}

@@ -51,8 +51,8 @@ abbrev pub KeepsBy : Zone → ZoneLine → ℤ → Kept → Type 0
 KeepsBy zone line t kept = RulesKeep zone.source.rules line line.rules (λ u. (u ≤ℤ t) × IsNotOver zone line u) kept
 
 -- The window of a line that follows another. The earlier line shows an offset one second before the start; by itself the later
--- line would show another at the start. Where that one is less, clocks stand still for the difference, and what the later line's
--- occurrences say within it holds from the start on.
+-- line would show another at the start. Where that one is less, clocks go back by the difference, and what the later line's
+-- occurrences say within so many seconds holds from the start on.
 pub record IsWindowEnd (zone : Zone) (i : ℕ) (Keeps : ZoneLine → ℤ → Kept → Type 0) (later : ZoneLine) (end : ℤ) : Type 0 where
   pub start : ℤ
   pub starts : Ends zone i start
