@@ -3,6 +3,7 @@ pub mod Change
 pub mod End
 pub mod Fault
 pub mod Kept
+pub mod Refusal
 pub mod State
 pub mod Until
 pub mod Zone

@@ -1,5 +1,11 @@
 //! What a zone shows at an instant.
 #![tactic(auto)]
 
-/// How many seconds a minute has.
-pub const MINUTE: u32 = 60;
+mod abbreviation;
+pub mod format;
+mod offset_text;
+
+pub use abbreviation::{Abbreviation, is_abbreviation};
+
+#[cfg(test)]
+mod tests;
