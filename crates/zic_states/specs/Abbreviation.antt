@@ -1,5 +1,5 @@
 -- How times are abbreviated: zic(8), FILES, FORMAT.
-use Rattle.std.specs.Prelude.{ℕ, ◌+◌, ◌-◌, ◌/◌, ◌%◌, ◌==◌, ℤ, pos, Bool, false, true, ◌&&◌, nat_le, if◌then◌else◌, List, [], ◌∷◌, ◌++◌, length, replicate, Option, Some, None, option_map, unsigned_abs, int_lt}
+use Rattle.std.specs.Prelude.{ℕ, ◌+◌, ◌/◌, ◌%◌, ◌==◌, ℤ, pos, Bool, true, ◌&&◌, nat_le, if◌then◌else◌, List, [], ◌∷◌, ◌++◌, length, Option, Some, None, option_map, unsigned_abs, int_lt}
 use Rattle.std.specs.List.{list_all}
 use Rattle.zic_base.specs.Byte.{is_abbreviation_byte}
 use Rattle.zic_base.specs.declared.limit.TheConstants.{SHORTEST_ABBREVIATION, LONGEST_ABBREVIATION}
@@ -41,7 +41,3 @@ is_abbreviation name =
 -- the abbreviation that octets are
 abbrev pub abbreviation_of : List ℕ → Option (List ℕ)
 abbreviation_of octets = if is_abbreviation octets then Some octets else None
-
--- the 16 octets in which an abbreviation is kept: its own, and zeros after them
-abbrev pub padded : List ℕ → List ℕ
-padded name = name ++ replicate (LONGEST_ABBREVIATION - length name) 0

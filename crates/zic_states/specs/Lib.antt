@@ -7,5 +7,6 @@ pub mod Refusal
 pub mod State
 pub mod Until
 pub mod Zone
+pub mod code
 pub use Rattle.zic_occurrences.specs.Occurrence
 pub use Rattle.zic_occurrences.specs.Order

@@ -1,5 +1,5 @@
 -- Why a FORMAT filled in is no abbreviation.
-use Rattle.std.specs.Prelude.{◌≡◌, ℕ, Bool, false, List, Option, Some, None, ◌⊎◌}
+use Rattle.std.specs.Prelude.{◌≡◌, ℕ, false, List, Option, Some, None, ◌⊎◌}
 use Rattle.zic_base.specs.declared.fault.Kind.{Kind}
 use Rattle.zic_base.specs.declared.fault.Kind.TheVariants.{NoLetter, BadAbbreviation}
 use Rattle.zic_states.specs.Abbreviation.{is_abbreviation}

@@ -18,16 +18,14 @@ pub struct Abbreviation {
 }
 
 impl Model for Abbreviation {
-    ghost use Rattle.std.specs.Prelude.{◌≡◌, ℕ, List, length, take, true};
-    ghost use Rattle.zic_states.specs.Abbreviation.{is_abbreviation, padded};
+    ghost use Rattle.std.specs.Prelude.{ℕ, List, length, take};
+    ghost use Rattle.zic_states.specs.code.Octets.{padded, HoldAbbreviation};
 
     ghost Value = { List ℕ };
 
     ghost view = { λ a. take a.len a.octets };
 
-    ghost invariant = { λ a. (a.octets ≡ padded (take a.len a.octets))
-        × (a.len ≡ length (take a.len a.octets))
-        × (is_abbreviation (take a.len a.octets) ≡ true) };
+    ghost invariant = { λ a. HoldAbbreviation a.octets a.len };
 
     ghost inverse = { λ name. record { octets = padded name; len = length name } };
 }

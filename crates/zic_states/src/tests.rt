@@ -114,6 +114,8 @@ fn texts(rt: HostRuntime) -> Result<(), Fail> {
 fn octets(rt: HostRuntime) -> Result<(), Fail> {
     let made = name(b"NZST")?;
     assert_eq!(rt; made.octets(), b"NZST".as_slice());
+    let copy = made;
+    assert_eq!(rt; copy, made);
     assert_ne!(rt; made, name(b"NZS")?);
     assert!(rt; is_abbreviation(b"NZST") && !is_abbreviation(b"NZ"));
     Ok(())
