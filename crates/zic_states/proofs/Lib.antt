@@ -9,3 +9,4 @@ pub mod Ordered
 pub mod Listed
 pub mod Walked
 pub mod LineWalk
+pub mod Octets

@@ -1,5 +1,5 @@
 -- How times are abbreviated: zic(8), FILES, FORMAT.
-use Rattle.std.specs.Prelude.{ℕ, ◌+◌, ◌/◌, ◌%◌, ◌==◌, ℤ, pos, Bool, false, true, ◌&&◌, nat_le, if◌then◌else◌, List, [], ◌∷◌, ◌++◌, length, Option, Some, None, option_map, unsigned_abs, int_lt}
+use Rattle.std.specs.Prelude.{ℕ, ◌+◌, ◌/◌, ◌%◌, ◌==◌, ℤ, pos, Bool, true, ◌&&◌, nat_le, if◌then◌else◌, List, [], ◌∷◌, ◌++◌, length, Option, Some, None, option_map, unsigned_abs, int_lt}
 use Rattle.std.specs.List.{list_all}
 use Rattle.zic_base.specs.Byte.{is_abbreviation_byte}
 use Rattle.zic_base.specs.declared.limit.TheConstants.{SHORTEST_ABBREVIATION, LONGEST_ABBREVIATION}
@@ -37,3 +37,7 @@ abbreviation (Pair standard saving) offset daylight letter = Some (if daylight t
 abbrev pub is_abbreviation : List ℕ → Bool
 is_abbreviation name =
     nat_le SHORTEST_ABBREVIATION (length name) && nat_le (length name) LONGEST_ABBREVIATION && list_all is_abbreviation_byte name
+
+-- the abbreviation that octets are
+abbrev pub abbreviation_of : List ℕ → Option (List ℕ)
+abbreviation_of octets = if is_abbreviation octets then Some octets else None

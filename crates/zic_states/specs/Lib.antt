@@ -6,6 +6,7 @@ pub mod Fault
 pub mod Kept
 pub mod Laws
 pub mod Occurrences
+pub mod Refusal
 pub mod State
 pub mod Until
 pub mod Zone

@@ -1,0 +1,80 @@
+//! UNTILs, with outside values.
+
+use crate::*;
+use std::alloc::Global;
+use std::test::Fail;
+use zic_base::Stop;
+use zic_occurrences::TimedOccurrence;
+use zic_source::{Source, read_source};
+
+/// The first rules of America/New_York that still hold.
+const RULES: &[u8] =
+    b"Rule US 2007 max - Mar Sun>=8 2:00 1:00 D\nRule US 2007 max - Nov Sun>=1 2:00 0 S\nZone A -5:00 ";
+
+/// The occurrences of these rules in standard time five hours west of Greenwich: year, rule, and instant, as Python's
+/// `zoneinfo` gives it.
+const OCCURRENCES: [(u16, u16, i64); 6] = [
+    (2007, 0, 1173596400),
+    (2007, 1, 1194156000),
+    (2008, 0, 1205046000),
+    (2008, 1, 1225605600),
+    (2009, 0, 1236495600),
+    (2009, 1, 1257055200),
+];
+
+/// What a source of these rules and a zone says, whose first line goes on so.
+fn read(alloc: Global, line: &[u8]) -> Result<Source, Fail> {
+    let mut text = Vec::from_slice(alloc, RULES)?;
+    text.extend_from_slice(line)?;
+    text.extend_from_slice(b"\n-5:00 US E%sT\n")?;
+    let mut texts = Vec::new(alloc);
+    texts.push(text)?;
+    match read_source(alloc, &texts) {
+        Ok(source) => Ok(source),
+        Err(Stop::Fault(_)) => Err(Fail::from("a fault")),
+        Err(Stop::Memory) => Err(Fail::from("out of memory")),
+    }
+}
+
+#[test]
+fn untils(rt: HostRuntime) -> Result<(), Fail> {
+    let rows: [(&[u8], i64); 16] = [
+        (b"US E%sT 2007 Jul 1 0:00", 1183262400),
+        (b"US E%sT 2007 Jul 1 0:00s", 1183266000),
+        (b"US E%sT 2007 Jul 1 0:00u", 1183248000),
+        (b"US E%sT 2007 Mar 11 2:00", 1173596400),
+        (b"US E%sT 2007 Mar 11 2:00:01", 1173592801),
+        (b"US E%sT 2007 Mar 11 3:00:01", 1173596401),
+        (b"US E%sT 2007 Mar 11 2:00:01s", 1173596401),
+        (b"US E%sT 2007 Jan 1", 1167627600),
+        (b"US E%sT 2007 Nov 4 2:00", 1194156000),
+        (b"US E%sT 2008", 1199163600),
+        (b"US E%sT 2009 Nov Sun>=1 2:00", 1257055200),
+        (b"- EST 2007 Jul 1 0:00", 1183266000),
+        (b"1:00 EDT 2007 Jul 1 0:00", 1183262400),
+        (b"0:30 EDT 2007 Jul 1 0:00", 1183264200),
+        (b"1:00 EDT 2007 Jul 1 0:00s", 1183266000),
+        (b"1:00 EDT 2007 Jul 1 0:00u", 1183248000),
+    ];
+    let mut occurrences = Vec::new(rt.alloc());
+    for (year, rule, instant) in OCCURRENCES {
+        occurrences.push(TimedOccurrence {
+            instant,
+            rule,
+            year,
+        })?;
+    }
+    for (line, until) in &rows {
+        let source = read(rt.alloc(), *line)?;
+        assert_eq!(rt;
+            until_instant(&source, source.line(0, 0), &occurrences),
+            Some(*until),
+            "{line:?}"
+        );
+        assert_eq!(rt;
+            until_instant(&source, source.line(0, 1), &occurrences),
+            None
+        );
+    }
+    Ok(())
+}
