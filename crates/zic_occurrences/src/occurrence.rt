@@ -8,6 +8,8 @@ ghost use Rattle.zic_source.specs.Sound.{IsWithinDay};
 ghost use Rattle.zic_occurrences.specs.Order.{IsInOrder, IsOutOfOrder};
 ghost use Rattle.zic_occurrences.specs.Listing.{IsLastNamed, AreOccurrencesTo};
 
+use crate::nominal::{has_tie, in_order};
+use crate::walk::timed;
 use std::alloc::Global;
 use zic_base::{Kind, Place, Stop};
 use zic_source::Source;
@@ -33,7 +35,12 @@ pub fn last_named_year(source: &Source, set: &SetName) -> u16
     requires { is_set set.now source.now.rules ≡ true }
     ensures { IsLastNamed (record { rules = source.now.rules; name = set.now }) result }
 {
-    0
+    let mut greatest = 0;
+    for number in source.set_rules(set) {
+        let rule = source.rule(*number);
+        greatest = rule.last.unwrap_or(rule.first).max(greatest);
+    }
+    greatest
 }
 
 /// All occurrences of a set of nominal seconds before the year `before`, and perhaps some more, in the order of their instants
@@ -60,5 +67,10 @@ pub fn occurrences(
         (λ fault. (fault ≡ fault_at zone_place Kind.RulesOutOfOrder)
         × IsOutOfOrder (record { rules = source.now.rules; name = set.now }) offset) }
 {
-    Ok(Vec::new(alloc))
+    let last = before.max(last_named_year(source, set) + YEARS_IN_QUESTION);
+    let nominals = in_order(alloc, source, set, last)?;
+    if has_tie(&nominals) {
+        return Err(Stop::at(zone_place, Kind::RulesOutOfOrder));
+    }
+    timed(alloc, zone_place, source, offset, &nominals)
 }
