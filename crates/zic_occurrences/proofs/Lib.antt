@@ -5,3 +5,4 @@ pub mod Signs
 pub mod Pairs
 pub mod Listed
 pub mod AllListed
+pub mod LastNamed

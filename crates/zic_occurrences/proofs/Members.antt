@@ -96,7 +96,10 @@ pub members_rise : (set : RuleSet) → AllPairs (λ j k. j < k) (set_rules set.n
 members_rise set = numbers_rise (is_of_set set.name) 0 set.rules
 
 -- a number of a set is one of a rule
-pub member_within : (set : RuleSet) (place : ℕ) (d : ℕ) → place < length (set_rules set.name set.rules) → get_or (set_rules set.name set.rules) place d < length set.rules
-member_within set place d within =
-    let is = members set place d within in
-    slice_get_within set.rules (get_or (set_rules set.name set.rules) place d) is.rule is.member.numbered
+pub member_at : (set : RuleSet) (numbers : List ℕ) (place : ℕ) → numbers ≡ set_rules set.name set.rules → place < length numbers → IsMemberNumber set (get_or numbers place 0)
+member_at set numbers place e within = subst (λ (ns : List ℕ). All (IsMemberNumber set) ns) (sym e) (members set) place 0 within
+
+pub member_within : (set : RuleSet) (numbers : List ℕ) (place : ℕ) → numbers ≡ set_rules set.name set.rules → place < length numbers → get_or numbers place 0 < length set.rules
+member_within set numbers place e within =
+    let is = member_at set numbers place e within in
+    slice_get_within set.rules (get_or numbers place 0) is.rule is.member.numbered
