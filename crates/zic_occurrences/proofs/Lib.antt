@@ -1,8 +1,9 @@
 pub mod Bounds
 pub mod ForEver
 pub mod Members
+pub mod LastNamed
 pub mod Signs
 pub mod Pairs
 pub mod Listed
 pub mod AllListed
-pub mod LastNamed
+pub mod Instants
