@@ -30,11 +30,11 @@ none_timed rules offset ns xs e = record {
   within = omega arith;
 }
 
-instant_is : (rules : List Rule) (offset saved : ℤ) (n : Nominal) (rule : Rule) → slice_get rules n.rule ≡ Some rule → instant_of rules offset saved n ≡ instant_by rule.moment.at.form offset saved n.second
+pub instant_is : (rules : List Rule) (offset saved : ℤ) (n : Nominal) (rule : Rule) → slice_get rules n.rule ≡ Some rule → instant_of rules offset saved n ≡ instant_by rule.moment.at.form offset saved n.second
 unfolding instant_of
 instant_is rules offset saved n rule at = ap (λ (o : Option Rule). option_map_or (λ (r : Rule). instant_by r.moment.at.form offset saved n.second) o (pos 0)) at
 
-saving_is : (rules : List Rule) (number : ℕ) (rule : Rule) → slice_get rules number ≡ Some rule → saving_of rules number ≡ rule.saving.seconds
+pub saving_is : (rules : List Rule) (number : ℕ) (rule : Rule) → slice_get rules number ≡ Some rule → saving_of rules number ≡ rule.saving.seconds
 unfolding saving_of
 saving_is rules number rule at = ap (λ (o : Option Rule). option_map_or (λ (r : Rule). r.saving.seconds) o (pos 0)) at
 

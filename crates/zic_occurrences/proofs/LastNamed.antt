@@ -1,9 +1,13 @@
 -- The last year that a set names.
-use Rattle.std.proofs.Common.{◌≡◌, ℕ, zero, suc, ◌+◌, ◌<◌, ◌≤◌, max, ◌⊎◌, inl, inr, ⊎_elim, List, length, get_or, Some, true, refl, sym, ap, subst, ◌∙◌, arith}
-use Rattle.std.specs.Prelude.{slice_get, Contains}
+use Rattle.std.proofs.Common.{◌≡◌, ℕ, zero, suc, ◌+◌, ◌<◌, ◌≤◌, max, ◌⊎◌, inl, inr, ⊎_elim, List, length, get_or, Option, Some, None, true, refl, sym, ap, subst, ◌∙◌, arith}
+use Rattle.std.specs.Prelude.{slice_get, unwrap_or, IfSome, All, Contains}
+use Rattle.std.specs.Int.{IsInRange}
 use Rattle.std.proofs.lemmas.List.{get_or_default}
-use Rattle.std.proofs.lemmas.Option.{same_Some}
+use Rattle.std.proofs.lemmas.Option.{same_Some, slice_get_within, get_or_from_slice_get}
 use Rattle.zic_lines.specs.declared.rule.Rule.{Rule}
+use Rattle.zic_words.specs.declared.year.TheConstants.{LAST_YEAR}
+use Rattle.zic_words.specs.Year.{IsYear}
+use Rattle.zic_source.specs.Sound.{IsSoundRule}
 use Rattle.zic_source.specs.Source.{is_of_set, is_set, set_rules}
 use Rattle.zic_source.proofs.lookups.Named.{any_found}
 use Rattle.zic_occurrences.specs.Occurrence.{RuleSet, IsMember}
@@ -64,3 +68,16 @@ all_named set greatest some is =
           is.above at.0 rule at.1 (ap (slice_get set.rules) (get_or_default (set_rules set.name set.rules) at.0 0 number at.1 ∙ at.2) ∙ member.numbered);
       named = is.reached there;
     }
+
+small_year : (to : Option ℕ) (first : ℕ) → IsYear first → IfSome to (λ last. IsInRange first LAST_YEAR last) → IsInRange 1 9000 (unwrap_or to first)
+small_year None first from till = (omega (arith, from.0), omega (arith, from.1))
+small_year (Some last) first from till = (omega (arith, from.0, till.0), omega (arith, till.1))
+
+-- a last named year is one that a line may name
+pub named_year : (set : RuleSet) (year : ℕ) → All IsSoundRule set.rules → IsLastNamed set year → IsInRange 1 9000 year
+named_year set year sound is =
+    let number = is.named.0 in
+    let rule = is.named.1 in
+    let within = slice_get_within set.rules number rule is.named.2.numbered in
+    let sound_rule = subst IsSoundRule (get_or_from_slice_get set.rules number rule rule is.named.2.numbered) (sound number rule within) in
+    subst (λ (y : ℕ). IsInRange 1 9000 y) is.named.3 (small_year rule.last rule.first sound_rule.first sound_rule.last)

@@ -7,3 +7,6 @@ pub mod Pairs
 pub mod Listed
 pub mod AllListed
 pub mod Instants
+pub mod Ties
+pub mod Chosen
+pub mod Walked

@@ -12,7 +12,7 @@ use crate::nominal::{has_tie, in_order};
 use crate::walk::timed;
 use std::alloc::Global;
 use zic_base::{Kind, Place, Stop};
-use zic_source::Source;
+use zic_source::{MOST_RULES, Source};
 use zic_words::SetName;
 
 /// An occurrence of a rule, with its instant.
@@ -67,6 +67,7 @@ pub fn occurrences(
         (λ fault. (fault ≡ fault_at zone_place Kind.RulesOutOfOrder)
         × IsOutOfOrder (record { rules = source.now.rules; name = set.now }) offset) }
 {
+    prove!(source.rules() <= MOST_RULES);
     let last = before.max(last_named_year(source, set) + YEARS_IN_QUESTION);
     let nominals = in_order(alloc, source, set, last)?;
     if has_tie(&nominals) {
