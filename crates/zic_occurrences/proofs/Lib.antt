@@ -10,3 +10,4 @@ pub mod Instants
 pub mod Ties
 pub mod Chosen
 pub mod Walked
+pub mod Outcomes

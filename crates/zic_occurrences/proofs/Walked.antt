@@ -6,17 +6,19 @@ use Rattle.std.proofs.lemmas.Int.{ints}
 use Rattle.std.proofs.lemmas.List.{get_or_default}
 use Rattle.std.proofs.lemmas.Option.{slice_get_within, get_or_from_slice_get}
 use Rattle.zic_lines.specs.declared.rule.Rule.{Rule}
+use Rattle.zic_source.specs.Sound.{IsSoundRule, IsWithinDay}
 use Rattle.zic_occurrences.specs.declared.nominal.Nominal.{Nominal}
 use Rattle.zic_occurrences.specs.declared.occurrence.TimedOccurrence.{TimedOccurrence}
 use Rattle.zic_occurrences.specs.Occurrence.{RuleSet, Occurrence, IsOccurrence, AreSame, nominal, year_second}
-use Rattle.zic_occurrences.specs.Order.{IsSavedBefore, IsInstant, instant_by, DoesNotRise, IsOutOfOrder}
-use Rattle.zic_occurrences.specs.Listing.{StandsFor, AreOccurrencesBefore}
+use Rattle.zic_occurrences.specs.Order.{IsSavedBefore, IsInstant, instant_by, DoesNotRise, IsInOrder, IsOutOfOrder}
+use Rattle.zic_occurrences.specs.Listing.{IsLastNamed, StandsFor, AreOccurrencesBefore}
 use Rattle.zic_occurrences.specs.code.Walk.{AreWalked}
 use Rattle.zic_occurrences.specs.code.Nominals.{IsNominalOf, AreNominals}
 use Rattle.zic_occurrences.specs.code.Timed.{saving_of, timed_of, timed_from, HasFall}
 use Rattle.zic_occurrences.proofs.Bounds.{years_apart}
+use Rattle.zic_occurrences.proofs.ForEver.{in_order_for_ever}
 use Rattle.zic_occurrences.proofs.Instants.{instant_is, saving_is}
-use Rattle.zic_occurrences.proofs.Chosen.{AreOf, none, at_place, is_before, found, in_order_before, is_first, is_predecessor}
+use Rattle.zic_occurrences.proofs.Chosen.{AreOf, chosen, none, at_place, is_before, found, in_order_before, is_first, is_predecessor}
 
 timed_length : (rules : List Rule) (offset saved : ℤ) (ns : List Nominal) → length (timed_from rules offset saved ns) ≡ length ns
 unfolding timed_from
@@ -126,3 +128,26 @@ years_begin year later h = ⊎_elim
     (λ less. let apart : (year_second (pos year) +ℤ pos 31536000) ≤ℤ year_second (pos later) = years_apart (pos year) (pos later) (omega (arith, ints)) in omega (arith, ints))
     (λ more. let same : year ≡ later = omega arith in subst (λ (y : ℕ). year_second (pos year) ≤ℤ year_second (pos y)) same (omega (arith, ints)))
     (cases_lt year later)
+
+-- a list of instants that rise is in order for ever
+pub order : (set : RuleSet) (offset bound : ℤ) (last : ℕ) (ns : List Nominal) (xs : List TimedOccurrence) → All IsSoundRule set.rules → IsWithinDay offset → IsLastNamed set last
+    → year_second (pos last +ℤ pos 405) ≤ℤ bound → AreNominals set bound ns → AllPairs (λ m n. m.second <ℤ n.second) ns
+    → xs ≡ timed_from set.rules offset (pos 0) ns → AllPairs (λ a b. a.instant <ℤ b.instant) xs → IsInOrder set offset
+order set offset bound last ns xs sound within named long listed strict is rising =
+    let os = chosen set bound ns listed.each in
+    in_order_for_ever set offset bound last os.0 (timed_from set.rules offset (pos 0) ns) sound within named long
+    (walked set offset bound ns os.0 listed strict os.1 (subst (λ (l : List TimedOccurrence). AllPairs (λ a b. a.instant <ℤ b.instant) l) is rising))
+
+-- and has all occurrences before the bound
+pub complete : (set : RuleSet) (offset bound : ℤ) (ns : List Nominal) (xs : List TimedOccurrence) → AreNominals set bound ns → AllPairs (λ m n. m.second <ℤ n.second) ns
+    → xs ≡ timed_from set.rules offset (pos 0) ns → AllPairs (λ a b. a.instant <ℤ b.instant) xs → AreOccurrencesBefore set offset bound xs
+complete set offset bound ns xs listed strict is rising =
+    let os = chosen set bound ns listed.each in
+    subst (λ (l : List TimedOccurrence). AreOccurrencesBefore set offset bound l) (sym is)
+    (all_before set offset bound ns os.0 listed strict os.1 (subst (λ (l : List TimedOccurrence). AllPairs (λ a b. a.instant <ℤ b.instant) l) is rising))
+
+-- a list of which one doesn't rise is a disorder
+pub disorder : (set : RuleSet) (offset bound : ℤ) (ns : List Nominal) → AreNominals set bound ns → AllPairs (λ m n. m.second <ℤ n.second) ns → HasFall (timed_from set.rules offset (pos 0) ns) → IsOutOfOrder set offset
+disorder set offset bound ns listed strict fall =
+    let os = chosen set bound ns listed.each in
+    falls set offset bound ns os.0 listed strict os.1 fall
