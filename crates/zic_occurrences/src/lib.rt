@@ -2,6 +2,11 @@
 #![tactic(auto)]
 
 pub mod laws;
+mod nominal;
 mod occurrence;
+mod walk;
 
-pub use occurrence::TimedOccurrence;
+pub use occurrence::{TimedOccurrence, last_named_year, occurrences};
+
+#[cfg(test)]
+mod tests;
