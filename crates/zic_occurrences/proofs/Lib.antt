@@ -4,3 +4,4 @@ pub mod Same
 pub mod ForEver
 pub mod Search
 pub mod Instants
+pub mod Members

@@ -1,5 +1,11 @@
 //! What a zone shows at an instant.
 #![tactic(auto)]
 
-/// How many seconds a minute has.
-pub const MINUTE: u32 = 60;
+mod current;
+mod keeping;
+
+pub use current::{before, rule_at};
+pub use keeping::{Keeping, kept_by, kept_is_found_in_list};
+
+#[cfg(test)]
+mod tests;

@@ -1,0 +1,4 @@
+//! What lines keep, with outside values.
+
+mod current;
+mod letters;
