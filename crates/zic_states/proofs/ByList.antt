@@ -1,5 +1,5 @@
 -- What the last listed occurrence not after an instant says is what the line keeps.
-use Rattle.std.proofs.Common.{◌≡◌, ℕ, ◌*◌, All, inl, inr, refl, sym, ap, subst, ◌∙◌, arith, ℤ, pos, ◌+ℤ◌, ◌<ℤ◌, ◌≤ℤ◌, List, Option, Some, None, option_map}
+use Rattle.std.proofs.Common.{◌≡◌, ℕ, ◌*◌, All, inl, inr, refl, sym, ap, subst, ◌∙◌, arith, ℤ, pos, ◌+ℤ◌, ◌<ℤ◌, ◌≤ℤ◌, List, Option, Some, None, option_map, ◌↔◌}
 use Rattle.std.specs.Prelude.{Contains, int_lt, int_le}
 use Rattle.std.proofs.lemmas.Int.{ints}
 use Rattle.std.proofs.lemmas.List.Kept.{AllPairs-filter}
@@ -10,9 +10,9 @@ use Rattle.zic_lines.specs.declared.zone_line.ZoneLine.{ZoneLine}
 use Rattle.zic_source.specs.Sound.{IsSoundRule, IsWithinDay}
 use Rattle.zic_source.proofs.Elements.{contains_got}
 use Rattle.zic_occurrences.specs.declared.occurrence.TimedOccurrence.{TimedOccurrence}
-use Rattle.zic_occurrences.specs.Occurrence.{RuleSet, IsMember, Occurrence, IsOccurrence}
+use Rattle.zic_occurrences.specs.Occurrence.{RuleSet, IsMember, Occurrence, IsOccurrence, year_second}
 use Rattle.zic_occurrences.specs.Order.{IsInOrder, IsInstant}
-use Rattle.zic_occurrences.specs.Listing.{StandsFor, IsListed, AreOccurrencesBefore}
+use Rattle.zic_occurrences.specs.Listing.{StandsFor, IsListed, AreOccurrencesBefore, AreOccurrencesTo}
 use Rattle.zic_occurrences.proofs.Bounds.{instant_near_nominal}
 use Rattle.zic_occurrences.proofs.Same.{one_place, same_occurrence, one_instant}
 use Rattle.zic_states.specs.ByList.{AreRising, before, not_after, last_of, rule_at, IsLimit, AreListedFor}
@@ -48,9 +48,12 @@ from_candidates xs limit t y has =
 
 -- ---- a set's list
 
--- what stands for an occurrence of this number and year stands for this one
-same_stands : (set : RuleSet) (offset : ℤ) (y : TimedOccurrence) (o q : Occurrence) → StandsFor set offset y o → IsOccurrence set q → (y.rule ≡ q.number) × (pos y.year ≡ q.year) → o ≡ q
-same_stands set offset y o q is is_q at = same_occurrence set o q is.is is_q (record { number = sym is.number ∙ at.0; year = sym is.year ∙ at.1 })
+-- what stands for an occurrence of this number and year has the instant of this one
+same_instant : (set : RuleSet) (offset : ℤ) (y : TimedOccurrence) (o q : Occurrence) (u : ℤ) → IsInOrder set offset → StandsFor set offset y o → IsOccurrence set q
+    → (y.rule ≡ q.number) × (pos y.year ≡ q.year) → IsInstant set offset q u → y.instant ≡ u
+same_instant set offset y o q u order is is_q same at =
+    let one = same_occurrence set o q is.is is_q (record { number = sym is.number ∙ same.0; year = sym is.year ∙ same.1 }) in
+    one_instant set offset q y.instant u order.differ (subst (λ (z : Occurrence). IsInstant set offset z y.instant) one is.instant) at
 
 module _ (set : RuleSet) (offset bound : ℤ) (xs : List TimedOccurrence) (listed : AreOccurrencesBefore set offset bound xs) where
   -- each element stands for an occurrence
@@ -67,8 +70,7 @@ module _ (set : RuleSet) (offset bound : ℤ) (xs : List TimedOccurrence) (liste
         let some = listed.all q is (omega (arith, ints)) in
         let has : Contains xs some.1 = (some.0, some.2, some.3) in
         let of = stands some.1 has in
-        let same = same_stands set offset some.1 of.0 q of.1 is some.4 in
-        (some.1, has, one_instant set offset q some.1.instant u order.differ (subst (λ (o : Occurrence). IsInstant set offset o some.1.instant) same of.1.instant) at)
+        (some.1, has, same_instant set offset some.1 of.0 q u order of.1 is some.4 at)
 
     module _ (zone : Zone) (line : ZoneLine) (t : ℤ) (limits : IsLimit zone line limit t) where
       abbrev IsSuch : ℤ → Type 0
@@ -103,6 +105,25 @@ module _ (set : RuleSet) (offset bound : ℤ) (xs : List TimedOccurrence) (liste
       none_is none q u is at such =
           let y = candidate q u is at such in
           empty_without_last (candidates xs limit t) y.0 none y.1
+
+-- ---- limits
+
+-- the end of a line is its limit
+pub limit_at_end : (zone : Zone) (line : ZoneLine) (limit t : ℤ) → ((u : ℤ) → IsNotOver zone line u ↔ (u <ℤ limit)) → IsLimit zone line limit t
+limit_at_end zone line limit t ends u le = ends u
+
+always_not_over : (zone : Zone) (line : ZoneLine) (u : ℤ) → line.until ≡ None → IsNotOver zone line u
+always_not_over zone line u none = rw none tt
+
+-- a line without an UNTIL has each later limit
+pub limit_without_until : (zone : Zone) (line : ZoneLine) (limit t : ℤ) → line.until ≡ None → t <ℤ limit → IsLimit zone line limit t
+limit_without_until zone line limit t none before_limit u le = (λ not_over. omega (arith, ints), λ lt. always_not_over zone line u none)
+
+-- the occurrences to a year serve limits up to two days before it
+pub listed_to_year : (rules : List Rule) (name : List ℕ) (offset limit : ℤ) (year : ℕ) (xs : List TimedOccurrence)
+    → IsInOrder (set_of rules name) offset → AreOccurrencesTo (set_of rules name) offset year xs → (limit +ℤ pos (2 * 86_400)) ≤ℤ year_second (pos year)
+    → AreListedFor rules offset limit (Set name) xs
+listed_to_year rules name offset limit year xs order (bound, from, listed) within = (order, bound, omega (arith, ints), listed)
 
 -- ---- by the kind of RULES
 

@@ -1,3 +1,4 @@
 pub mod Filters
 pub mod Points
 pub mod ByList
+pub mod Letters

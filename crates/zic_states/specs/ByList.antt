@@ -32,7 +32,7 @@ last_of xs = slice_get xs (length xs - 1)
 abbrev pub rule_at : List TimedOccurrence → ℤ → Option ℕ
 rule_at xs t = option_map (λ x. x.rule) (last_of (not_after xs t))
 
--- Up to t the line isn't over just at the instants before the limit.
+-- Of the instants up to t the line isn't over at just those before the limit.
 abbrev pub IsLimit : Zone → ZoneLine → ℤ → ℤ → Type 0
 IsLimit zone line limit t = (u : ℤ) → u ≤ℤ t → IsNotOver zone line u ↔ (u <ℤ limit)
 

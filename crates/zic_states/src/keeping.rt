@@ -12,7 +12,7 @@ ghost use Rattle.zic_states.specs.code.Letters.{ComesFirst, IsFirstOfStandard};
 
 use zic_calendar::day_of;
 use zic_lines::{Rule, Rules, ZoneLine};
-use zic_source::Source;
+use zic_source::{MOST_RULES, Source};
 use zic_words::{Letter, SetName};
 
 const SECONDS_OF_DAY: i64 = 86_400;
@@ -64,6 +64,7 @@ pub fn kept_by<'a>(source: &'a Source, line: &ZoneLine, rule: Option<u16>) -> Ke
 fn letter_before<'a>(source: &'a Source, set: &SetName) -> Option<&'a Letter>
     ensures { IsLetterBefore (set_of source.now.rules set.now) (option_copied result) }
 {
+    prove!(source.rules() <= MOST_RULES);
     let first = first_standard(source, source.set_rules(set))?;
     Some(&source.rule(first).letter)
 }
