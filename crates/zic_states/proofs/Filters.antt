@@ -1,6 +1,6 @@
 -- Elements that pass a test, and the last of a list whose instants rise.
-use Rattle.std.proofs.Common.{◌≡◌, ℕ, ◌<◌, ◌≤◌, ◌-◌, Bool, true, false, cond, All, List, [], ◌∷◌, length, get_or, Some, None, inl, inr, refl, sym, ap, subst, ◌∙◌, ⊎_elim, arith, ℤ, ◌<ℤ◌, ◌≤ℤ◌}
-use Rattle.std.specs.Prelude.{Contains, filter, slice_get, int_lt, int_le}
+use Rattle.std.proofs.Common.{◌≡◌, ◌-◌, Bool, true, false, cond, All, List, [], ◌∷◌, length, get_or, Some, None, inl, inr, ap, subst, ◌∙◌, ⊎_elim, arith, ℤ, ◌<ℤ◌, ◌≤ℤ◌}
+use Rattle.std.specs.Prelude.{Contains, filter, int_lt, int_le}
 use Rattle.std.proofs.lemmas.Int.{ints}
 use Rattle.std.proofs.lemmas.Bool.{cases_lt}
 use Rattle.std.proofs.lemmas.List.Elements.{Contains-append_right, All-filter, filter_passes}

@@ -1,5 +1,5 @@
 -- The letter before all occurrences of a set: the first occurrence whose flag is standard is that of a rule in its first year.
-use Rattle.std.proofs.Common.{◌≡◌, ℕ, ◌+◌, ◌<◌, ◌≤◌, All, List, length, get_or, ◌⊎◌, inl, inr, refl, sym, ap, subst, ◌∙◌, arith, ℤ, pos, ◌<ℤ◌, ◌≤ℤ◌, Option, Some, None, IfSome, false}
+use Rattle.std.proofs.Common.{◌≡◌, ℕ, ◌+◌, ◌<◌, All, List, length, get_or, ◌⊎◌, inl, inr, refl, sym, ap, subst, ◌∙◌, arith, ℤ, pos, ◌<ℤ◌, ◌≤ℤ◌, Option, Some, None, IfSome, false}
 use Rattle.std.specs.Prelude.{Contains, slice_get}
 use Rattle.std.specs.Int.{IsInRange}
 use Rattle.std.proofs.lemmas.Int.{ints, by_lt_z}
@@ -15,7 +15,7 @@ use Rattle.zic_occurrences.specs.Occurrence.{RuleSet, IsMember, Occurrence, IsOc
 use Rattle.zic_occurrences.proofs.Bounds.{sound_rule, rises_with_year}
 use Rattle.zic_occurrences.proofs.Members.{IsMemberNumber, members, has_members}
 use Rattle.zic_occurrences.proofs.Same.{one_place}
-use Rattle.zic_states.specs.Kept.{IsFirstStandard, IsLetterBefore}
+use Rattle.zic_states.specs.Kept.{IsLetterBefore}
 use Rattle.zic_states.specs.code.Letters.{first_second, IsStandard, ComesFirst, OccursFirst, IsFirstOfStandard}
 
 -- ---- the search

@@ -1,6 +1,6 @@
 //! What the RULES of a line keep.
 
-ghost use Rattle.std.specs.Prelude.{◌≡◌, ◌<◌, ◌↔◌, ℕ, pos, All, IfSome, MatchOption, IsTrue, slice_get, length};
+ghost use Rattle.std.specs.Prelude.{◌≡◌, ◌<◌, ◌↔◌, pos, false, All, IsTrue, length};
 ghost use Rattle.std.specs.Option.{ForSome, option_copied};
 ghost use Rattle.zic_source.specs.Sound.{IsSoundRule};
 ghost use Rattle.zic_occurrences.specs.Occurrence.{nominal_second};
@@ -34,21 +34,13 @@ pub fn kept_by<'a>(source: &'a Source, line: &ZoneLine, rule: Option<u16>) -> Ke
     ensures { IsKeptBy source.now.rules line.now.rules rule (kept result) }
 {
     match (&line.rules, rule) {
-        (Rules::Standard, _) => Keeping {
-            saving: 0,
-            daylight: false,
-            letter: None,
-        },
+        (Rules::Standard, _) => standard(None),
         (Rules::Amount(saving), _) => Keeping {
             saving: saving.seconds,
             daylight: saving.daylight,
             letter: None,
         },
-        (Rules::Set(set), None) => Keeping {
-            saving: 0,
-            daylight: false,
-            letter: letter_before(source, set),
-        },
+        (Rules::Set(set), None) => standard(letter_before(source, set)),
         (Rules::Set(_), Some(number)) => {
             let rule = source.rule(usize::from(number));
             Keeping {
@@ -57,6 +49,19 @@ pub fn kept_by<'a>(source: &'a Source, line: &ZoneLine, rule: Option<u16>) -> Ke
                 letter: Some(&rule.letter),
             }
         }
+    }
+}
+
+/// Standard time, with this letter if there is one.
+fn standard(letter: Option<&Letter>) -> Keeping<'_>
+    ensures saving { result.saving ≡ pos 0 }
+    ensures daylight { result.daylight ≡ false }
+    ensures letter { result.letter ≡ letter.entry }
+{
+    Keeping {
+        saving: 0,
+        daylight: false,
+        letter,
     }
 }
 
