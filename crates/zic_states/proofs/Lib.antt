@@ -10,3 +10,7 @@ pub mod Listed
 pub mod Walked
 pub mod LineWalk
 pub mod Octets
+pub mod Filters
+pub mod Points
+pub mod ByList
+pub mod Letters

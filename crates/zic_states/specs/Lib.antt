@@ -1,8 +1,10 @@
 pub mod Abbreviation
+pub mod ByList
 pub mod Change
 pub mod code
 pub mod End
 pub mod Fault
+pub mod Keeping
 pub mod Kept
 pub mod Laws
 pub mod Occurrences
