@@ -1,9 +1,14 @@
 //! UNTILs, with outside values.
 
+ghost use Rattle.std.specs.Prelude.{IfOk};
+ghost use Rattle.zic_source.specs.Sound.{IsSoundLine};
+ghost use Rattle.zic_states.specs.Occurrences.{AreOccurrencesFor};
+
 use super::*;
 use std::alloc::Global;
 use std::test::Fail;
 use zic_base::Stop;
+use zic_lines::ZoneLine;
 use zic_occurrences::TimedOccurrence;
 use zic_source::{Source, read_source};
 
@@ -21,6 +26,26 @@ const OCCURRENCES: [(u16, u16, i64); 6] = [
     (2009, 0, 1236495600),
     (2009, 1, 1257055200),
 ];
+
+/// The occurrences of the line's set.
+fn occurrences_for(
+    alloc: Global,
+    source: &Source,
+    line: &ZoneLine,
+) -> Result<Vec<TimedOccurrence>, Fail>
+    requires { IsSoundLine source.now.rules line.now }
+    ensures { IfOk result (λ xs. AreOccurrencesFor source.now.rules line.now line.now.rules xs.items) }
+{
+    let mut occurrences = Vec::new(alloc);
+    for (year, rule, instant) in OCCURRENCES {
+        occurrences.push(TimedOccurrence {
+            instant,
+            rule,
+            year,
+        })?;
+    }
+    Ok(occurrences)
+}
 
 /// What a source of these rules and a zone says, whose first line goes on so.
 fn read(alloc: Global, line: &[u8]) -> Result<Source, Fail> {
@@ -56,25 +81,17 @@ fn untils(rt: HostRuntime) -> Result<(), Fail> {
         (b"1:00 EDT 2007 Jul 1 0:00s", 1183266000),
         (b"1:00 EDT 2007 Jul 1 0:00u", 1183248000),
     ];
-    let mut occurrences = Vec::new(rt.alloc());
-    for (year, rule, instant) in OCCURRENCES {
-        occurrences.push(TimedOccurrence {
-            instant,
-            rule,
-            year,
-        })?;
-    }
     for (line, until) in &rows {
         let source = read(rt.alloc(), *line)?;
-        assert_eq!(rt;
-            until_instant(&source, source.line(0, 0), &occurrences),
-            Some(*until),
-            "{line:?}"
-        );
-        assert_eq!(rt;
-            until_instant(&source, source.line(0, 1), &occurrences),
-            None
-        );
+        assert_eq!(rt; source.zones(), 1);
+        assert_eq!(rt; source.lines(0), 2);
+        let first = source.line(0, 0);
+        let occurrences = occurrences_for(rt.alloc(), &source, first)?;
+        let found = until_instant(&source, first, &occurrences);
+        assert_eq!(rt; found, Some(*until), "{line:?}");
+        let last = source.line(0, 1);
+        let occurrences = occurrences_for(rt.alloc(), &source, last)?;
+        assert_eq!(rt; until_instant(&source, last, &occurrences), None);
     }
     Ok(())
 }
