@@ -34,7 +34,8 @@ fn occurrences_for(
     line: &ZoneLine,
 ) -> Result<Vec<TimedOccurrence>, Fail>
     requires { IsSoundLine source.now.rules line.now }
-    ensures { IfOk result (λ xs. AreOccurrencesFor source.now.rules line.now line.now.rules xs.items) }
+    ensures { IfOk result
+        (λ xs. AreOccurrencesFor source.now.rules line.now line.now.rules xs.items) }
 {
     let mut occurrences = Vec::new(alloc);
     for (year, rule, instant) in OCCURRENCES {
