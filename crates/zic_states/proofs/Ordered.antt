@@ -11,7 +11,7 @@ use Rattle.zic_lines.specs.declared.zone_line.ZoneLine.{ZoneLine}
 use Rattle.zic_source.specs.Sound.{IsSoundRule, IsSoundLine, IsWithinDay}
 use Rattle.zic_occurrences.specs.Occurrence.{RuleSet, Occurrence, IsOccurrence, AreSame, nominal}
 use Rattle.zic_occurrences.specs.Order.{IsInOrder}
-use Rattle.zic_states.specs.Until.{IsNext, IsStage, IsReadAfter, IsSavedAtUntil, IsUntil, saved_after, set_of, until_by}
+use Rattle.zic_states.specs.Until.{IsNext, IsReadAfter, IsSavedAtUntil, IsUntil, saved_after, set_of, until_by}
 
 -- a set of sound rules, in order on a line of this standard offset
 pub record IsOrdered (set : RuleSet) (offset : ℤ) : Type 0 where

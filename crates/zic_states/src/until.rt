@@ -26,7 +26,8 @@ pub fn until_instant(
 ) -> Option<i64>
     requires rules { All IsSoundRule source.now.rules }
     requires line { IsSoundLine source.now.rules line.now }
-    requires occurrences { AreOccurrencesFor source.now.rules line.now line.now.rules occurrences.now }
+    requires occurrences { AreOccurrencesFor source.now.rules line.now line.now.rules
+        occurrences.now }
     ensures { MatchOption result (line.now.until ≡ None) (λ t. IsUntil source.now.rules line.now t) }
 {
     let until = line.until?;

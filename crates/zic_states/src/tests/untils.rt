@@ -1,26 +1,43 @@
 //! UNTILs, with outside values.
 
+ghost use Rattle.std.specs.Prelude.{IfOk};
+ghost use Rattle.zic_source.specs.Sound.{IsSoundLine};
+ghost use Rattle.zic_states.specs.Occurrences.{AreOccurrencesFor};
+
 use crate::*;
 use std::alloc::Global;
 use std::test::Fail;
 use zic_base::Stop;
-use zic_occurrences::TimedOccurrence;
+use zic_lines::{Rules, ZoneLine};
+use zic_occurrences::{TimedOccurrence, occurrences};
 use zic_source::{Source, read_source};
 
 /// The first rules of America/New_York that still hold.
 const RULES: &[u8] =
     b"Rule US 2007 max - Mar Sun>=8 2:00 1:00 D\nRule US 2007 max - Nov Sun>=1 2:00 0 S\nZone A -5:00 ";
 
-/// The occurrences of these rules in standard time five hours west of Greenwich: year, rule, and instant, as Python's
-/// `zoneinfo` gives it.
-const OCCURRENCES: [(u16, u16, i64); 6] = [
-    (2007, 0, 1173596400),
-    (2007, 1, 1194156000),
-    (2008, 0, 1205046000),
-    (2008, 1, 1225605600),
-    (2009, 0, 1236495600),
-    (2009, 1, 1257055200),
-];
+/// The occurrences of the line's set.
+fn occurrences_for(
+    alloc: Global,
+    source: &Source,
+    line: &ZoneLine,
+) -> Result<Vec<TimedOccurrence>, Fail>
+    requires { IsSoundLine source.now.rules line.now }
+    ensures { IfOk result
+        (λ xs. AreOccurrencesFor source.now.rules line.now line.now.rules xs.items) }
+{
+    let Rules::Set(set) = &line.rules else {
+        return Ok(Vec::new(alloc));
+    };
+    let before = match line.until {
+        Some(until) => until.year + 2,
+        None => 1,
+    };
+    match occurrences(alloc, line.place, source, set, line.offset, before) {
+        Ok(occurrences) => Ok(occurrences),
+        Err(_) => Err(Fail::from("occurrences in order, in memory")),
+    }
+}
 
 /// What a source of these rules and a zone says, whose first line goes on so.
 fn read(alloc: Global, line: &[u8]) -> Result<Source, Fail> {
@@ -56,25 +73,17 @@ fn untils(rt: HostRuntime) -> Result<(), Fail> {
         (b"1:00 EDT 2007 Jul 1 0:00s", 1183266000),
         (b"1:00 EDT 2007 Jul 1 0:00u", 1183248000),
     ];
-    let mut occurrences = Vec::new(rt.alloc());
-    for (year, rule, instant) in OCCURRENCES {
-        occurrences.push(TimedOccurrence {
-            instant,
-            rule,
-            year,
-        })?;
-    }
     for (line, until) in &rows {
         let source = read(rt.alloc(), *line)?;
-        assert_eq!(rt;
-            until_instant(&source, source.line(0, 0), &occurrences),
-            Some(*until),
-            "{line:?}"
-        );
-        assert_eq!(rt;
-            until_instant(&source, source.line(0, 1), &occurrences),
-            None
-        );
+        assert_eq!(rt; source.zones(), 1);
+        assert_eq!(rt; source.lines(0), 2);
+        let first = source.line(0, 0);
+        let occurrences = occurrences_for(rt.alloc(), &source, first)?;
+        let found = until_instant(&source, first, &occurrences);
+        assert_eq!(rt; found, Some(*until), "{line:?}");
+        let last = source.line(0, 1);
+        let occurrences = occurrences_for(rt.alloc(), &source, last)?;
+        assert_eq!(rt; until_instant(&source, last, &occurrences), None);
     }
     Ok(())
 }
