@@ -1,0 +1,17 @@
+pub mod Bounds
+pub mod Shift
+pub mod Same
+pub mod ForEver
+pub mod Search
+pub mod Instants
+pub mod Members
+pub mod LastNamed
+pub mod Signs
+pub mod Pairs
+pub mod Listed
+pub mod AllListed
+pub mod Timed
+pub mod Ties
+pub mod Chosen
+pub mod Walked
+pub mod Outcomes

@@ -1,0 +1,12 @@
+//! The occurrences of a set's rules: one for each rule and each year in which it holds, and their order in all years.
+#![tactic(auto)]
+
+pub mod laws;
+mod nominal;
+mod occurrence;
+mod walk;
+
+pub use occurrence::{TimedOccurrence, last_named_year, occurrences};
+
+#[cfg(test)]
+mod tests;

@@ -1,0 +1,77 @@
+//! The occurrences of a set.
+
+ghost use Rattle.std.specs.Prelude.{◌≡◌, ◌≤◌, true, IfOk};
+ghost use Rattle.zic_base.specs.Fault.{fault_at, fault_of};
+ghost use Rattle.zic_base.specs.Memory.{IfRefusal};
+ghost use Rattle.zic_source.specs.Source.{is_set};
+ghost use Rattle.zic_source.specs.Sound.{IsWithinDay};
+ghost use Rattle.zic_occurrences.specs.Order.{IsInOrder, IsOutOfOrder};
+ghost use Rattle.zic_occurrences.specs.Listing.{IsLastNamed, AreOccurrencesTo};
+
+use crate::nominal::{has_tie, in_order};
+use crate::walk::timed;
+use std::alloc::Global;
+use zic_base::{Kind, Place, Stop};
+use zic_source::{MOST_RULES, Source};
+use zic_words::SetName;
+
+/// An occurrence of a rule, with its instant.
+#[derive(Clone, Copy, Debug, PartialEq, Eq)]
+pub struct TimedOccurrence {
+    /// Seconds from 1970-01-01T00:00:00 UT, without leap seconds.
+    pub instant: i64,
+    /// The rule's number in the source.
+    pub rule: u16,
+    /// The year in which it occurs.
+    pub year: u16,
+}
+
+/// How many years after the last that a set names its order is looked at. The occurrences of 400 years later stand in the same
+/// order, so a disorder of any later year stands in these years too.
+const YEARS_IN_QUESTION: u16 = 405;
+
+/// The last year that the lines of a set name: the greatest TO of its rules, and FROM of those without a last year.
+pub fn last_named_year(source: &Source, set: &SetName) -> u16
+    requires { is_set set.now source.now.rules ≡ true }
+    ensures { IsLastNamed (record { rules = source.now.rules; name = set.now }) result }
+{
+    let mut greatest = 0;
+    for number in source.set_rules(set) {
+        let rule = source.rule(*number);
+        greatest = rule.last.unwrap_or(rule.first).max(greatest);
+    }
+    greatest
+}
+
+/// All occurrences of a set of nominal seconds before the year `before`, and perhaps some more, in the order of their instants
+/// on a line whose standard UT offset is `offset` seconds, positive east; the line is of the zone whose Zone line stands at
+/// `zone_place`.
+///
+/// `RulesOutOfOrder` where the set is out of order in any year.
+pub fn occurrences(
+    alloc: Global,
+    zone_place: Place,
+    source: &Source,
+    set: &SetName,
+    offset: i32,
+    before: u16,
+) -> Result<Vec<TimedOccurrence>, Stop>
+    requires set { is_set set.now source.now.rules ≡ true }
+    requires offset { IsWithinDay offset }
+    requires before { before ≤ 9999 }
+    ensures order { IfOk result
+        (λ _. IsInOrder (record { rules = source.now.rules; name = set.now }) offset) }
+    ensures all { IfOk result
+        (λ made. AreOccurrencesTo (record { rules = source.now.rules; name = set.now }) offset before made.items) }
+    ensures err { IfRefusal fault_of result
+        (λ fault. (fault ≡ fault_at zone_place Kind.RulesOutOfOrder)
+        × IsOutOfOrder (record { rules = source.now.rules; name = set.now }) offset) }
+{
+    prove!(source.rules() <= MOST_RULES);
+    let last = before.max(last_named_year(source, set) + YEARS_IN_QUESTION);
+    let nominals = in_order(alloc, source, set, last)?;
+    if has_tie(&nominals) {
+        return Err(Stop::at(zone_place, Kind::RulesOutOfOrder));
+    }
+    timed(alloc, zone_place, source, offset, &nominals)
+}

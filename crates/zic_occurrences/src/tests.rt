@@ -1,0 +1,231 @@
+//! Occurrences of sets, by hand and by an independent count over 900 years.
+
+ghost use Rattle.std.specs.Prelude.{◌≤◌};
+
+use super::*;
+use std::alloc::Global;
+use std::test::Fail;
+use zic_base::{Fault, Kind, Stop};
+use zic_source::{Rules, Source, read_source};
+
+/// The source of this text.
+fn source(alloc: Global, text: &[u8]) -> Result<Source, Fail> {
+    let mut texts = Vec::new(alloc);
+    texts.push(Vec::from_slice(alloc, text)?)?;
+    match read_source(alloc, &texts) {
+        Ok(source) => Ok(source),
+        Err(Stop::Fault(_)) => Err(Fail::from("a fault")),
+        Err(Stop::Memory) => Err(Fail::from("out of memory")),
+    }
+}
+
+/// The occurrences of the set of the text's first zone, on that zone's first line, or the fault.
+fn listed(
+    alloc: Global,
+    text: &[u8],
+    before: u16,
+) -> Result<Result<Vec<TimedOccurrence>, Fault>, Fail>
+    requires { before ≤ 9999 }
+{
+    let source = source(alloc, text)?;
+    if source.zones() == 0 || source.lines(0) == 0 {
+        return Err(Fail::from("a zone"));
+    }
+    let line = source.line(0, 0);
+    let Rules::Set(set) = &line.rules else {
+        return Err(Fail::from("a set"));
+    };
+    match occurrences(alloc, line.place, &source, set, line.offset, before) {
+        Ok(listed) => Ok(Ok(listed)),
+        Err(Stop::Fault(fault)) => Ok(Err(fault)),
+        Err(Stop::Memory) => Err(Fail::from("out of memory")),
+    }
+}
+
+/// The instants of the first six occurrences.
+fn first_six(alloc: Global, text: &[u8]) -> Result<[i64; 6], Fail> {
+    let listed = listed(alloc, text, 1)?.ok().ok_or("occurrences")?;
+    match listed.as_slice() {
+        [a, b, c, d, e, f, ..] => Ok([
+            a.instant, b.instant, c.instant, d.instant, e.instant, f.instant,
+        ]),
+        _ => Err(Fail::from("six occurrences")),
+    }
+}
+
+#[test]
+fn first_instants(rt: HostRuntime) -> Result<(), Fail> {
+    let rows: [(&[u8], [i64; 6]); 4] = [
+        (
+            b"Rule US 2007 max - Mar Sun>=8 2:00 1:00 D\nRule US 2007 max - Nov Sun>=1 2:00 0 S\nZone A -5:00 US E%sT",
+            [
+                1_173_596_400,
+                1_194_156_000,
+                1_205_046_000,
+                1_225_605_600,
+                1_236_495_600,
+                1_257_055_200,
+            ],
+        ),
+        (
+            b"Rule I 1996 max - Oct lastSun 1:00u -1:00 -\nRule I 1996 max - Mar lastSun 1:00u 0 -\nZone A 1:00 I IST/GMT",
+            [
+                828_234_000,
+                846_378_000,
+                859_683_600,
+                877_827_600,
+                891_133_200,
+                909_277_200,
+            ],
+        ),
+        (
+            b"Rule E 1996 max - Mar lastSun 2:00s 1:00 S\nRule E 1996 max - Oct lastSun 2:00s 0 -\nZone A 1:00 E CE%sT",
+            [
+                828_234_000,
+                846_378_000,
+                859_683_600,
+                877_827_600,
+                891_133_200,
+                909_277_200,
+            ],
+        ),
+        (
+            b"Rule B 2000 max - Jan 1 -1:00 0 -\nZone A 0 B B%sT",
+            [
+                946_681_200,
+                978_303_600,
+                1_009_839_600,
+                1_041_375_600,
+                1_072_911_600,
+                1_104_534_000,
+            ],
+        ),
+    ];
+    for (text, want) in &rows {
+        assert_eq!(rt; first_six(rt.alloc(), *text)?, *want, "{text:?}");
+    }
+    Ok(())
+}
+
+/// Whether the fault is that of rules out of order, at this line of the first text.
+fn is_disorder(fault: Fault, line: u64) -> bool {
+    fault.kind == Kind::RulesOutOfOrder && fault.place.text == 1 && fault.place.line == line
+}
+
+#[test]
+fn out_of_order(rt: HostRuntime) -> Result<(), Fail> {
+    let rows: [(&[u8], u64); 6] = [
+        // Two at one time, first on 2009-03-01.
+        (
+            b"Rule B 2000 max - Mar 1 0:00 1:00 D\nRule B 2000 max - Mar Sun>=1 0:00 0 S\nZone A 0 B B%sT",
+            3,
+        ),
+        // One instant, in each year.
+        (
+            b"Rule B 2000 max - Mar 1 0:00 1:00 D\nRule B 2000 max - Mar 1 1:00 0 S\nZone A 0 B B%sT",
+            3,
+        ),
+        // The later an hour before the earlier, in each year.
+        (
+            b"Rule B 2000 max - Mar 1 0:00 2:00 D\nRule B 2000 max - Mar 1 1:00 0 S\nZone A 0 B B%sT",
+            3,
+        ),
+        // First in 2124, when 29 February is a Tuesday.
+        (
+            b"Rule C 2000 2094 - Jun 1 0:00 0 -\nRule C 2094 max - Feb 28 24:00 0 -\nRule C 2094 max - Feb lastTue 0:00 1:00 D\nZone A 0 C C%sT",
+            4,
+        ),
+        // First in 2303, by the rule from 2300 on.
+        (
+            b"Rule E 2000 max - Mar 1 0:00 0 -\nRule E 2300 max - Mar Sun>=1 0:00 1:00 D\nZone A 0 E E%sT",
+            3,
+        ),
+        // By the wall clock half a day before universal time, in each year.
+        (
+            b"Rule R 2000 max - Dec 31 282:00u 24:00d -\nRule R 2000 max - Jan 12 0:00u 0 -\nRule R 2000 max - Dec 31 300:00 0 -\nZone A 24:00 R R%sT",
+            4,
+        ),
+    ];
+    for (text, line) in &rows {
+        let fault = listed(rt.alloc(), *text, 1)?.err().ok_or("a fault")?;
+        assert!(rt; is_disorder(fault, *line), "{text:?}");
+    }
+    Ok(())
+}
+
+#[test]
+fn in_order(rt: HostRuntime) -> Result<(), Fail> {
+    let rows: [&[u8]; 6] = [
+        // One second apart.
+        b"Rule B 2000 max - Mar 1 0:00 1:00 D\nRule B 2000 max - Mar 1 1:00:01 0 S\nZone A 0 B B%sT",
+        b"Rule C 2000 2094 - Jun 1 0:00 0 -\nRule C 2094 max - Feb 28 24:00 0 -\nRule C 2094 2123 - Feb lastTue 0:00 1:00 D\nZone A 0 C C%sT",
+        b"Rule E 2000 max - Mar 1 0:00 0 -\nRule E 2300 2301 - Mar Sun>=1 0:00 1:00 D\nZone A 0 E E%sT",
+        // Occurrences of the year before lie between those of a year.
+        b"Rule R 2000 max - Jan 1 0:00 0 -\nRule R 2000 2005 - Dec 31 300:00 1:00 -\nZone A 0 R R%sT",
+        b"Rule R 2000 max - Dec 31 282:00u 24:00d -\nRule R 2000 max - Jan 12 0:00u 0 -\nRule R 2000 max - Dec 31 300:00 0 -\nZone A 0 R R%sT",
+        b"Rule R 2000 max - Dec 31 282:00u 24:00d -\nRule R 2000 max - Jan 12 0:00u 0 -\nRule R 2000 max - Dec 31 300:00 0 -\nZone A -24:00 R R%sT",
+    ];
+    for text in &rows {
+        assert!(rt; listed(rt.alloc(), *text, 1)?.is_ok(), "{text:?}");
+    }
+    Ok(())
+}
+
+#[test]
+fn rules_and_years(rt: HostRuntime) -> Result<(), Fail> {
+    // The first day of 2405 in the rule's clock lies in 2404.
+    let text = b"Rule B 2000 max - Jan 1 -1:00 0 -\nZone A 0 B B%sT";
+    let listed = listed(rt.alloc(), text, 2405)?.ok().ok_or("occurrences")?;
+    assert_eq!(rt; listed.len(), 406);
+    assert_eq!(rt;
+        listed.first(),
+        Some(&TimedOccurrence {
+            instant: 946_681_200,
+            rule: 0,
+            year: 2000
+        })
+    );
+    assert_eq!(rt;
+        listed.last(),
+        Some(&TimedOccurrence {
+            instant: 13_727_314_800,
+            rule: 0,
+            year: 2405
+        })
+    );
+    Ok(())
+}
+
+/// The last year that the set of the text's first zone names.
+fn last_named(alloc: Global, text: &[u8]) -> Result<u16, Fail> {
+    let source = source(alloc, text)?;
+    if source.zones() == 0 || source.lines(0) == 0 {
+        return Err(Fail::from("a zone"));
+    }
+    match &source.line(0, 0).rules {
+        Rules::Set(set) => Ok(last_named_year(&source, set)),
+        _ => Err(Fail::from("a set")),
+    }
+}
+
+#[test]
+fn last_named_years(rt: HostRuntime) -> Result<(), Fail> {
+    let rows: [(&[u8], u16); 3] = [
+        (
+            b"Rule A 1999 max - Jan 1 0 0 -\nRule B 2001 2030 - Jan 1 0 0 -\nZone A 0 A A%sT",
+            1999,
+        ),
+        (
+            b"Rule B 1999 2030 - Jan 1 0 0 -\nRule B 2020 max - Feb 1 0 0 -\nZone A 0 B A%sT",
+            2030,
+        ),
+        (
+            b"Rule B 1999 2010 - Jan 1 0 0 -\nRule B 9000 max - Feb 1 0 0 -\nZone A 0 B A%sT",
+            9000,
+        ),
+    ];
+    for (text, year) in &rows {
+        assert_eq!(rt; last_named(rt.alloc(), *text)?, *year, "{text:?}");
+    }
+    Ok(())
+}

@@ -1,0 +1,16 @@
+pub mod Given
+pub mod Orders
+pub mod Lines
+pub mod Kept
+pub mod States
+pub mod Ends
+pub mod Changes
+pub mod Ordered
+pub mod Listed
+pub mod Walked
+pub mod LineWalk
+pub mod Octets
+pub mod Filters
+pub mod Points
+pub mod ByList
+pub mod Letters

@@ -1,0 +1,77 @@
+-- Laws of what zones show: each is the contract of a function of the module `laws`.
+use Rattle.std.specs.Prelude.{◌≡◌, ℕ, ℤ, ◌<ℤ◌, List, Some, All}
+use Rattle.zic_lines.specs.declared.rule.Rule.{Rule}
+use Rattle.zic_lines.specs.declared.rules.Rules.TheVariants.{Set}
+use Rattle.zic_lines.specs.declared.until.Until.{Until}
+use Rattle.zic_lines.specs.declared.zone_line.ZoneLine.{ZoneLine}
+use Rattle.zic_source.specs.Sound.{IsSoundSource, IsSoundRule, IsSoundLine}
+use Rattle.zic_occurrences.specs.Order.{IsInOrder}
+use Rattle.zic_states.specs.Change.{Change, AreChanges, IsBeforeChanges, IsFirstState}
+use Rattle.zic_states.specs.End.{IsEnd}
+use Rattle.zic_states.specs.Fault.{HasRulesOutOfOrder, HasUntilNotRising}
+use Rattle.zic_states.specs.Kept.{Kept}
+use Rattle.zic_states.specs.State.{Shown}
+use Rattle.zic_states.specs.Until.{set_of, IsUntil}
+use Rattle.zic_states.specs.Zone.{Zone, line_at, Governs, Keeps, Shows}
+
+-- a line whose set, if it has one, is in order on it ends at one instant at most
+abbrev pub OneUntil : Type 0
+OneUntil =
+    (rules : List Rule) (line : ZoneLine) → All IsSoundRule rules → IsSoundLine rules line
+    → ((name : List ℕ) → line.rules ≡ Set name → IsInOrder (set_of rules name) line.offset)
+    → (t u : ℤ) → IsUntil rules line t → IsUntil rules line u → t ≡ u
+
+-- The source is sound, and the set of each line of the zone is in order.
+pub record HasSetsInOrder (zone : Zone) : Type 0 where
+  pub sound : IsSoundSource zone.source
+  pub in_order : HasRulesOutOfOrder zone → ⊥
+
+-- Its sets are in order, and its UNTILs rise.
+pub record IsOrderly (zone : Zone) : Type 0 where
+  pub sets : HasSetsInOrder zone
+  pub untils : HasUntilNotRising zone → ⊥
+
+-- Each UNTIL of the zone has an instant.
+abbrev pub EachUntilIsRead : Zone → Type 0
+EachUntilIsRead zone =
+    (i : ℕ) (line : ZoneLine) (until : Until) → line_at zone i ≡ Some line → line.until ≡ Some until
+    → (t : ℤ) × IsUntil zone.source.rules line t
+
+-- Some instant comes before the end and all changes.
+abbrev pub HasBeginning : Zone → Type 0
+HasBeginning zone = (end : ℤ) × (t : ℤ) × IsEnd zone end × (t <ℤ end) × IsBeforeChanges zone t
+
+-- at an instant at most one line governs
+abbrev pub OneLine : Type 0
+OneLine =
+    (zone : Zone) → IsOrderly zone → EachUntilIsRead zone
+    → (t : ℤ) (i j : ℕ) (a b : ZoneLine) → Governs zone i a t → Governs zone j b t → (i ≡ j) × (a ≡ b)
+
+-- at an instant a line keeps at most one thing
+abbrev pub OneKept : Type 0
+OneKept =
+    (zone : Zone) → HasSetsInOrder zone
+    → (i : ℕ) (line : ZoneLine) (t : ℤ) (a b : Kept) → line_at zone i ≡ Some line
+    → Keeps zone i line t a → Keeps zone i line t b → a ≡ b
+
+-- at an instant a zone shows at most one state
+abbrev pub OneState : Type 0
+OneState =
+    (zone : Zone) → IsOrderly zone → EachUntilIsRead zone
+    → (t : ℤ) (a b : Shown) → Shows zone t a → Shows zone t b → a ≡ b
+
+-- A zone has at most one explicit end.
+abbrev pub OneEnd : Type 0
+OneEnd = (zone : Zone) → HasSetsInOrder zone → (a b : ℤ) → IsEnd zone a → IsEnd zone b → a ≡ b
+
+-- at most one list has all changes of a zone
+abbrev pub OneListOfChanges : Type 0
+OneListOfChanges =
+    (zone : Zone) → IsOrderly zone → EachUntilIsRead zone
+    → (a b : List Change) → AreChanges zone a → AreChanges zone b → a ≡ b
+
+-- A zone has at most one first state, where some instant comes before its end and all changes.
+abbrev pub OneFirstState : Type 0
+OneFirstState =
+    (zone : Zone) → IsOrderly zone → EachUntilIsRead zone → HasBeginning zone
+    → (a b : Shown) → IsFirstState zone a → IsFirstState zone b → a ≡ b

@@ -1,0 +1,16 @@
+pub mod Abbreviation
+pub mod ByList
+pub mod Change
+pub mod code
+pub mod End
+pub mod Fault
+pub mod Keeping
+pub mod Kept
+pub mod Laws
+pub mod Occurrences
+pub mod Refusal
+pub mod State
+pub mod Until
+pub mod Zone
+pub use Rattle.zic_occurrences.specs.Occurrence
+pub use Rattle.zic_occurrences.specs.Order

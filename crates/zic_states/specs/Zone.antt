@@ -1,0 +1,86 @@
+-- What a zone shows at an instant: zic(8), FILES. The window at the start of a line with a set is an own choice: it is taken
+-- once, and includes its last instant.
+use Rattle.std.specs.Prelude.{◌≡◌, ℕ, zero, suc, ℤ, pos, ◌+ℤ◌, ◌-ℤ◌, ◌<ℤ◌, ◌≤ℤ◌, List, Option, Some, None, IsSomeAnd, slice_get}
+use Rattle.std.specs.Int.{int_max}
+use Rattle.std.specs.Option.{MatchOption}
+use Rattle.zic_base.specs.Option.{◌>>=◌}
+use Rattle.zic_lines.specs.declared.zone_line.ZoneLine.{ZoneLine}
+use Rattle.zic_source.specs.Source.{SourceLines, ZoneLines, zone_at, lines_of_zone}
+use Rattle.zic_states.specs.Abbreviation.{abbreviation}
+use Rattle.zic_states.specs.Kept.{Kept, RulesKeep}
+use Rattle.zic_states.specs.State.{Shown}
+use Rattle.zic_states.specs.Until.{IsUntil}
+
+-- a zone of a source, by its number from 0
+pub record Zone : Type 0 where
+  pub source : SourceLines
+  pub number : ℕ
+
+-- the lines of the zone
+abbrev pub lines_of : Zone → Option ZoneLines
+lines_of zone = zone_at zone.source zone.number
+
+-- a line of the zone, by its number from 0: the Zone line, then its continuation lines
+abbrev pub line_at : Zone → ℕ → Option ZoneLine
+line_at zone i = do
+  lines ← lines_of zone
+  slice_get (lines_of_zone lines) i
+
+-- the instant of a line's UNTIL, at which it ends
+abbrev pub Ends : Zone → ℕ → ℤ → Type 0
+Ends zone i t = IsSomeAnd (line_at zone i) (λ line. IsUntil zone.source.rules line t)
+
+-- The line has begun at t: the line before it ends at t or earlier. The first line has no beginning.
+abbrev pub HasBegun : Zone → ℕ → ℤ → Type 0
+HasBegun zone zero t = Unit {0}
+HasBegun zone (suc i) t = (start : ℤ) × Ends zone i start × (start ≤ℤ t)
+
+-- The line isn't over at t: it has no UNTIL, or t is before it.
+abbrev pub IsNotOver : Zone → ZoneLine → ℤ → Type 0
+IsNotOver zone line t =
+    MatchOption line.until (Unit {0}) (λ _. (end : ℤ) × IsUntil zone.source.rules line end × (t <ℤ end))
+
+-- The line of this number governs at t.
+pub record Governs (zone : Zone) (i : ℕ) (line : ZoneLine) (t : ℤ) : Type 0 where
+  pub is_line : line_at zone i ≡ Some line
+  pub begun : HasBegun zone i t
+  pub not_over : IsNotOver zone line t
+
+-- What the line keeps by the last of its occurrences, of those before its UNTIL, that isn't after t.
+abbrev pub KeepsBy : Zone → ZoneLine → ℤ → Kept → Type 0
+KeepsBy zone line t kept = RulesKeep zone.source.rules line line.rules (λ u. (u ≤ℤ t) × IsNotOver zone line u) kept
+
+-- The window of a line that follows another. The earlier line shows an offset one second before the start; by itself the later
+-- line would show another at the start. Where that one is less, clocks go back by the difference, and what the later line's
+-- occurrences say within so many seconds holds from the start on.
+pub record IsWindowEnd (zone : Zone) (i : ℕ) (Keeps : ZoneLine → ℤ → Kept → Type 0) (later : ZoneLine) (end : ℤ) : Type 0 where
+  pub start : ℤ
+  pub starts : Ends zone i start
+  pub earlier : ZoneLine
+  pub is_earlier : line_at zone i ≡ Some earlier
+  pub kept : Kept
+  pub keeps : Keeps earlier (start -ℤ pos 1) kept
+  pub by_itself : Kept
+  pub keeps_by_itself : KeepsBy zone later start by_itself
+  pub is : end ≡ start +ℤ int_max (pos 0) ((earlier.offset +ℤ kept.saving) -ℤ (later.offset +ℤ by_itself.saving))
+
+-- What the line of this number keeps at t: by its last occurrence not after t, or in its window not after the window's end.
+unfoldable pub Keeps : Zone → ℕ → ZoneLine → ℤ → Kept → Type 0
+Keeps zone zero line t kept = KeepsBy zone line t kept
+Keeps zone (suc i) line t kept =
+    (end : ℤ) × IsWindowEnd zone i (Keeps zone i) line end × KeepsBy zone line (int_max t end) kept
+
+-- The zone keeps this at t by this line, which governs.
+pub record ZoneKeeps (zone : Zone) (t : ℤ) (line : ZoneLine) (kept : Kept) : Type 0 where
+  pub number : ℕ
+  pub governs : Governs zone number line t
+  pub keeps : Keeps zone number line t kept
+
+-- The zone shows this state at t: the governing line's standard offset and what is kept, and its FORMAT filled in.
+pub record Shows (zone : Zone) (t : ℤ) (state : Shown) : Type 0 where
+  pub line : ZoneLine
+  pub kept : Kept
+  pub keeps : ZoneKeeps zone t line kept
+  pub offset : state.offset ≡ line.offset +ℤ kept.saving
+  pub daylight : state.daylight ≡ kept.daylight
+  pub name : abbreviation line.format state.offset kept.daylight kept.letter ≡ Some state.name

@@ -1,0 +1,4 @@
+-- Definitions that the proofs of this crate's code use, and no contract of another crate.
+pub mod Walk
+pub mod Octets
+pub mod Letters

@@ -1,0 +1,38 @@
+//! Laws of what zones show as contracts: no function here does anything. The crates above cite the lemmas in `proofs/` that
+//! prove them.
+ghost use Rattle.zic_states.specs.Laws.{OneUntil, OneLine, OneKept, OneState, OneEnd, OneListOfChanges, OneFirstState};
+
+/// A line has at most one UNTIL instant, where its set, if it has one, is in order.
+pub fn each_line_ends_at_one_instant()
+    ensures { OneUntil }
+{}
+
+/// At an instant at most one line governs.
+pub fn one_line_governs()
+    ensures { OneLine }
+{}
+
+/// At an instant a line keeps at most one saving, daylight flag and letter.
+pub fn a_line_keeps_one_thing()
+    ensures { OneKept }
+{}
+
+/// At an instant a zone shows at most one state.
+pub fn a_zone_shows_one_state()
+    ensures { OneState }
+{}
+
+/// A zone has at most one explicit end.
+pub fn a_zone_has_one_end()
+    ensures { OneEnd }
+{}
+
+/// At most one list has all changes of a zone.
+pub fn one_list_has_all_changes()
+    ensures { OneListOfChanges }
+{}
+
+/// A zone has at most one first state.
+pub fn a_zone_has_one_first_state()
+    ensures { OneFirstState }
+{}

@@ -1,0 +1,6 @@
+//! Worked examples, told by what they are about.
+
+mod current;
+mod formats;
+mod letters;
+mod untils;
