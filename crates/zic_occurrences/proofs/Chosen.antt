@@ -1,12 +1,11 @@
 -- The occurrences that a list of nominal seconds stands for.
-use Rattle.std.proofs.Common.{◌≡◌, ℕ, zero, suc, ◌+◌, ◌<◌, ◌≤◌, ◌⊎◌, inl, inr, ⊎_elim, List, [], ◌∷◌, length, get_or, Some, refl, sym, ap, subst, ◌∙◌, ℤ, pos, ◌<ℤ◌, ◌≤ℤ◌, arith}
-use Rattle.std.specs.Prelude.{slice_get, All, AllPairs, Any}
+use Rattle.std.proofs.Common.{◌≡◌, ℕ, zero, suc, ◌<◌, ◌≤◌, ◌⊎◌, ⊎_elim, List, [], ◌∷◌, length, get_or, refl, sym, ap, subst, ◌∙◌, ℤ, pos, ◌<ℤ◌, ◌≤ℤ◌, arith}
+use Rattle.std.specs.Prelude.{slice_get, All, AllPairs}
 use Rattle.std.proofs.lemmas.Bool.{cases_lt}
 use Rattle.std.proofs.lemmas.Int.{ints}
 use Rattle.std.proofs.lemmas.List.{get_or_default}
 use Rattle.std.proofs.lemmas.List.Elements.{All-head, All-tail}
 use Rattle.std.proofs.lemmas.Option.{same_Some}
-use Rattle.zic_lines.specs.declared.moment.Moment.{Moment}
 use Rattle.zic_lines.specs.declared.rule.Rule.{Rule}
 use Rattle.zic_occurrences.specs.declared.nominal.Nominal.{Nominal}
 use Rattle.zic_occurrences.specs.Occurrence.{RuleSet, Occurrence, IsOccurrence, AreSame, nominal, nominal_second}
@@ -66,11 +65,14 @@ module _ (set : RuleSet) (bound : ℤ) (ns : List Nominal) (os : List Occurrence
   pub found : (q : Occurrence) (e : Occurrence) → IsBefore set bound q → (j : ℕ) × (j < length os) × AreSame q (get_or os j e)
   found q e before =
       let at = listed.all q before in
-      let is = are.each at.0 at.1 e at.2 in
-      (at.0, omega (arith, are.count, at.2), record {
-        number = sym at.4.0 ∙ ap (λ (n : Nominal). n.rule) (sym at.3) ∙ is.number;
-        year = sym at.4.1 ∙ ap (λ (n : Nominal). pos n.year) (sym at.3) ∙ is.year;
-      })
+      let is = are.each at.0 at.1 e at.2 in (
+        at.0,
+        omega (arith, are.count, at.2),
+        record {
+          number = sym at.4.0 ∙ ap (λ (n : Nominal). n.rule) (sym at.3) ∙ is.number;
+          year = sym at.4.1 ∙ ap (λ (n : Nominal). pos n.year) (sym at.3) ∙ is.year;
+        },
+      )
 
   pub in_order_before : AreInOrderBefore set bound os
   in_order_before = record {
@@ -89,14 +91,14 @@ module _ (set : RuleSet) (bound : ℤ) (ns : List Nominal) (os : List Occurrence
       let here = is_before at.0 e at.1 in
       let same = one_second set q (get_or os at.0 e) is here.is at.2 in
       let small : at.0 < k = ⊎_elim
-          (λ (lt : at.0 < k). lt)
-          (λ (ge : k ≤ at.0). absurd (⊎_elim
-              (λ (more : k < at.0). let up = rises k at.0 e more at.1 in let no : ⊥ = omega (arith, ints, same) in no)
-              (λ (none_more : at.0 ≤ k). let one : at.0 ≡ k = omega arith in
-                  let equal : nominal q ≡ nominal (get_or os k e) = same ∙ ap (λ (j : ℕ). nominal (get_or os j e)) one in
-                  let no : ⊥ = omega (arith, ints, equal) in no)
-              (cases_lt k at.0)))
-          (cases_lt at.0 k) in
+      (λ (lt : at.0 < k). lt)
+      (λ (ge : k ≤ at.0). absurd (⊎_elim
+      (λ (more : k < at.0). let up = rises k at.0 e more at.1 in let no : ⊥ = omega (arith, ints, same) in no)
+      (λ (none_more : at.0 ≤ k). let one : at.0 ≡ k = omega arith in
+      let equal : nominal q ≡ nominal (get_or os k e) = same ∙ ap (λ (j : ℕ). nominal (get_or os j e)) one in
+      let no : ⊥ = omega (arith, ints, equal) in no)
+      (cases_lt k at.0)))
+      (cases_lt at.0 k) in
       (at.0, small, same)
 
   -- nothing comes before the first
@@ -113,8 +115,8 @@ module _ (set : RuleSet) (bound : ℤ) (ns : List Nominal) (os : List Occurrence
         let at = earlier (suc k) e q within is less in
         let small : at.0 < suc k = at.1 in
         ⊎_elim
-            (λ before. let up = rises at.0 k e before (omega arith) in omega (arith, ints, at.2))
-            (λ past. let one : at.0 ≡ k = omega arith in
-                let equal : nominal q ≡ nominal (get_or os k e) = at.2 ∙ ap (λ (j : ℕ). nominal (get_or os j e)) one in omega (arith, ints, equal))
-            (cases_lt at.0 k);
+        (λ before. let up = rises at.0 k e before (omega arith) in omega (arith, ints, at.2))
+        (λ past. let one : at.0 ≡ k = omega arith in
+        let equal : nominal q ≡ nominal (get_or os k e) = at.2 ∙ ap (λ (j : ℕ). nominal (get_or os j e)) one in omega (arith, ints, equal))
+        (cases_lt at.0 k);
   }

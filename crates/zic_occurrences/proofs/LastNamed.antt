@@ -1,6 +1,6 @@
 -- The last year that a set names.
-use Rattle.std.proofs.Common.{◌≡◌, ℕ, zero, suc, ◌+◌, ◌<◌, ◌≤◌, max, ◌⊎◌, inl, inr, ⊎_elim, List, length, get_or, Option, Some, None, true, refl, sym, ap, subst, ◌∙◌, arith}
-use Rattle.std.specs.Prelude.{slice_get, unwrap_or, IfSome, All, Contains}
+use Rattle.std.proofs.Common.{◌≡◌, ℕ, zero, suc, ◌+◌, ◌<◌, ◌≤◌, max, ◌⊎◌, ⊎_elim, List, length, get_or, Option, Some, None, true, refl, sym, ap, subst, ◌∙◌, arith}
+use Rattle.std.specs.Prelude.{slice_get, unwrap_or, IfSome, All}
 use Rattle.std.specs.Int.{IsInRange}
 use Rattle.std.proofs.lemmas.List.{get_or_default}
 use Rattle.std.proofs.lemmas.Option.{same_Some, slice_get_within, get_or_from_slice_get}
@@ -43,16 +43,16 @@ one_named set numbers n number greatest new rule is member at now =
       above = λ k other small found. ⊎_elim
           (λ before. let h : last_named other ≤ greatest = is.above k other before found in omega arith)
           (λ here. let same : rule ≡ other = same_Some rule other (sym member.numbered ∙ ap (slice_get set.rules) (at ∙ ap (λ (j : ℕ). get_or numbers j 0) (sym here)) ∙ found) in
-              subst (λ (r : Rule). last_named r ≤ new) same own)
+          subst (λ (r : Rule). last_named r ≤ new) same own)
           (before_or_here k n small);
       none = λ none. absurd (omega arith);
       reached = λ some. ⊎_elim
           (λ small. (number, rule, member, let same : last_named rule ≡ new = omega arith in same))
           (λ great.
-              let there : 0 < n = some_before n greatest (last_named rule) is.none great in
-              let was = is.reached there in
-              let same : last_named was.1 ≡ new = omega (arith, was.3) in
-              (was.0, was.1, was.2, same))
+          let there : 0 < n = some_before n greatest (last_named rule) is.none great in
+          let was = is.reached there in
+          let same : last_named was.1 ≡ new = omega (arith, was.3) in
+          (was.0, was.1, was.2, same))
           (either greatest (last_named rule));
     }
 

@@ -1,5 +1,5 @@
 -- What a call answers follows from what another does.
-use Rattle.std.proofs.Common.{◌≡◌, List, Result, Ok, Err, Option}
+use Rattle.std.proofs.Common.{Result, Ok, Err, Option}
 use Rattle.std.specs.Prelude.{IfOk}
 use Rattle.std.proofs.lemmas.Option.{IfSome_then}
 use Rattle.zic_base.specs.Memory.{IfRefusal}

@@ -1,8 +1,7 @@
 -- The instants that the code reckons one after another.
-use Rattle.std.proofs.Common.{◌≡◌, ℕ, zero, suc, ◌+◌, ◌-◌, ◌<◌, ◌≤◌, ◌⊎◌, inl, inr, ⊎_elim, List, [], ◌∷◌, ◌++◌, length, get_or, drop, Option, Some, refl, sym, ap, subst, ◌∙◌, ℤ, pos, ◌<ℤ◌, ◌≤ℤ◌, arith}
-use Rattle.std.specs.Prelude.{slice_get, All, AllPairs}
+use Rattle.std.proofs.Common.{◌≡◌, ℕ, ◌+◌, ◌-◌, ◌<◌, ◌≤◌, ◌⊎◌, ⊎_elim, List, [], ◌∷◌, ◌++◌, length, get_or, drop, Option, Some, refl, sym, ap, subst, ◌∙◌, ℤ, pos, ◌<ℤ◌, ◌≤ℤ◌, arith}
+use Rattle.std.specs.Prelude.{slice_get, AllPairs}
 use Rattle.std.specs.Option.{option_map_or}
-use Rattle.std.proofs.lemmas.Bool.{cases_lt}
 use Rattle.std.proofs.lemmas.Int.{ints}
 use Rattle.std.proofs.lemmas.List.{append_assoc, append-nil, length-append, get_or_append_left, get_or_at, drop_more, drop_all}
 use Rattle.std.proofs.lemmas.List.Quantifiers.{all_pairs_push}
@@ -11,7 +10,7 @@ use Rattle.zic_source.specs.Sound.{IsWithinDay}
 use Rattle.zic_occurrences.specs.declared.nominal.Nominal.{Nominal}
 use Rattle.zic_occurrences.specs.declared.occurrence.TimedOccurrence.{TimedOccurrence}
 use Rattle.zic_occurrences.specs.Order.{instant_by}
-use Rattle.zic_occurrences.specs.code.Timed.{saving_of, instant_of, timed_of, timed_from, HasFall, ComesAfter, ComesNotAfter}
+use Rattle.zic_occurrences.specs.code.Timed.{saving_of, instant_of, timed_from, HasFall, ComesAfter, ComesNotAfter}
 
 -- instants rise
 abbrev pub Rise : List TimedOccurrence → Type 0
@@ -58,9 +57,9 @@ above_last : (xs : List TimedOccurrence) (t : ℤ) → Rise xs → ComesAfter xs
 above_last xs t rising after k d within =
     let last : (get_or xs (length xs - 1) d).instant <ℤ t = after d (omega arith) in
     ⊎_elim
-        (λ before. let below : (get_or xs k d).instant <ℤ (get_or xs (length xs - 1) d).instant = rising k (length xs - 1) d before (omega arith) in omega (arith, ints))
-        (λ here. subst (λ (j : ℕ). (get_or xs j d).instant <ℤ t) (sym here) last)
-        (before_or_last k (length xs) within)
+    (λ before. let below : (get_or xs k d).instant <ℤ (get_or xs (length xs - 1) d).instant = rising k (length xs - 1) d before (omega arith) in omega (arith, ints))
+    (λ here. subst (λ (j : ℕ). (get_or xs j d).instant <ℤ t) (sym here) last)
+    (before_or_last k (length xs) within)
 
 -- one occurrence more
 pub one_timed : (rules : List Rule) (offset saved : ℤ) (ns : List Nominal) (place : ℕ) (n d : Nominal) (rule : Rule) (xs ys : List TimedOccurrence) (t : ℤ) → AreTimed rules offset ns place xs saved

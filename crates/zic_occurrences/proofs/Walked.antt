@@ -1,6 +1,6 @@
 -- The walk through a set's occurrences: their instants, or one that doesn't rise.
 use Rattle.std.proofs.Common.{◌≡◌, ℕ, zero, suc, ◌+◌, ◌<◌, ◌≤◌, ◌⊎◌, inl, inr, ⊎_elim, List, [], ◌∷◌, length, get_or, Some, refl, sym, ap, subst, ◌∙◌, ℤ, pos, ◌+ℤ◌, ◌<ℤ◌, ◌≤ℤ◌, arith}
-use Rattle.std.specs.Prelude.{slice_get, All, AllPairs, Any}
+use Rattle.std.specs.Prelude.{slice_get, All, AllPairs}
 use Rattle.std.proofs.lemmas.Bool.{cases_lt}
 use Rattle.std.proofs.lemmas.Int.{ints}
 use Rattle.std.proofs.lemmas.List.{get_or_default}
@@ -9,8 +9,8 @@ use Rattle.zic_lines.specs.declared.rule.Rule.{Rule}
 use Rattle.zic_source.specs.Sound.{IsSoundRule, IsWithinDay}
 use Rattle.zic_occurrences.specs.declared.nominal.Nominal.{Nominal}
 use Rattle.zic_occurrences.specs.declared.occurrence.TimedOccurrence.{TimedOccurrence}
-use Rattle.zic_occurrences.specs.Occurrence.{RuleSet, Occurrence, IsOccurrence, AreSame, nominal, year_second}
-use Rattle.zic_occurrences.specs.Order.{IsSavedBefore, IsInstant, instant_by, DoesNotRise, IsInOrder, IsOutOfOrder}
+use Rattle.zic_occurrences.specs.Occurrence.{RuleSet, Occurrence, year_second}
+use Rattle.zic_occurrences.specs.Order.{IsSavedBefore, instant_by, IsInOrder, IsOutOfOrder}
 use Rattle.zic_occurrences.specs.Listing.{IsLastNamed, StandsFor, AreOccurrencesBefore}
 use Rattle.zic_occurrences.specs.code.Walk.{AreWalked}
 use Rattle.zic_occurrences.specs.code.Nominals.{IsNominalOf, AreNominals}
@@ -111,16 +111,19 @@ module _ (set : RuleSet) (offset bound : ℤ) (ns : List Nominal) (os : List Occ
       let e = (listed.each fall.place (none set bound ns os listed strict are) (omega arith)).occurrence in
       let in_os : suc fall.place < length os = omega (arith, are.count) in
       let later = stands (suc fall.place) blank e in_os in
-      let sooner = stands fall.place blank e (omega arith) in
-      (get_or os (suc fall.place) e, get_or os fall.place e, inr (record {
-        is = later.is;
-        predecessor = is_predecessor set bound ns os listed strict are fall.place e in_os;
-        later = (get_or all (suc fall.place) blank).instant;
-        earlier = (get_or all fall.place blank).instant;
-        at_later = later.instant;
-        at_earlier = sooner.instant;
-        not_after = subst (λ (k : ℕ). (get_or all k blank).instant ≤ℤ (get_or all fall.place blank).instant) next (fall.falls blank);
-      }))
+      let sooner = stands fall.place blank e (omega arith) in (
+        get_or os (suc fall.place) e,
+        get_or os fall.place e,
+        inr (record {
+          is = later.is;
+          predecessor = is_predecessor set bound ns os listed strict are fall.place e in_os;
+          later = (get_or all (suc fall.place) blank).instant;
+          earlier = (get_or all fall.place blank).instant;
+          at_later = later.instant;
+          at_earlier = sooner.instant;
+          not_after = subst (λ (k : ℕ). (get_or all k blank).instant ≤ℤ (get_or all fall.place blank).instant) next (fall.falls blank);
+        }),
+      )
 
 -- years begin one after another
 pub years_begin : (year later : ℕ) → year ≤ later → year_second (pos year) ≤ℤ year_second (pos later)

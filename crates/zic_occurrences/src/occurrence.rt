@@ -67,6 +67,7 @@ pub fn occurrences(
         (λ fault. (fault ≡ fault_at zone_place Kind.RulesOutOfOrder)
         × IsOutOfOrder (record { rules = source.now.rules; name = set.now }) offset) }
 {
+    // So the number of each rule fits 16 bits.
     prove!(source.rules() <= MOST_RULES);
     let last = before.max(last_named_year(source, set) + YEARS_IN_QUESTION);
     let nominals = in_order(alloc, source, set, last)?;

@@ -1,5 +1,5 @@
 -- The instants of a set's occurrences, as the code reckons them one after another.
-use Rattle.std.specs.Prelude.{◌≡◌, ℕ, ◌+◌, ◌-◌, ◌<◌, ℤ, pos, ◌<ℤ◌, ◌≤ℤ◌, List, [], ◌∷◌, length, slice_index_or, Option, slice_get}
+use Rattle.std.specs.Prelude.{ℕ, ◌+◌, ◌-◌, ◌<◌, ℤ, pos, ◌<ℤ◌, ◌≤ℤ◌, List, [], ◌∷◌, length, slice_index_or, slice_get}
 use Rattle.std.specs.Option.{option_map_or}
 use Rattle.zic_lines.specs.declared.rule.Rule.{Rule}
 use Rattle.zic_occurrences.specs.declared.nominal.Nominal.{Nominal}

@@ -1,4 +1,4 @@
-use Rattle.std.proofs.Common.{◌≡◌, ◌+◌, ◌≤◌, ℕ, ℤ, pos, List, Global, Vec, refl, sym, ap, subst, ◌∙◌, to_z, of_z, w32, arith}
+use Rattle.std.proofs.Common.{◌≡◌, ◌+◌, ◌≤◌, ℤ, pos, List, refl, sym, ap, subst, ◌∙◌, to_z, of_z, w32, arith}
 use Rattle.std.specs.Prelude.{IfSome}
 use Rattle.std.proofs.lemmas.Int.{ints}
 use Rattle.zic_base.specs.declared.fault.Stop.{Stop}
@@ -10,10 +10,22 @@ use Rattle.zic_occurrences.specs.Occurrence.{RuleSet, year_second}
 use Rattle.zic_occurrences.specs.Order.{IsOutOfOrder}
 use Rattle.zic_occurrences.specs.code.Nominals.{HasTie, HasNoTie}
 use Rattle.zic_occurrences.specs.code.Timed.{timed_from, HasFall}
+use Rattle.zic_occurrences.proofs.LastNamed.{named_year}
 use Rattle.zic_occurrences.proofs.Ties.{out_of_order, seconds_rise}
 use Rattle.zic_occurrences.proofs.Walked.{order, complete, disorder, years_begin}
 use Rattle.zic_occurrences.proofs.Outcomes.{ok_from_both, refusal_from}
 use Rattle.zic_occurrences.proofs.occurrence.occurrences.Goals as goal
+
+pub overflow_add-last_named_year : goal.overflow_add-last_named_year
+overflow_add-last_named_year c =
+    let set : RuleSet = record { rules = c.args.source.now.rules; name = c.args.set.now } in
+    omega (arith, (named_year set c.last_named_year.result c.rules.ensures.sound.rules c.last_named_year.ensures).1)
+
+pub in_order-requires-clause-last : goal.in_order-requires-clause-last
+in_order-requires-clause-last c =
+    let set : RuleSet = record { rules = c.args.source.now.rules; name = c.args.set.now } in
+    let named = named_year set c.last_named_year.result c.rules.ensures.sound.rules c.last_named_year.ensures in
+    (omega (arith, c.max-last.ensures, named.0), omega (arith, c.max-last.ensures, named.1))
 
 pub returns-then-has_tie-clause-err : goal.returns-then-has_tie-clause-err
 returns-then-has_tie-clause-err c =
@@ -32,8 +44,8 @@ returns-clause-order c =
     let far : c.last_named_year.result + 405 ≤ c.max-last.result = omega (arith, c.max-last.ensures) in
     ok_from_both c.timed.result c.timed.ensures.items c.timed.ensures.rising
     (λ made is rising. order set c.args.offset bound c.last_named_year.result ns made.items c.rules.ensures.sound.rules c.requires.offset c.last_named_year.ensures
-        (years_begin (c.last_named_year.result + 405) c.max-last.result far) c.in_ok-nominals.ensures.all (seconds_rise ns c.in_ok-nominals.ensures.sorted apart)
-        (is ∙ ap (λ (o : ℤ). timed_from set.rules o (pos 0) c.deref-2.result.now) same ∙ ap (λ (l : List Nominal). timed_from set.rules c.args.offset (pos 0) l) c.deref-2.ensures.value) rising)
+    (years_begin (c.last_named_year.result + 405) c.max-last.result far) c.in_ok-nominals.ensures.all (seconds_rise ns c.in_ok-nominals.ensures.sorted apart)
+    (is ∙ ap (λ (o : ℤ). timed_from set.rules o (pos 0) c.deref-2.result.now) same ∙ ap (λ (l : List Nominal). timed_from set.rules c.args.offset (pos 0) l) c.deref-2.ensures.value) rising)
 
 pub returns-clause-all : goal.returns-clause-all
 returns-clause-all c =
@@ -44,9 +56,12 @@ returns-clause-all c =
     let same : to_z w32 (of_z w32 c.args.offset) ≡ c.args.offset = omega (arith, ints, c.requires.offset) in
     let far : c.args.before ≤ c.max-last.result = omega (arith, c.max-last.ensures) in
     ok_from_both c.timed.result c.timed.ensures.items c.timed.ensures.rising
-    (λ made is rising. (bound, years_begin c.args.before c.max-last.result far,
-        complete set c.args.offset bound ns made.items c.in_ok-nominals.ensures.all (seconds_rise ns c.in_ok-nominals.ensures.sorted apart)
-        (is ∙ ap (λ (o : ℤ). timed_from set.rules o (pos 0) c.deref-2.result.now) same ∙ ap (λ (l : List Nominal). timed_from set.rules c.args.offset (pos 0) l) c.deref-2.ensures.value) rising))
+    (λ made is rising. (
+      bound,
+      years_begin c.args.before c.max-last.result far,
+      complete set c.args.offset bound ns made.items c.in_ok-nominals.ensures.all (seconds_rise ns c.in_ok-nominals.ensures.sorted apart)
+          (is ∙ ap (λ (o : ℤ). timed_from set.rules o (pos 0) c.deref-2.result.now) same ∙ ap (λ (l : List Nominal). timed_from set.rules c.args.offset (pos 0) l) c.deref-2.ensures.value) rising,
+    ))
 
 pub returns-clause-err : goal.returns-clause-err
 returns-clause-err c =
@@ -58,5 +73,8 @@ returns-clause-err c =
     let whole : timed_from set.rules (to_z w32 (of_z w32 c.args.offset)) (pos 0) c.deref-2.result.now ≡ timed_from set.rules c.args.offset (pos 0) ns =
     ap (λ (o : ℤ). timed_from set.rules o (pos 0) c.deref-2.result.now) same ∙ ap (λ (l : List Nominal). timed_from set.rules c.args.offset (pos 0) l) c.deref-2.ensures.value in
     refusal_from fault_of c.timed.result c.timed.ensures.err
-    (λ fault says. (says.0, disorder set c.args.offset bound ns c.in_ok-nominals.ensures.all (seconds_rise ns c.in_ok-nominals.ensures.sorted apart)
-        (subst (λ (l : List TimedOccurrence). HasFall l) whole says.1)))
+    (λ fault says. (
+      says.0,
+      disorder set c.args.offset bound ns c.in_ok-nominals.ensures.all (seconds_rise ns c.in_ok-nominals.ensures.sorted apart)
+          (subst (λ (l : List TimedOccurrence). HasFall l) whole says.1),
+    ))

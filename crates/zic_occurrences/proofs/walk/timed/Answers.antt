@@ -1,4 +1,4 @@
-use Rattle.std.proofs.Common.{◌≡◌, ◌+◌, ◌<◌, ◌≤◌, ℕ, ℤ, pos, List, length, get_or, Some, refl, sym, ap, subst, ◌∙◌, to_z, of_z, w32, w64, arith}
+use Rattle.std.proofs.Common.{◌≡◌, ◌+◌, ℤ, pos, List, get_or, Some, refl, sym, ap, subst, ◌∙◌, to_z, of_z, w32, w64, arith}
 use Rattle.std.specs.Prelude.{slice_get, IfSome}
 use Rattle.std.proofs.lemmas.Int.{ints}
 use Rattle.zic_base.specs.declared.fault.Stop.{Stop}
