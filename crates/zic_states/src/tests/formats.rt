@@ -1,7 +1,7 @@
 //! FORMAT filled in, by the examples of zic(8) and by hand.
 
-use crate::*;
 use crate::format::abbreviation;
+use crate::*;
 use std::alloc::Global;
 use std::test::Fail;
 use zic_base::{Kind, Stop};
