@@ -3,7 +3,7 @@ use Rattle.std.proofs.Common.{◌≡◌, ℕ, ℤ, pos, ◌<◌, ◌≤◌, true
 use Rattle.std.specs.Prelude.{IfSome, IsSomeAnd, slice_get, unsigned_abs}
 use Rattle.std.proofs.lemmas.Option.{slice_get_cases}
 use Rattle.zic_lines.specs.declared.zone_line.ZoneLine.{ZoneLine}
-use Rattle.zic_base.specs.declared.fault.Kind.TheVariants.{OffsetRange, BadAbbreviation}
+use Rattle.zic_base.specs.declared.fault.Kind.TheVariants.{BadAbbreviation}
 use Rattle.zic_source.specs.Source.{SourceLines, ZoneLines, zone_at, lines_of_zone}
 use Rattle.zic_rules.specs.State.{Shown}
 use Rattle.zic_rules.specs.Change.{AreChanges}
@@ -45,12 +45,6 @@ sound source n line first fits good = record {
       let e : state.name ≡ abbreviation_of line.format = ap (λ (s : Shown). s.name) both.2 ∙ ap (λ (l : ZoneLine). abbreviation_of l.format) both.1 in
       ap is_abbreviation e ∙ good;
 }
-
-pub out_of_range : (source : SourceLines) (n : ℕ) (line : ZoneLine) → IsFirst source n line → FARTHEST_OFFSET < unsigned_abs line.offset → HasLeast (record { source = source; number = n }) OffsetRange × IsSomeAnd (zone_at source n) (λ z. line.place ≡ z.first.place)
-out_of_range source n line first past = (
-  some_weaker (zone_at source n) (λ z. z.first ≡ line) (λ z. FARTHEST_OFFSET < unsigned_abs z.first.offset) (λ z e. subst (λ (l : ZoneLine). FARTHEST_OFFSET < unsigned_abs l.offset) (sym e) past) first,
-  some_weaker (zone_at source n) (λ z. z.first ≡ line) (λ z. line.place ≡ z.first.place) (λ z e. ap (λ (l : ZoneLine). l.place) (sym e)) first,
-)
 
 pub bad_abbreviation : (source : SourceLines) (n : ℕ) (line : ZoneLine) → IsFirst source n line → unsigned_abs line.offset ≤ FARTHEST_OFFSET → is_abbreviation (abbreviation_of line.format) ≡ false → HasLeast (record { source = source; number = n }) BadAbbreviation × IsSomeAnd (zone_at source n) (λ z. line.place ≡ z.first.place)
 bad_abbreviation source n line first fits bad =
