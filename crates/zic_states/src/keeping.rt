@@ -69,6 +69,7 @@ fn standard(letter: Option<&Letter>) -> Keeping<'_>
 fn letter_before<'a>(source: &'a Source, set: &SetName) -> Option<&'a Letter>
     ensures { IsLetterBefore (set_of source.now.rules set.now) (option_copied result) }
 {
+    // The contract of `rules` says that the source is sound.
     prove!(source.rules() <= MOST_RULES);
     let first = first_standard(source, source.set_rules(set))?;
     Some(&source.rule(first).letter)
