@@ -111,7 +111,7 @@ module _ (zone : Zone) (sets : HasSetsInOrder zone) where
       let (line', at', is') = some_and_has (line_at zone i) (λ l. IsUntil zone.source.rules l u) ends' in
       let same = same_Some line' line (sym at' ∙ at) in
       let is_too = subst (λ (l : ZoneLine). IsUntil zone.source.rules l u) same is' in
-      one_until zone.source.rules line sets.sound.rules (sound_line i line at) (set_in_order i line at) t u is is_too
+      one_until zone.source.rules line (set_in_order i line at) t u is is_too
 
   same_end : (i j : ℕ) (t u : ℤ) → i ≡ j → Ends zone i t → Ends zone j u → t ≡ u
   same_end i j t u same ends later = one_end_of j t u (subst (λ (k : ℕ). Ends zone k t) same ends) later
