@@ -8,6 +8,8 @@ pub mod Changes
 pub mod Ordered
 pub mod Listed
 pub mod Walked
+pub mod Stages
+pub mod Untils
 pub mod LineWalk
 pub mod Octets
 pub mod Filters

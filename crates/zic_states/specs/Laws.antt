@@ -37,6 +37,10 @@ EachUntilIsRead zone =
     (i : ℕ) (line : ZoneLine) (until : Until) → line_at zone i ≡ Some line → line.until ≡ Some until
     → (t : ℤ) × IsUntil zone.source.rules line t
 
+-- where each set is in order, each UNTIL has an instant
+abbrev pub UntilsAreRead : Type 0
+UntilsAreRead = (zone : Zone) → HasSetsInOrder zone → EachUntilIsRead zone
+
 -- Some instant comes before the end and all changes.
 abbrev pub HasBeginning : Zone → Type 0
 HasBeginning zone = (end : ℤ) × (t : ℤ) × IsEnd zone end × (t <ℤ end) × IsBeforeChanges zone t

@@ -1,10 +1,15 @@
 //! Laws of what zones show as contracts: no function here does anything. The crates above cite the lemmas in `proofs/` that
 //! prove them.
-ghost use Rattle.zic_states.specs.Laws.{OneUntil, OneLine, OneKept, OneState, OneEnd, OneListOfChanges, OneFirstState};
+ghost use Rattle.zic_states.specs.Laws.{OneUntil, UntilsAreRead, OneLine, OneKept, OneState, OneEnd, OneListOfChanges, OneFirstState};
 
 /// A line has at most one UNTIL instant, where its set, if it has one, is in order.
 pub fn each_line_ends_at_one_instant()
     ensures { OneUntil }
+{}
+
+/// Each UNTIL has an instant, where the sets are in order.
+pub fn each_until_is_read()
+    ensures { UntilsAreRead }
 {}
 
 /// At an instant at most one line governs.
