@@ -10,6 +10,7 @@ pub mod Listed
 pub mod Walked
 pub mod Stages
 pub mod Untils
+pub mod Governing
 pub mod LineWalk
 pub mod Octets
 pub mod Filters

@@ -48,7 +48,7 @@ HasBeginning zone = (end : ℤ) × (t : ℤ) × IsEnd zone end × (t <ℤ end) �
 -- at an instant at most one line governs
 abbrev pub OneLine : Type 0
 OneLine =
-    (zone : Zone) → IsOrderly zone → EachUntilIsRead zone
+    (zone : Zone) → IsOrderly zone
     → (t : ℤ) (i j : ℕ) (a b : ZoneLine) → Governs zone i a t → Governs zone j b t → (i ≡ j) × (a ≡ b)
 
 -- at an instant a line keeps at most one thing
@@ -61,7 +61,7 @@ OneKept =
 -- at an instant a zone shows at most one state
 abbrev pub OneState : Type 0
 OneState =
-    (zone : Zone) → IsOrderly zone → EachUntilIsRead zone
+    (zone : Zone) → IsOrderly zone
     → (t : ℤ) (a b : Shown) → Shows zone t a → Shows zone t b → a ≡ b
 
 -- A zone has at most one explicit end.
@@ -71,11 +71,11 @@ OneEnd = (zone : Zone) → HasSetsInOrder zone → (a b : ℤ) → IsEnd zone a 
 -- at most one list has all changes of a zone
 abbrev pub OneListOfChanges : Type 0
 OneListOfChanges =
-    (zone : Zone) → IsOrderly zone → EachUntilIsRead zone
+    (zone : Zone) → IsOrderly zone
     → (a b : List Change) → AreChanges zone a → AreChanges zone b → a ≡ b
 
 -- A zone has at most one first state, where some instant comes before its end and all changes.
 abbrev pub OneFirstState : Type 0
 OneFirstState =
-    (zone : Zone) → IsOrderly zone → EachUntilIsRead zone → HasBeginning zone
+    (zone : Zone) → IsOrderly zone → HasBeginning zone
     → (a b : Shown) → IsFirstState zone a → IsFirstState zone b → a ≡ b
