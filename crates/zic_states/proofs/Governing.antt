@@ -14,6 +14,8 @@ use Rattle.zic_states.proofs.Lines.{some_and_has, line_at_is, always_not_over, f
 use Rattle.zic_states.proofs.Orders.{same_number}
 use Rattle.zic_states.proofs.Untils.{until_or_none, untils_are_read, not_over_until}
 
+-- ---- at most one
+
 module _ (zone : Zone) (orderly : IsOrderly zone) where
   rises : (i : ℕ) (t u : ℤ) → Ends zone i t → Ends zone (suc i) u → t <ℤ u
   rises i t u ends next_ends = by_lt_z t u
@@ -61,3 +63,50 @@ module _ (zone : Zone) (orderly : IsOrderly zone) where
   one_line t i j a b one other =
       let same = same_number i j (λ lt. not_both i j a b t lt one other) (λ gt. not_both j i b a t gt other one) in
       (same, same_Some a b (sym one.is_line ∙ ap (line_at zone) same ∙ other.is_line))
+
+-- ---- some line
+
+module _ (zone : Zone) (sets : HasSetsInOrder zone) (lines : ZoneLines) (is : lines_of zone ≡ Some lines) where
+  line_there : (i : ℕ) → i < length (lines_of_zone lines) → (line : ZoneLine) × (line_at zone i ≡ Some line)
+  line_there i within =
+      let (line, at) = got (lines_of_zone lines) i within in
+      (line, line_at_is zone lines i is ∙ at)
+
+  -- a line governs, or all before i are over
+  governs_or_begun : (t : ℤ) (i : ℕ) → i < length (lines_of_zone lines) → ((j : ℕ) × (line : ZoneLine) × Governs zone j line t) ⊎ HasBegun zone i t
+  governs_or_begun t zero within = inr tt
+  governs_or_begun t (suc i) within =
+      elim (governs_or_begun t i (omega arith)) [
+        | inl found ↦ inl found
+        | inr begun ↦
+            let (line, at) = line_there i (omega arith) in
+            let (next, at_next) = line_there (suc i) within in
+            let (until, has) = until_before zone sets i (suc i) line next at at_next (omega arith) in
+            let (end, is_until) = untils_are_read zone sets i line until at has in
+            by_lt_z t end
+            (λ lt. inl (i, line, record { is_line = at; begun = begun; not_over = (not_over_until zone sets i line until end at has is_until t).1 lt }))
+            (λ ge. inr (end, ends_at zone sets i line end at is_until, ge))
+      ]
+
+  last_has_none : (line : ZoneLine) → line_at zone (length lines.continuations) ≡ Some line → line.until ≡ None
+  last_has_none line at =
+      elim (until_or_none line.until) [
+        | inl none ↦ none
+        | inr (until, has) ↦ elim (flagged zone sets lines (length lines.continuations) line is at) [
+          | inl early ↦ absurd (omega (arith, early.0))
+          | inr last ↦
+              let some : is_some line.until ≡ true = ap is_some has in
+              let none = last.1 in
+              absurd cc
+        ]
+      ]
+
+  pub some_line : (t : ℤ) → (i : ℕ) × (line : ZoneLine) × Governs zone i line t
+  some_line t =
+      let last = length lines.continuations in
+      elim (governs_or_begun t last (omega arith)) [
+        | inl found ↦ found
+        | inr begun ↦
+            let (line, at) = line_there last (omega arith) in
+            (last, line, record { is_line = at; begun = begun; not_over = always_not_over zone line t (last_has_none line at) })
+      ]

@@ -17,3 +17,6 @@ pub mod Filters
 pub mod Points
 pub mod ByList
 pub mod Letters
+pub mod FirstLetter
+pub mod SomeKept
+pub mod SomeState

@@ -1,5 +1,5 @@
 -- Laws of what zones show: each is the contract of a function of the module `laws`.
-use Rattle.std.specs.Prelude.{◌≡◌, ℕ, ℤ, ◌<ℤ◌, List, Some}
+use Rattle.std.specs.Prelude.{◌≡◌, ◌<◌, ℕ, ℤ, ◌<ℤ◌, List, length, Some}
 use Rattle.zic_lines.specs.declared.rule.Rule.{Rule}
 use Rattle.zic_lines.specs.declared.rules.Rules.TheVariants.{Set}
 use Rattle.zic_lines.specs.declared.until.Until.{Until}
@@ -8,7 +8,7 @@ use Rattle.zic_source.specs.Sound.{IsSoundSource}
 use Rattle.zic_occurrences.specs.Order.{IsInOrder}
 use Rattle.zic_states.specs.Change.{Change, AreChanges, IsBeforeChanges, IsFirstState}
 use Rattle.zic_states.specs.End.{IsEnd}
-use Rattle.zic_states.specs.Fault.{HasRulesOutOfOrder, HasUntilNotRising}
+use Rattle.zic_states.specs.Fault.{HasRulesOutOfOrder, HasUntilNotRising, HasNoLetter, IsSound}
 use Rattle.zic_states.specs.Kept.{Kept}
 use Rattle.zic_states.specs.State.{Shown}
 use Rattle.zic_states.specs.Until.{set_of, IsUntil}
@@ -63,6 +63,18 @@ abbrev pub OneState : Type 0
 OneState =
     (zone : Zone) → IsOrderly zone
     → (t : ℤ) (a b : Shown) → Shows zone t a → Shows zone t b → a ≡ b
+
+-- A zone of the source whose sets are in order shows some state at each instant, unless FORMAT wants a letter where there is none.
+abbrev pub SomeState : Type 0
+SomeState =
+    (zone : Zone) → HasSetsInOrder zone → zone.number < length zone.source.zones → (HasNoLetter zone → ⊥)
+    → (t : ℤ) → (state : Shown) × Shows zone t state
+
+-- A zone of a sound source to which no fault applies shows exactly one state at each instant.
+abbrev pub OneStateAtEachInstant : Type 0
+OneStateAtEachInstant =
+    (zone : Zone) → IsSoundSource zone.source → zone.number < length zone.source.zones → IsSound zone
+    → (t : ℤ) → (state : Shown) × Shows zone t state × ((other : Shown) → Shows zone t other → other ≡ state)
 
 -- A zone has at most one explicit end.
 abbrev pub OneEnd : Type 0
