@@ -18,6 +18,7 @@ use Rattle.zic_states.specs.ByList.{AreRising, before, not_after, last_of, rule_
 use Rattle.zic_states.specs.Kept.{Kept, IsLastOf, NoneIs, kept_of, SetKeeps, RulesKeep, IsKeptBy, IsRuleOf}
 use Rattle.zic_states.specs.Until.{set_of}
 use Rattle.zic_states.specs.Zone.{Zone, IsNotOver}
+use Rattle.zic_states.proofs.Lines.{always_not_over}
 use Rattle.zic_states.proofs.Filters.{int_lt-true, int_le-true, less_from_test, not_after_from_test, from_filter, passes, into_filter, none_after_last, empty_without_last, last_contained}
 
 -- ---- lists
@@ -110,9 +111,6 @@ module _ (set : RuleSet) (offset bound : ℤ) (xs : List TimedOccurrence) (liste
 -- the end of a line is its limit
 pub limit_at_end : (zone : Zone) (line : ZoneLine) (limit t : ℤ) → ((u : ℤ) → IsNotOver zone line u ↔ (u <ℤ limit)) → IsLimit zone line limit t
 limit_at_end zone line limit t ends u le = ends u
-
-always_not_over : (zone : Zone) (line : ZoneLine) (u : ℤ) → line.until ≡ None → IsNotOver zone line u
-always_not_over zone line u none = rw none tt
 
 -- a line without an UNTIL has each later limit
 pub limit_without_until : (zone : Zone) (line : ZoneLine) (limit t : ℤ) → line.until ≡ None → t <ℤ limit → IsLimit zone line limit t

@@ -7,7 +7,7 @@ use Rattle.std.proofs.lemmas.List.Elements.{All-contains, Contains-append_right}
 use Rattle.zic_source.proofs.Elements.{cons_cases, first_contained}
 use Rattle.zic_states.specs.Change.{Change, IsChange, AreChanges, IsBeforeChanges, IsFirstState}
 use Rattle.zic_states.specs.End.{IsEnd}
-use Rattle.zic_states.specs.Laws.{IsOrderly, EachUntilIsRead, HasBeginning}
+use Rattle.zic_states.specs.Laws.{IsOrderly, HasBeginning}
 use Rattle.zic_states.specs.State.{Shown}
 use Rattle.zic_states.specs.Zone.{Zone, Shows}
 use Rattle.zic_states.proofs.States.{one_state}
@@ -62,7 +62,7 @@ module _ {X : Type 0} (key : X → ℤ) where
 abbrev IsTrue : Zone → Change → Type 0
 IsTrue zone change = IsChange zone change.instant × Shows zone change.instant change.state
 
-module _ (zone : Zone) (orderly : IsOrderly zone) (read : EachUntilIsRead zone) where
+module _ (zone : Zone) (orderly : IsOrderly zone) where
   has_each : (a b : List Change) → AreChanges zone a → AreChanges zone b → (c : Change) → Contains a c → Contains b c
   has_each a b one other c has =
       let (is, shows) = All-contains (IsTrue zone) a c one.each has in
@@ -70,7 +70,7 @@ module _ (zone : Zone) (orderly : IsOrderly zone) (read : EachUntilIsRead zone) 
       let has_too : Contains b d = (number, within, at) in
       let (is_too, shows_too) = All-contains (IsTrue zone) b d other.each has_too in
       let shows_then = subst (λ (t : ℤ). Shows zone t d.state) instant shows_too in
-      let state = one_state zone orderly read c.instant d.state c.state shows_then shows in
+      let state = one_state zone orderly c.instant d.state c.state shows_then shows in
       let same : d ≡ c = λ k. record { instant = instant k; state = state k } in
       subst (λ (x : Change). Contains b x) same has_too
 
@@ -80,7 +80,7 @@ module _ (zone : Zone) (orderly : IsOrderly zone) (read : EachUntilIsRead zone) 
 
   pub one_first_state : HasBeginning zone → (a b : Shown) → IsFirstState zone a → IsFirstState zone b → a ≡ b
   one_first_state (end, t, is_end, before, first) a b one other =
-      one_state zone orderly read t a b (one end t is_end before first) (other end t is_end before first)
+      one_state zone orderly t a b (one end t is_end before first) (other end t is_end before first)
 
 -- ---- before the changes
 

@@ -8,9 +8,15 @@ pub mod Changes
 pub mod Ordered
 pub mod Listed
 pub mod Walked
+pub mod Stages
+pub mod Untils
+pub mod Governing
 pub mod LineWalk
 pub mod Octets
 pub mod Filters
 pub mod Points
 pub mod ByList
 pub mod Letters
+pub mod FirstLetter
+pub mod SomeKept
+pub mod SomeState

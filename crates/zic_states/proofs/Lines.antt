@@ -1,9 +1,7 @@
--- The lines of a zone, when they end, and that one governs.
-use Rattle.std.proofs.Common.{◌≡◌, ◌<◌, ◌≤◌, ℕ, zero, suc, Bool, true, false, ◌⊎◌, inl, inr, ⊎_elim, List, [], ◌∷◌, ◌++◌, length, map, Option, Some, None, refl, sym, ap, subst, ◌∙◌, arith}
-use Rattle.std.specs.Prelude.{ℤ, ◌<ℤ◌, ◌≤ℤ◌, IsSomeAnd, slice_get, is_some, option_and_then, option_map}
-use Rattle.std.proofs.lemmas.Bool.{cases_lt}
-use Rattle.std.proofs.lemmas.Int.{ints, by_lt_z}
-use Rattle.std.proofs.lemmas.Option.{option_and_then_some, same_Some, slice_get-map, slice_get_within, MatchOption-at_some}
+-- The lines of a zone, and when they end.
+use Rattle.std.proofs.Common.{◌≡◌, ◌<◌, ℕ, zero, suc, Bool, true, false, ◌⊎◌, inl, inr, ⊎_elim, List, [], ◌∷◌, ◌++◌, length, map, Option, Some, None, refl, sym, ap, subst, ◌∙◌, arith}
+use Rattle.std.specs.Prelude.{ℤ, IsSomeAnd, slice_get, is_some, option_and_then, option_map}
+use Rattle.std.proofs.lemmas.Option.{option_and_then_some, same_Some, slice_get-map, slice_get_within}
 use Rattle.zic_base.specs.declared.fault.Kind.TheVariants as kind
 use Rattle.zic_lines.specs.Entry.{has_until}
 use Rattle.zic_lines.specs.declared.rules.Rules.TheVariants.{Set}
@@ -14,13 +12,13 @@ use Rattle.zic_source.specs.Source.{ZoneLines, lines_of_zone}
 use Rattle.zic_source.proofs.Elements.{all_got, got}
 use Rattle.zic_occurrences.specs.Order.{IsInOrder}
 use Rattle.zic_states.specs.Fault.{IsSound}
-use Rattle.zic_states.specs.Laws.{HasSetsInOrder, IsOrderly, EachUntilIsRead}
+use Rattle.zic_states.specs.Laws.{HasSetsInOrder, IsOrderly}
 use Rattle.zic_states.specs.Until.{IsUntil, set_of}
-use Rattle.zic_states.specs.Zone.{Zone, lines_of, line_at, Ends, Governs}
+use Rattle.zic_states.specs.Zone.{Zone, lines_of, line_at, Ends, IsNotOver}
 use Rattle.zic_states.proofs.Ordered.{one_until}
-use Rattle.zic_states.proofs.Orders.{in_order_unless_out, same_number}
+use Rattle.zic_states.proofs.Orders.{in_order_unless_out}
 
-some_and_has : {A : Type 0} (o : Option A) (P : A → Type 0) → IsSomeAnd o P → (x : A) × (o ≡ Some x) × P x
+pub some_and_has : {A : Type 0} (o : Option A) (P : A → Type 0) → IsSomeAnd o P → (x : A) × (o ≡ Some x) × P x
 some_and_has None P h = absurd h
 some_and_has (Some x) P h = (x, refl, h)
 
@@ -47,6 +45,10 @@ flags (x ∷ xs) zero b e = inl (omega arith, cc)
 flags (x ∷ xs) (suc i) b e =
     ⊎_elim (λ early. inl (omega (arith, early.0), early.1)) (λ last. inr (ap suc last.0, last.1)) (flags xs i b e)
 
+-- a line without an UNTIL is never over
+pub always_not_over : (zone : Zone) (line : ZoneLine) (t : ℤ) → line.until ≡ None → IsNotOver zone line t
+always_not_over zone line t none = rw none tt
+
 -- ---- order
 
 -- a zone with no fault is orderly
@@ -72,7 +74,7 @@ module _ (zone : Zone) (sets : HasSetsInOrder zone) where
   set_in_order i line e name has = in_order_unless_out (set_of zone.source.rules name) line.offset
       (λ out. sets.in_order (record { number = i; line = line; is_line = e; name = name; has_set = has; disorder = out }))
 
-  flagged : (lines : ZoneLines) (i : ℕ) (line : ZoneLine) → lines_of zone ≡ Some lines → line_at zone i ≡ Some line
+  pub flagged : (lines : ZoneLines) (i : ℕ) (line : ZoneLine) → lines_of zone ≡ Some lines → line_at zone i ≡ Some line
       → ((i < length lines.continuations) × (has_until line ≡ true)) ⊎ ((i ≡ length lines.continuations) × (has_until line ≡ false))
   flagged lines i line is e =
       let untils = ap (λ (bs : List Bool). slice_get bs i) (sym (sound_zone lines is).untils) in
@@ -92,7 +94,7 @@ module _ (zone : Zone) (sets : HasSetsInOrder zone) where
   last_line i j a b at_i at_j none lt = let has = until_before i j a b at_i at_j lt in let e = has.1 in cc
 
   -- before a line stands each of a lesser number
-  line_before : (i j : ℕ) (b : ZoneLine) → line_at zone j ≡ Some b → i < j → (a : ZoneLine) × (line_at zone i ≡ Some a)
+  pub line_before : (i j : ℕ) (b : ZoneLine) → line_at zone j ≡ Some b → i < j → (a : ZoneLine) × (line_at zone i ≡ Some a)
   line_before i j b at_j lt =
       let found = line_of zone j b at_j in
       let within = slice_get_within (lines_of_zone found.0) j b found.2 in
@@ -111,55 +113,7 @@ module _ (zone : Zone) (sets : HasSetsInOrder zone) where
       let (line', at', is') = some_and_has (line_at zone i) (λ l. IsUntil zone.source.rules l u) ends' in
       let same = same_Some line' line (sym at' ∙ at) in
       let is_too = subst (λ (l : ZoneLine). IsUntil zone.source.rules l u) same is' in
-      one_until zone.source.rules line sets.sound.rules (sound_line i line at) (set_in_order i line at) t u is is_too
+      one_until zone.source.rules line (set_in_order i line at) t u is is_too
 
-  same_end : (i j : ℕ) (t u : ℤ) → i ≡ j → Ends zone i t → Ends zone j u → t ≡ u
+  pub same_end : (i j : ℕ) (t u : ℤ) → i ≡ j → Ends zone i t → Ends zone j u → t ≡ u
   same_end i j t u same ends later = one_end_of j t u (subst (λ (k : ℕ). Ends zone k t) same ends) later
-
-module _ (zone : Zone) (orderly : IsOrderly zone) (read : EachUntilIsRead zone) where
-  rises : (i : ℕ) (t u : ℤ) → Ends zone i t → Ends zone (suc i) u → t <ℤ u
-  rises i t u ends next_ends = by_lt_z t u
-      (λ lt. lt)
-      (λ not_after. absurd (orderly.untils (record {
-        number = i;
-        earlier = t;
-        later = u;
-        ends = ends;
-        next_ends = next_ends;
-        not_after = not_after;
-      })))
-
-  ends_before : (i : ℕ) (u : ℤ) → Ends zone (suc i) u → (t : ℤ) × Ends zone i t
-  ends_before i u ends =
-      let (later, at_later, is) = some_and_has (line_at zone (suc i)) (λ l. IsUntil zone.source.rules l u) ends in
-      let (line, at) = line_before zone orderly.sets i (suc i) later at_later (omega arith) in
-      let (until, has) = until_before zone orderly.sets i (suc i) line later at at_later (omega arith) in
-      let (t, is_until) = read i line until at has in
-      (t, ends_at zone orderly.sets i line t at is_until)
-
-  ends_rise : (i j : ℕ) (t u : ℤ) → i ≤ j → Ends zone i t → Ends zone j u → t ≤ℤ u
-  ends_rise i zero t u le ends later = let same = same_end zone orderly.sets i 0 t u (omega arith) ends later in omega (arith, ints)
-  ends_rise i (suc j) t u le ends later =
-      elim (cases_lt i (suc j)) [
-        | inl lt ↦
-            let (middle, at) = ends_before j u later in
-            let below = ends_rise i j t middle (omega arith) ends at in
-            let above = rises j middle u at later in
-            omega (arith, ints)
-        | inr ge ↦ let same = same_end zone orderly.sets i (suc j) t u (omega arith) ends later in omega (arith, ints)
-      ]
-
-  not_both : (i j : ℕ) (a b : ZoneLine) (t : ℤ) → i < j → Governs zone i a t → Governs zone j b t → ⊥
-  not_both i zero a b t lt one other = absurd (omega arith)
-  not_both i (suc j) a b t lt one other =
-      let (until, has) = until_before zone orderly.sets i (suc j) a b one.is_line other.is_line lt in
-      let EndsLater : Type 0 = (end : ℤ) × IsUntil zone.source.rules a end × (t <ℤ end) in
-      let (end, is_until, before) = MatchOption-at_some (Unit {0}) (λ _. EndsLater) until has one.not_over in
-      let (start, starts, after) = other.begun in
-      let rise = ends_rise i j end start (omega arith) (ends_at zone orderly.sets i a end one.is_line is_until) starts in
-      omega (arith, ints)
-
-  pub one_line : (t : ℤ) (i j : ℕ) (a b : ZoneLine) → Governs zone i a t → Governs zone j b t → (i ≡ j) × (a ≡ b)
-  one_line t i j a b one other =
-      let same = same_number i j (λ lt. not_both i j a b t lt one other) (λ gt. not_both j i b a t gt other one) in
-      (same, same_Some a b (sym one.is_line ∙ ap (line_at zone) same ∙ other.is_line))

@@ -8,7 +8,7 @@ use Rattle.zic_lines.specs.declared.rules.Rules.{Rules}
 use Rattle.zic_lines.specs.declared.rules.Rules.TheVariants.{Standard, Amount, Set}
 use Rattle.zic_lines.specs.declared.until.Until.{Until}
 use Rattle.zic_lines.specs.declared.zone_line.ZoneLine.{ZoneLine}
-use Rattle.zic_source.specs.Sound.{IsSoundRule, IsSoundLine, IsWithinDay}
+use Rattle.zic_source.specs.Sound.{IsSoundRule, IsWithinDay}
 use Rattle.zic_occurrences.specs.Occurrence.{RuleSet, Occurrence, IsOccurrence, AreSame, nominal}
 use Rattle.zic_occurrences.specs.Order.{IsInOrder}
 use Rattle.zic_states.specs.Until.{IsNext, IsReadAfter, IsSavedAtUntil, IsUntil, saved_after, set_of, until_by}
@@ -95,10 +95,10 @@ one_saving rules offset until (Set name) order s t one other =
     one.2 ∙ ap saved_after (one_stage (set_of rules name) offset until (order name refl) one.0 other.0 one.1 other.1) ∙ sym other.2
 
 -- A line has at most one UNTIL instant.
-pub one_until : (rules : List Rule) (line : ZoneLine) → All IsSoundRule rules → IsSoundLine rules line
+pub one_until : (rules : List Rule) (line : ZoneLine)
     → ((name : List ℕ) → line.rules ≡ Set name → IsInOrder (set_of rules name) line.offset)
     → (t u : ℤ) → IsUntil rules line t → IsUntil rules line u → t ≡ u
-one_until rules line rules_sound line_sound order t u one other =
+one_until rules line order t u one other =
     let same : one.until ≡ other.until = same_Some one.until other.until (sym one.has ∙ other.has) in
     let Saved : Until → Type 0 = λ x. IsSavedAtUntil rules line.offset x line.rules other.saved in
     let saved : one.saved ≡ other.saved =

@@ -4,17 +4,17 @@ use Rattle.std.specs.Prelude.{ℤ, ◌+ℤ◌}
 use Rattle.std.proofs.lemmas.Option.{same_Some}
 use Rattle.zic_lines.specs.declared.zone_line.ZoneLine.{ZoneLine}
 use Rattle.zic_states.specs.Abbreviation.{abbreviation}
-use Rattle.zic_states.specs.Laws.{IsOrderly, EachUntilIsRead}
+use Rattle.zic_states.specs.Laws.{IsOrderly}
 use Rattle.zic_states.specs.State.{Shown}
 use Rattle.zic_states.specs.Zone.{Zone, Keeps, Shows}
 use Rattle.zic_states.proofs.Kept.{one_kept}
-use Rattle.zic_states.proofs.Lines.{one_line}
+use Rattle.zic_states.proofs.Governing.{one_line}
 
-pub one_state : (zone : Zone) → IsOrderly zone → EachUntilIsRead zone → (t : ℤ) (a b : Shown) → Shows zone t a → Shows zone t b → a ≡ b
-one_state zone orderly read t a b one other =
+pub one_state : (zone : Zone) → IsOrderly zone → (t : ℤ) (a b : Shown) → Shows zone t a → Shows zone t b → a ≡ b
+one_state zone orderly t a b one other =
     let by = one.keeps in
     let by' = other.keeps in
-    let (number, line) = one_line zone orderly read t by.number by'.number one.line other.line by.governs by'.governs in
+    let (number, line) = one_line zone orderly t by.number by'.number one.line other.line by.governs by'.governs in
     let keeps = subst (λ (i : ℕ). Keeps zone i other.line t other.kept) (sym number) by'.keeps in
     let keeps_too = subst (λ (l : ZoneLine). Keeps zone by.number l t other.kept) (sym line) keeps in
     let kept = one_kept zone orderly.sets by.number one.line t one.kept other.kept by.governs.is_line by.keeps keeps_too in

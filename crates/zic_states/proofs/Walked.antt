@@ -31,13 +31,13 @@ pub record IsPassed (set : RuleSet) (offset bound : ℤ) (until : Until) (xs : L
 -- ---- bounds
 
 -- an instant comes at most 48 hours after what its clock shows
-instant_not_after : (form : ClockForm) (offset saved second : ℤ) → IsWithinDay offset → IsWithinDay saved
+pub instant_not_after : (form : ClockForm) (offset saved second : ℤ) → IsWithinDay offset → IsWithinDay saved
     → instant_by form offset saved second ≤ℤ (second +ℤ pos 172_800)
 instant_not_after Universal offset saved second within_offset within_saved = omega (arith, ints)
 instant_not_after Standard offset saved second within_offset within_saved = omega (arith, ints)
 instant_not_after Wall offset saved second within_offset within_saved = omega (arith, ints)
 
-saved_within : (set : RuleSet) → All IsSoundRule set.rules → (b : Option Occurrence) → IsStage set b → IsWithinDay (saved_after b)
+pub saved_within : (set : RuleSet) → All IsSoundRule set.rules → (b : Option Occurrence) → IsStage set b → IsWithinDay (saved_after b)
 saved_within set sound None is = lit≤ tt
 saved_within set sound (Some o) is = (all_got IsSoundRule set.rules o.number o.rule sound is.member.numbered).saving
 

@@ -1,10 +1,15 @@
 //! Laws of what zones show as contracts: no function here does anything. The crates above cite the lemmas in `proofs/` that
 //! prove them.
-ghost use Rattle.zic_states.specs.Laws.{OneUntil, OneLine, OneKept, OneState, OneEnd, OneListOfChanges, OneFirstState};
+ghost use Rattle.zic_states.specs.Laws.{OneUntil, UntilsAreRead, OneLine, OneKept, OneState, SomeState, OneStateAtEachInstant, OneEnd, OneListOfChanges, OneFirstState};
 
 /// A line has at most one UNTIL instant, where its set, if it has one, is in order.
 pub fn each_line_ends_at_one_instant()
     ensures { OneUntil }
+{}
+
+/// Each UNTIL has an instant, where the sets are in order.
+pub fn each_until_is_read()
+    ensures { UntilsAreRead }
 {}
 
 /// At an instant at most one line governs.
@@ -20,6 +25,16 @@ pub fn a_line_keeps_one_thing()
 /// At an instant a zone shows at most one state.
 pub fn a_zone_shows_one_state()
     ensures { OneState }
+{}
+
+/// At each instant a zone shows some state, where its sets are in order and no letter is wanting.
+pub fn a_zone_shows_some_state()
+    ensures { SomeState }
+{}
+
+/// At each instant a zone without a fault shows exactly one state.
+pub fn a_sound_zone_shows_one_state_at_each_instant()
+    ensures { OneStateAtEachInstant }
 {}
 
 /// A zone has at most one explicit end.

@@ -1,4 +1,4 @@
-use Rattle.zic_states.proofs.Lines.{one_line}
+use Rattle.zic_states.proofs.Governing.{one_line}
 use Rattle.zic_states.proofs.laws.one_line_governs.Goals as goal
 
 pub returns : goal.returns

@@ -1,0 +1,131 @@
+-- At each instant a line keeps something.
+use Rattle.std.proofs.Common.{◌≡◌, ℕ, zero, suc, All, inl, inr, List, Some, None, refl, arith, ℤ, pos, ◌+ℤ◌, ◌-ℤ◌, ◌≤ℤ◌, ◌↔◌, false}
+use Rattle.std.specs.Int.{int_max, int_min}
+use Rattle.std.proofs.lemmas.Int.{ints, clamps}
+use Rattle.zic_lines.specs.declared.rule.Rule.{Rule}
+use Rattle.zic_lines.specs.declared.rules.Rules.{Rules}
+use Rattle.zic_lines.specs.declared.rules.Rules.TheVariants.{Standard, Amount, Set}
+use Rattle.zic_lines.specs.declared.zone_line.ZoneLine.{ZoneLine}
+use Rattle.zic_source.specs.Sound.{IsSoundRule, IsWithinDay}
+use Rattle.zic_occurrences.specs.Occurrence.{RuleSet}
+use Rattle.zic_occurrences.specs.Order.{IsInOrder}
+use Rattle.zic_occurrences.proofs.Instants.{last_not_after}
+use Rattle.zic_states.specs.ByList.{IsLimit}
+use Rattle.zic_states.specs.Kept.{Kept, SetKeeps, RulesKeep, kept_from}
+use Rattle.zic_states.specs.Laws.{HasSetsInOrder}
+use Rattle.zic_states.specs.Until.{set_of}
+use Rattle.zic_states.specs.Zone.{Zone, line_at, IsNotOver, KeepsBy, IsWindowEnd, Keeps}
+use Rattle.zic_states.proofs.ByList.{limit_without_until, limit_at_end}
+use Rattle.zic_states.proofs.FirstLetter.{some_letter}
+use Rattle.zic_states.proofs.Lines.{sound_line, set_in_order, line_before, until_before, ends_at}
+use Rattle.zic_states.proofs.Ordered.{IsOrdered}
+use Rattle.zic_states.proofs.Untils.{until_or_none, untils_are_read, not_over_until}
+
+-- ---- what RULES keep, where such instants are those up to m
+
+-- the instants that are such are those up to m
+abbrev AreUpTo : (ℤ → Type 0) → ℤ → Type 0
+AreUpTo IsSuch m = (u : ℤ) → IsSuch u ↔ (u ≤ℤ m)
+
+set_keeps : (set : RuleSet) (offset : ℤ) (IsSuch : ℤ → Type 0) (m : ℤ) → IsOrdered set offset → AreUpTo IsSuch m → (kept : Kept) × SetKeeps set offset IsSuch kept
+set_keeps set offset IsSuch m given up_to =
+    elim (last_not_after set offset m given.sound given.within given.order) [
+      | inl (o, t, last) ↦ (
+        kept_from o,
+        inl (
+          o,
+          record {
+            is = last.is;
+            instant = t;
+            at = last.instant;
+            such = (up_to t).1 last.not_after;
+            last = λ q u is at such. last.last q u is at ((up_to u).0 such);
+          },
+          refl,
+        ),
+      )
+      | inr after ↦
+          let (letter, before) = some_letter set given.sound in (
+            record { saving = pos 0; daylight = false; letter = letter },
+            inr (
+              λ q u is at such.
+                  let lt = after q u is at in
+                  let le = (up_to u).0 such in
+                  omega (arith, ints),
+              refl,
+              refl,
+              before,
+            ),
+          )
+    ]
+
+rules_keep : (rules : List Rule) (line : ZoneLine) (says : Rules) (IsSuch : ℤ → Type 0) (m : ℤ) → All IsSoundRule rules → IsWithinDay line.offset
+    → ((name : List ℕ) → says ≡ Set name → IsInOrder (set_of rules name) line.offset) → AreUpTo IsSuch m
+    → (kept : Kept) × RulesKeep rules line says IsSuch kept
+rules_keep rules line Standard IsSuch m sound within order up_to = (record { saving = pos 0; daylight = false; letter = None }, refl)
+rules_keep rules line (Amount saving) IsSuch m sound within order up_to =
+    (record { saving = saving.seconds; daylight = saving.daylight; letter = None }, refl)
+rules_keep rules line (Set name) IsSuch m sound within order up_to =
+    set_keeps (set_of rules name) line.offset IsSuch m (record { sound = sound; within = within; order = order name refl }) up_to
+
+-- ---- what a line keeps
+
+-- the instants up to t at which the line isn't over are those up to t and before its limit
+up_to_limit : (zone : Zone) (line : ZoneLine) (limit t : ℤ) → IsLimit zone line limit t
+    → AreUpTo (λ u. (u ≤ℤ t) × IsNotOver zone line u) (int_min t (limit -ℤ pos 1))
+up_to_limit zone line limit t limits u = (
+  λ such.
+      let le = such.0 in
+      let lt = (limits u le).0 such.1 in
+      omega (arith, ints, clamps),
+  λ le.
+      let not_after : u ≤ℤ t = omega (arith, ints, clamps) in
+      (not_after, (limits u not_after).1 (omega (arith, ints, clamps))),
+)
+
+module _ (zone : Zone) (sets : HasSetsInOrder zone) where
+  some_limit : (i : ℕ) (line : ZoneLine) (t : ℤ) → line_at zone i ≡ Some line → (limit : ℤ) × IsLimit zone line limit t
+  some_limit i line t at =
+      elim (until_or_none line.until) [
+        | inl none ↦ (t +ℤ pos 1, limit_without_until zone line (t +ℤ pos 1) t none (omega (arith, ints)))
+        | inr (until, has) ↦
+            let (end, is) = untils_are_read zone sets i line until at has in
+            (end, limit_at_end zone line end t (not_over_until zone sets i line until end at has is))
+      ]
+
+  some_kept_by : (i : ℕ) (line : ZoneLine) (t : ℤ) → line_at zone i ≡ Some line → (kept : Kept) × KeepsBy zone line t kept
+  some_kept_by i line t at =
+      let (limit, limits) = some_limit i line t at in
+      rules_keep zone.source.rules line line.rules (λ u. (u ≤ℤ t) × IsNotOver zone line u) (int_min t (limit -ℤ pos 1)) sets.sound.rules
+      (sound_line zone sets i line at).offset (set_in_order zone sets i line at) (up_to_limit zone line limit t limits)
+
+  -- the window of a line that follows another
+  some_window_end : (i : ℕ) (earlier later : ZoneLine) → line_at zone i ≡ Some earlier → line_at zone (suc i) ≡ Some later
+      → ((t : ℤ) → (kept : Kept) × Keeps zone i earlier t kept) → (end : ℤ) × IsWindowEnd zone i (Keeps zone i) later end
+  some_window_end i earlier later at at_later keeps =
+      let (until, has) = until_before zone sets i (suc i) earlier later at at_later (omega arith) in
+      let (start, is) = untils_are_read zone sets i earlier until at has in
+      let (kept, kept_before) = keeps (start -ℤ pos 1) in
+      let (by_itself, kept_by_itself) = some_kept_by (suc i) later start at_later in (
+        start +ℤ int_max (pos 0) ((earlier.offset +ℤ kept.saving) -ℤ (later.offset +ℤ by_itself.saving)),
+        record {
+          start = start;
+          starts = ends_at zone sets i earlier start at is;
+          earlier = earlier;
+          is_earlier = at;
+          kept = kept;
+          keeps = kept_before;
+          by_itself = by_itself;
+          keeps_by_itself = kept_by_itself;
+          is = refl;
+        },
+      )
+
+  pub some_kept : (i : ℕ) (line : ZoneLine) (t : ℤ) → line_at zone i ≡ Some line → (kept : Kept) × Keeps zone i line t kept
+  unfolding Keeps
+  some_kept zero line t at = some_kept_by zero line t at
+  some_kept (suc i) line t at =
+      let (earlier, at_earlier) = line_before zone sets i (suc i) line at (omega arith) in
+      let (end, window) = some_window_end i earlier line at_earlier at (λ u. some_kept i earlier u at_earlier) in
+      let (kept, keeps) = some_kept_by (suc i) line (int_max t end) at in
+      (kept, (end, window, keeps))
