@@ -20,3 +20,4 @@ pub mod Letters
 pub mod FirstLetter
 pub mod SomeKept
 pub mod SomeState
+pub mod TailLine

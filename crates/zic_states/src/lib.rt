@@ -7,6 +7,7 @@ pub mod format;
 mod keeping;
 pub mod laws;
 mod offset_text;
+pub mod tail_laws;
 mod until;
 
 pub use abbreviation::{Abbreviation, is_abbreviation};

@@ -1,0 +1,14 @@
+-- Laws of what a zone shows from its explicit end on: each is the contract of a function of the module `tail_laws`.
+use Rattle.std.specs.Prelude.{◌≡◌, ℕ, ℤ, pos, ◌+ℤ◌, ◌-ℤ◌, ◌<ℤ◌, ◌≤ℤ◌, List}
+use Rattle.zic_lines.specs.declared.rule.Rule.{Rule}
+use Rattle.zic_lines.specs.declared.zone_line.ZoneLine.{ZoneLine}
+use Rattle.zic_states.specs.End.{IsLastLine, IsEnd}
+use Rattle.zic_states.specs.Laws.{HasSetsInOrder}
+use Rattle.zic_states.specs.Zone.{Zone, HasBegun, Governs}
+
+-- From its start on the last line governs, and so it does from one second before the explicit end on.
+pub record LastLineGoverns : Type 0 where
+  pub from_start : (zone : Zone) (i : ℕ) (line : ZoneLine) (t : ℤ) → IsLastLine zone i line → HasBegun zone i t
+      → Governs zone i line t
+  pub from_end : (zone : Zone) → HasSetsInOrder zone → (i : ℕ) (line : ZoneLine) (end t : ℤ) → IsLastLine zone i line
+      → IsEnd zone end → (end -ℤ pos 1) ≤ℤ t → Governs zone i line t
