@@ -1,19 +1,22 @@
--- The last line of a zone governs from its start on, and by itself from four days after the year of the start on.
-use Rattle.std.proofs.Common.{◌≡◌, ℕ, zero, suc, ◌*◌, All, inl, inr, List, Some, sym, subst, arith}
+-- The last line of a zone governs from its start on, and what it keeps the zone keeps.
+use Rattle.std.proofs.Common.{◌≡◌, ℕ, zero, suc, false, List, None, sym, subst, arith}
 use Rattle.std.specs.Prelude.{ℤ, pos, ◌+ℤ◌, ◌-ℤ◌, ◌≤ℤ◌}
-use Rattle.std.specs.Int.{int_max}
 use Rattle.std.proofs.lemmas.Int.{ints, clamps}
 use Rattle.zic_lines.specs.declared.rule.Rule.{Rule}
 use Rattle.zic_lines.specs.declared.rules.Rules.{Rules}
 use Rattle.zic_lines.specs.declared.rules.Rules.TheVariants.{Standard, Amount, Set}
 use Rattle.zic_lines.specs.declared.zone_line.ZoneLine.{ZoneLine}
-use Rattle.zic_occurrences.specs.Occurrence.{year_second}
 use Rattle.zic_occurrences.proofs.Bounds.{years_apart}
 use Rattle.zic_states.specs.End.{IsLastLine, IsEndBy, IsEnd}
-use Rattle.zic_states.specs.Laws.{HasSetsInOrder}
-use Rattle.zic_states.specs.Zone.{Zone, HasBegun, Governs}
+use Rattle.zic_states.specs.Kept.{Kept, RulesKeep}
+use Rattle.zic_states.specs.Laws.{HasSetsInOrder, IsOrderly}
+use Rattle.zic_states.specs.Tail.{HasNoSet, KeepsJust, KeepsFrom}
+use Rattle.zic_states.specs.Zone.{Zone, HasBegun, Governs, Keeps}
+use Rattle.zic_states.proofs.Governing.{one_line}
+use Rattle.zic_states.proofs.Kept.{one_kept}
 use Rattle.zic_states.proofs.Lines.{always_not_over, last_line}
 use Rattle.zic_states.proofs.Orders.{same_number}
+use Rattle.zic_states.proofs.SomeKept.{some_kept}
 
 -- ---- it governs
 
@@ -42,3 +45,49 @@ governs_from_end zone sets i line end t last (j, other, last', by) le =
     (last_line zone sets i j line other last.is_line last'.is_line last.no_until)
     (last_line zone sets j i other line last'.is_line last.is_line last'.no_until) in
     governs_from_start zone i line t last (subst (λ (n : ℕ). HasBegun zone n t) (sym same) (begun_by zone j other.rules end t by le))
+
+-- ---- what it keeps
+
+module _ (zone : Zone) (orderly : IsOrderly zone) (i : ℕ) (line : ZoneLine) (last : IsLastLine zone i line) where
+  -- what the line keeps, the zone does, and nothing else
+  pub keeps_just : (t : ℤ) (kept : Kept) → HasBegun zone i t → Keeps zone i line t kept → KeepsJust zone t line kept
+  keeps_just t kept begun keeps =
+      let governs = governs_from_start zone i line t last begun in
+      record {
+        keeps = record { number = i; governs = governs; keeps = keeps };
+        only = λ other thing by.
+            let (number, same) = one_line zone orderly t by.number i other line by.governs governs in
+            let by_number = subst (λ (n : ℕ). Keeps zone n other t thing) number by.keeps in
+            let by_line = subst (λ (l : ZoneLine). Keeps zone i l t thing) same by_number in
+            (same, one_kept zone orderly.sets i line t thing kept last.is_line by_line keeps);
+      }
+
+-- ---- without a set
+
+fixed : Rules → Kept
+fixed Standard = record { saving = pos 0; daylight = false; letter = None }
+fixed (Amount saving) = record { saving = saving.seconds; daylight = saving.daylight; letter = None }
+fixed (Set name) = record { saving = pos 0; daylight = false; letter = None }
+
+is_fixed : (rules : List Rule) (line : ZoneLine) (says : Rules) (IsSuch : ℤ → Type 0) (kept : Kept) → HasNoSet says
+    → RulesKeep rules line says IsSuch kept → kept ≡ fixed says
+unfolding fixed
+is_fixed rules line Standard IsSuch kept none e = e
+is_fixed rules line (Amount saving) IsSuch kept none e = e
+is_fixed rules line (Set name) IsSuch kept none e = absurd none
+
+keeps_fixed : (zone : Zone) (i : ℕ) (line : ZoneLine) (t : ℤ) (kept : Kept) → HasNoSet line.rules → Keeps zone i line t kept → kept ≡ fixed line.rules
+unfolding Keeps
+keeps_fixed zone zero line t kept none keeps = is_fixed zone.source.rules line line.rules _ kept none keeps
+keeps_fixed zone (suc i) line t kept none (end, window, keeps) = is_fixed zone.source.rules line line.rules _ kept none keeps
+
+pub fixed_tail : (zone : Zone) → IsOrderly zone → (i : ℕ) (line : ZoneLine) → IsLastLine zone i line → HasNoSet line.rules
+    → (kept : Kept) × ((start : ℤ) → HasBegun zone i start → KeepsFrom zone start line kept)
+fixed_tail zone orderly i line last none = (
+  fixed line.rules,
+  λ start begun t le.
+      let (kept, keeps) = some_kept zone orderly.sets i line t last.is_line in
+      let same = keeps_fixed zone i line t kept none keeps in
+      keeps_just zone orderly i line last t (fixed line.rules) (begun_later zone i start t begun le)
+      (subst (λ (k : Kept). Keeps zone i line t k) same keeps),
+)

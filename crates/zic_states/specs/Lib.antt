@@ -10,6 +10,7 @@ pub mod Laws
 pub mod Occurrences
 pub mod Refusal
 pub mod State
+pub mod Tail
 pub mod TailLaws
 pub mod Until
 pub mod Zone

@@ -3,7 +3,9 @@ use Rattle.std.specs.Prelude.{◌≡◌, ℕ, ℤ, pos, ◌+ℤ◌, ◌-ℤ◌, 
 use Rattle.zic_lines.specs.declared.rule.Rule.{Rule}
 use Rattle.zic_lines.specs.declared.zone_line.ZoneLine.{ZoneLine}
 use Rattle.zic_states.specs.End.{IsLastLine, IsEnd}
-use Rattle.zic_states.specs.Laws.{HasSetsInOrder}
+use Rattle.zic_states.specs.Kept.{Kept}
+use Rattle.zic_states.specs.Laws.{HasSetsInOrder, IsOrderly}
+use Rattle.zic_states.specs.Tail.{HasNoSet, KeepsFrom}
 use Rattle.zic_states.specs.Zone.{Zone, HasBegun, Governs}
 
 -- From its start on the last line governs, and so it does from one second before the explicit end on.
@@ -12,3 +14,9 @@ pub record LastLineGoverns : Type 0 where
       → Governs zone i line t
   pub from_end : (zone : Zone) → HasSetsInOrder zone → (i : ℕ) (line : ZoneLine) (end t : ℤ) → IsLastLine zone i line
       → IsEnd zone end → (end -ℤ pos 1) ≤ℤ t → Governs zone i line t
+
+-- A last line without a set keeps one and the same thing from its start on.
+abbrev pub FixedTail : Type 0
+FixedTail =
+    (zone : Zone) → IsOrderly zone → (i : ℕ) (line : ZoneLine) → IsLastLine zone i line → HasNoSet line.rules
+    → (kept : Kept) × ((start : ℤ) → HasBegun zone i start → KeepsFrom zone start line kept)

@@ -1,0 +1,57 @@
+-- What decides what a zone shows from its explicit end on: the rules of the last line's set that have no last year.
+use Rattle.std.specs.Prelude.{◌≡◌, ℕ, ℤ, ◌<ℤ◌, ◌≤ℤ◌, List, None}
+use Rattle.zic_lines.specs.declared.rule.Rule.{Rule}
+use Rattle.zic_lines.specs.declared.rules.Rules.{Rules}
+use Rattle.zic_lines.specs.declared.rules.Rules.TheVariants.{Standard, Amount, Set}
+use Rattle.zic_lines.specs.declared.zone_line.ZoneLine.{ZoneLine}
+use Rattle.zic_occurrences.specs.Laws.{IsLastNotAfter}
+use Rattle.zic_occurrences.specs.Occurrence.{RuleSet, IsMember, Occurrence}
+use Rattle.zic_states.specs.End.{IsLastLine, IsLastYear}
+use Rattle.zic_states.specs.Kept.{Kept, kept_from}
+use Rattle.zic_states.specs.Until.{set_of}
+use Rattle.zic_states.specs.Zone.{Zone, ZoneKeeps}
+
+-- The rule goes on for ever: it has no last year.
+abbrev pub IsContinuing : Rule → Type 0
+IsContinuing rule = rule.last ≡ None
+
+-- some rule of the set goes on for ever
+abbrev pub HasContinuing : RuleSet → Type 0
+HasContinuing set = (number : ℕ) × (rule : Rule) × IsMember set number rule × IsContinuing rule
+
+-- this rule of the set goes on for ever, and no other
+pub record IsOnlyContinuing (set : RuleSet) (number : ℕ) (rule : Rule) : Type 0 where
+  pub member : IsMember set number rule
+  pub continues : IsContinuing rule
+  pub only : (other : ℕ) (its : Rule) → IsMember set other its → IsContinuing its → other ≡ number
+
+-- RULES name no set
+abbrev pub HasNoSet : Rules → Type 0
+HasNoSet Standard = Unit {0}
+HasNoSet (Amount saving) = Unit {0}
+HasNoSet (Set name) = ⊥
+
+-- The last line of the zone, of this number, has the set of this name, and this is the last year that it names.
+pub record HasLastSet (zone : Zone) (i : ℕ) (line : ZoneLine) (name : List ℕ) (year : ℤ) : Type 0 where
+  pub is_last : IsLastLine zone i line
+  pub has_set : line.rules ≡ Set name
+  pub last_year : IsLastYear zone i name year
+
+-- at t the zone keeps this by this line, and nothing else
+pub record KeepsJust (zone : Zone) (t : ℤ) (line : ZoneLine) (kept : Kept) : Type 0 where
+  pub keeps : ZoneKeeps zone t line kept
+  pub only : (other : ZoneLine) (thing : Kept) → ZoneKeeps zone t other thing → (other ≡ line) × (thing ≡ kept)
+
+-- the same at t and for ever after
+abbrev pub KeepsFrom : Zone → ℤ → ZoneLine → Kept → Type 0
+KeepsFrom zone t line kept = (u : ℤ) → t ≤ℤ u → KeepsJust zone u line kept
+
+-- at t the zone keeps what the last occurrence not after t begins, which is of a year after this one and of a rule that goes on
+-- for ever
+pub record KeepsByContinuing (zone : Zone) (t : ℤ) (line : ZoneLine) (name : List ℕ) (year : ℤ) : Type 0 where
+  pub occurrence : Occurrence
+  pub instant : ℤ
+  pub current : IsLastNotAfter (set_of zone.source.rules name) line.offset t occurrence instant
+  pub after : year <ℤ occurrence.year
+  pub continues : IsContinuing occurrence.rule
+  pub keeps : KeepsJust zone t line (kept_from occurrence)
