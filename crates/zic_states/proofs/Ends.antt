@@ -25,7 +25,7 @@ years_rise y z lt =
     let days = day_number-rises y 1 1 z 1 1 (first y) (first z) (inl lt) in
     omega (arith, ints)
 
-not_later : (y z : ℤ) → y ≤ℤ z → year_second y ≤ℤ year_second z
+pub not_later : (y z : ℤ) → y ≤ℤ z → year_second y ≤ℤ year_second z
 not_later y z le = by_lt_z y z
     (λ lt. let rise = years_rise y z lt in omega (arith, ints))
     (λ ge. let same : y ≡ z = omega (arith, ints) in rw same (omega (arith, ints)))

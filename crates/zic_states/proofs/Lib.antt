@@ -21,3 +21,7 @@ pub mod FirstLetter
 pub mod SomeKept
 pub mod SomeState
 pub mod TailLine
+pub mod TailYears
+pub mod TailSet
+pub mod TailWindow
+pub mod TailKept

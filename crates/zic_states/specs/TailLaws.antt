@@ -1,11 +1,13 @@
 -- Laws of what a zone shows from its explicit end on: each is the contract of a function of the module `tail_laws`.
-use Rattle.std.specs.Prelude.{◌≡◌, ℕ, ℤ, pos, ◌+ℤ◌, ◌-ℤ◌, ◌<ℤ◌, ◌≤ℤ◌, List}
+use Rattle.std.specs.Prelude.{ℕ, ℤ, pos, ◌+ℤ◌, ◌-ℤ◌, ◌≤ℤ◌, List}
 use Rattle.zic_lines.specs.declared.rule.Rule.{Rule}
 use Rattle.zic_lines.specs.declared.zone_line.ZoneLine.{ZoneLine}
+use Rattle.zic_occurrences.specs.Occurrence.{year_second}
 use Rattle.zic_states.specs.End.{IsLastLine, IsEnd}
-use Rattle.zic_states.specs.Kept.{Kept}
+use Rattle.zic_states.specs.Kept.{Kept, kept_of}
 use Rattle.zic_states.specs.Laws.{HasSetsInOrder, IsOrderly}
-use Rattle.zic_states.specs.Tail.{HasNoSet, KeepsFrom}
+use Rattle.zic_states.specs.Tail.{HasContinuing, IsOnlyContinuing, HasNoSet, HasLastSet, KeepsFrom, KeepsByContinuing}
+use Rattle.zic_states.specs.Until.{set_of}
 use Rattle.zic_states.specs.Zone.{Zone, HasBegun, Governs}
 
 -- From its start on the last line governs, and so it does from one second before the explicit end on.
@@ -20,3 +22,25 @@ abbrev pub FixedTail : Type 0
 FixedTail =
     (zone : Zone) → IsOrderly zone → (i : ℕ) (line : ZoneLine) → IsLastLine zone i line → HasNoSet line.rules
     → (kept : Kept) × ((start : ℤ) → HasBegun zone i start → KeepsFrom zone start line kept)
+
+-- Where a rule of the last line's set goes on for ever, from one second before the end on the zone keeps what an occurrence of such
+-- a rule begins, of a year after the last one named.
+abbrev pub ByContinuing : Type 0
+ByContinuing =
+    (zone : Zone) → IsOrderly zone → (i : ℕ) (line : ZoneLine) (name : List ℕ) (year : ℤ) → HasLastSet zone i line name year
+    → HasContinuing (set_of zone.source.rules name)
+    → (t : ℤ) → (year_second (year +ℤ pos 3) -ℤ pos 1) ≤ℤ t → KeepsByContinuing zone t line name year
+
+-- Where just one does, from one second before the end on the zone keeps what this rule keeps.
+abbrev pub ByOne : Type 0
+ByOne =
+    (zone : Zone) → IsOrderly zone → (i : ℕ) (line : ZoneLine) (name : List ℕ) (year : ℤ) → HasLastSet zone i line name year
+    → (number : ℕ) (rule : Rule) → IsOnlyContinuing (set_of zone.source.rules name) number rule
+    → KeepsFrom zone (year_second (year +ℤ pos 3) -ℤ pos 1) line (kept_of rule)
+
+-- Where none does, from one second before the end on the zone keeps one and the same thing.
+abbrev pub ByNone : Type 0
+ByNone =
+    (zone : Zone) → IsOrderly zone → (i : ℕ) (line : ZoneLine) (name : List ℕ) (year : ℤ) → HasLastSet zone i line name year
+    → (HasContinuing (set_of zone.source.rules name) → ⊥)
+    → (kept : Kept) × KeepsFrom zone (year_second (year +ℤ pos 3) -ℤ pos 1) line kept

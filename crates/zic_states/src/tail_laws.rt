@@ -1,6 +1,6 @@
 //! Laws of what zones show from their explicit ends on, as contracts: no function here does anything. The crates above cite the
 //! lemmas in `proofs/` that prove them.
-ghost use Rattle.zic_states.specs.TailLaws.{LastLineGoverns, FixedTail};
+ghost use Rattle.zic_states.specs.TailLaws.{LastLineGoverns, FixedTail, ByContinuing, ByOne, ByNone};
 
 /// From its start on, and so from one second before the explicit end on, the last line governs.
 pub fn the_last_line_governs()
@@ -10,4 +10,19 @@ pub fn the_last_line_governs()
 /// A last line without a set keeps one and the same thing from its start on.
 pub fn a_line_without_a_set_keeps_one_thing_for_ever()
     ensures { FixedTail }
+{}
+
+/// Where rules of the last line's set go on for ever, an occurrence of one of them decides from the explicit end on.
+pub fn from_the_end_a_continuing_rule_decides()
+    ensures { ByContinuing }
+{}
+
+/// Where just one goes on for ever, the zone keeps what it keeps from the explicit end on.
+pub fn one_continuing_rule_decides_for_ever()
+    ensures { ByOne }
+{}
+
+/// Where none goes on for ever, the zone keeps one thing from the explicit end on.
+pub fn without_a_continuing_rule_one_thing_is_kept()
+    ensures { ByNone }
 {}

@@ -1,0 +1,94 @@
+-- The window of a zone's last line ends at most four days after its start; from then on the line keeps what it keeps by itself.
+use Rattle.std.proofs.Common.{◌≡◌, ℕ, zero, suc, ◌*◌, All, inl, inr, List, Some, sym, subst, arith}
+use Rattle.std.specs.Prelude.{ℤ, pos, ◌+ℤ◌, ◌-ℤ◌, ◌<ℤ◌, ◌≤ℤ◌}
+use Rattle.std.specs.Int.{int_max}
+use Rattle.std.proofs.lemmas.Int.{ints, clamps}
+use Rattle.zic_lines.specs.declared.rule.Rule.{Rule}
+use Rattle.zic_lines.specs.declared.rules.Rules.{Rules}
+use Rattle.zic_lines.specs.declared.rules.Rules.TheVariants.{Standard, Amount, Set}
+use Rattle.zic_lines.specs.declared.zone_line.ZoneLine.{ZoneLine}
+use Rattle.zic_source.specs.Sound.{IsSoundRule, IsWithinDay, AreSoundRules}
+use Rattle.zic_occurrences.specs.Occurrence.{year_second}
+use Rattle.zic_occurrences.proofs.Bounds.{sound_rule}
+use Rattle.zic_states.specs.End.{IsLastYear}
+use Rattle.zic_states.specs.Kept.{Kept, RulesKeep}
+use Rattle.zic_states.specs.Laws.{HasSetsInOrder}
+use Rattle.zic_states.specs.Until.{set_of}
+use Rattle.zic_states.specs.Zone.{Zone, line_at, Ends, HasBegun, KeepsBy, IsWindowEnd, Keeps}
+use Rattle.zic_states.proofs.Ends.{not_later}
+use Rattle.zic_states.proofs.Lines.{sound_line, one_end_of}
+use Rattle.zic_states.proofs.SomeKept.{some_kept}
+
+saving_within : (rules : List Rule) (line : ZoneLine) (says : Rules) (IsSuch : ℤ → Type 0) (kept : Kept) → All IsSoundRule rules
+    → AreSoundRules rules says → RulesKeep rules line says IsSuch kept → IsWithinDay kept.saving
+saving_within rules line Standard IsSuch kept sound known e = subst (λ (k : Kept). IsWithinDay k.saving) (sym e) (omega arith)
+saving_within rules line (Amount saving) IsSuch kept sound known e = subst (λ (k : Kept). IsWithinDay k.saving) (sym e) known
+saving_within rules line (Set name) IsSuch kept sound known (inl (o, last, e)) =
+    subst (λ (k : Kept). IsWithinDay k.saving) (sym e) (sound_rule (set_of rules name) o sound last.is).saving
+saving_within rules line (Set name) IsSuch kept sound known (inr none) = rw none.1 (omega arith)
+
+four_days : (start end a b c d : ℤ) → IsWithinDay a → IsWithinDay b → IsWithinDay c → IsWithinDay d
+    → end ≡ start +ℤ int_max (pos 0) ((a +ℤ b) -ℤ (c +ℤ d)) → end ≤ℤ (start +ℤ pos (4 * 86_400))
+four_days start end a b c d h k l m e = omega (arith, ints, clamps)
+
+-- the fourth day after the year
+abbrev pub settled : ℤ → ℤ
+settled year = year_second (year +ℤ pos 1) +ℤ pos (4 * 86_400)
+
+start_before : (start of_start year : ℤ) → start <ℤ year_second (of_start +ℤ pos 1) → of_start ≤ℤ year → start ≤ℤ year_second (year +ℤ pos 1)
+start_before start of_start year before le =
+    let later = not_later (of_start +ℤ pos 1) (year +ℤ pos 1) (omega (arith, ints)) in
+    omega (arith, ints)
+
+module _ (zone : Zone) (sets : HasSetsInOrder zone) where
+  -- the line starts by the end of its last year
+  some_start : (i : ℕ) (name : List ℕ) (year : ℤ) → IsLastYear zone (suc i) name year → (start : ℤ) × Ends zone i start × (start ≤ℤ year_second (year +ℤ pos 1))
+  some_start i name year (named, last, start, ends, of_start, lies, greatest) =
+      (start, ends, start_before start of_start year lies.not_over (omega (arith, ints, clamps)))
+
+  pub begun_when_settled : (i : ℕ) (name : List ℕ) (year t : ℤ) → IsLastYear zone i name year → settled year ≤ℤ t → HasBegun zone i t
+  begun_when_settled zero name year t last le = tt
+  begun_when_settled (suc i) name year t last le =
+      let (start, ends, before) = some_start i name year last in
+      (start, ends, omega (arith, ints))
+
+  kept_by_within : (i : ℕ) (line : ZoneLine) (t : ℤ) (kept : Kept) → line_at zone i ≡ Some line → KeepsBy zone line t kept → IsWithinDay kept.saving
+  kept_by_within i line t kept at keeps =
+      saving_within zone.source.rules line line.rules _ kept sets.sound.rules (sound_line zone sets i line at).rules_known keeps
+
+  kept_within : (i : ℕ) (line : ZoneLine) (t : ℤ) (kept : Kept) → line_at zone i ≡ Some line → Keeps zone i line t kept → IsWithinDay kept.saving
+  unfolding Keeps
+  kept_within zero line t kept at keeps = kept_by_within zero line t kept at keeps
+  kept_within (suc i) line t kept at (end, window, keeps) = kept_by_within (suc i) line (int_max t end) kept at keeps
+
+  window_over : (i : ℕ) (line : ZoneLine) (name : List ℕ) (year end : ℤ) → IsLastYear zone (suc i) name year → line_at zone (suc i) ≡ Some line
+      → IsWindowEnd zone i (Keeps zone i) line end → end ≤ℤ settled year
+  window_over i line name year end last at window =
+      let (start, ends, before) = some_start i name year last in
+      let same : window.start ≡ start = one_end_of zone sets i window.start start window.starts ends in
+      let near = four_days window.start end window.earlier.offset window.kept.saving line.offset window.by_itself.saving
+      (sound_line zone sets i window.earlier window.is_earlier).offset
+      (kept_within i window.earlier (window.start -ℤ pos 1) window.kept window.is_earlier window.keeps)
+      (sound_line zone sets (suc i) line at).offset
+      (kept_by_within (suc i) line window.start window.by_itself at window.keeps_by_itself)
+      window.is in
+      omega (arith, ints)
+
+  pub keeps_by_itself : (i : ℕ) (line : ZoneLine) (name : List ℕ) (year t : ℤ) (kept : Kept) → IsLastYear zone i name year
+      → line_at zone i ≡ Some line → settled year ≤ℤ t → Keeps zone i line t kept → KeepsBy zone line t kept
+  unfolding Keeps
+  keeps_by_itself zero line name year t kept last at le keeps = keeps
+  keeps_by_itself (suc i) line name year t kept last at le (end, window, keeps) =
+      let over = window_over i line name year end last at window in
+      let same : int_max t end ≡ t = omega (arith, ints, clamps) in
+      subst (λ (s : ℤ). KeepsBy zone line s kept) same keeps
+
+  pub keeps_what_by_itself : (i : ℕ) (line : ZoneLine) (name : List ℕ) (year t : ℤ) (kept : Kept) → IsLastYear zone i name year
+      → line_at zone i ≡ Some line → settled year ≤ℤ t → KeepsBy zone line t kept → Keeps zone i line t kept
+  unfolding Keeps
+  keeps_what_by_itself zero line name year t kept last at le keeps = keeps
+  keeps_what_by_itself (suc i) line name year t kept last at le keeps =
+      let (other, (end, window, not_used)) = some_kept zone sets (suc i) line t at in
+      let over = window_over i line name year end last at window in
+      let same : t ≡ int_max t end = omega (arith, ints, clamps) in
+      (end, window, subst (λ (s : ℤ). KeepsBy zone line s kept) same keeps)

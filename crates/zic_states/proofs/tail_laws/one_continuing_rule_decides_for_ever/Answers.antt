@@ -1,0 +1,5 @@
+use Rattle.zic_states.proofs.TailKept.{by_one}
+use Rattle.zic_states.proofs.tail_laws.one_continuing_rule_decides_for_ever.Goals as goal
+
+pub returns : goal.returns
+returns c = by_one
