@@ -25,3 +25,4 @@ pub mod TailYears
 pub mod TailSet
 pub mod TailWindow
 pub mod TailKept
+pub mod TailShown

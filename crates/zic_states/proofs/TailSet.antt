@@ -8,7 +8,7 @@ use Rattle.zic_occurrences.specs.Laws.{IsLastNotAfter}
 use Rattle.zic_occurrences.specs.Listing.{IsLastNamed}
 use Rattle.zic_occurrences.specs.Occurrence.{RuleSet, IsMember, Occurrence, IsOccurrence, year_second}
 use Rattle.zic_occurrences.specs.Order.{IsInstant}
-use Rattle.zic_occurrences.proofs.Bounds.{years_apart, sound_rule, two_years, instant_near_nominal, instant_to}
+use Rattle.zic_occurrences.proofs.Bounds.{years_apart, sound_rule, two_years, instant_near_nominal, instant_from, instant_to}
 use Rattle.zic_occurrences.proofs.Instants.{some_instant, instants_rise, last_not_after}
 use Rattle.zic_states.specs.Tail.{IsContinuing}
 use Rattle.zic_states.proofs.Ordered.{IsOrdered}
@@ -117,3 +117,21 @@ module _ (set : RuleSet) (offset year : ℤ) (given : IsNamedTo set offset year)
               let after = none (rule_in number rule (year +ℤ pos 1)) u is at in
               absurd (omega (arith, ints))
         ]
+
+    -- it has an occurrence between the fifth day after the year and the end
+    pub own_instant : (later : ℤ) × (u : ℤ) × IsOccurrence set (rule_in number rule later) × IsInstant set offset (rule_in number rule later) u
+        × ((year_second (year +ℤ pos 1) +ℤ pos (4 * 86_400)) ≤ℤ u) × (u <ℤ year_second (year +ℤ pos 3))
+    own_instant =
+        let is_one = occurs_after number rule (year +ℤ pos 1) member continues (omega (arith, ints)) in
+        let is_two = occurs_after number rule (year +ℤ pos 2) member continues (omega (arith, ints)) in
+        let (u, at_u) = some_instant set offset (rule_in number rule (year +ℤ pos 1)) sound is_one in
+        let (v, at_v) = some_instant set offset (rule_in number rule (year +ℤ pos 2)) sound is_two in
+        let before = next_past u at_u in
+        by_lt_z u (year_second (year +ℤ pos 1) +ℤ pos (4 * 86_400))
+        (λ early.
+        let near = two_instants number rule member continues u v at_u at_v in
+        let from = instant_from set offset (rule_in number rule (year +ℤ pos 2)) v sound within is_two at_v in
+        let one = years_apart (year +ℤ pos 1) (year +ℤ pos 2) (omega (arith, ints)) in
+        let two = years_apart (year +ℤ pos 2) (year +ℤ pos 3) (omega (arith, ints)) in
+        (year +ℤ pos 2, v, is_two, at_v, omega (arith, ints), omega (arith, ints)))
+        (λ late. (year +ℤ pos 1, u, is_one, at_u, late, omega (arith, ints)))

@@ -1,14 +1,16 @@
 -- Laws of what a zone shows from its explicit end on: each is the contract of a function of the module `tail_laws`.
-use Rattle.std.specs.Prelude.{ℕ, ℤ, pos, ◌+ℤ◌, ◌-ℤ◌, ◌≤ℤ◌, List}
+use Rattle.std.specs.Prelude.{ℕ, ℤ, pos, ◌+ℤ◌, ◌-ℤ◌, ◌<ℤ◌, ◌≤ℤ◌, List}
 use Rattle.zic_lines.specs.declared.rule.Rule.{Rule}
 use Rattle.zic_lines.specs.declared.zone_line.ZoneLine.{ZoneLine}
 use Rattle.zic_occurrences.specs.Occurrence.{year_second}
 use Rattle.zic_states.specs.End.{IsLastLine, IsEnd}
+use Rattle.zic_states.specs.Fault.{HasNoLetter, HasBadAbbreviation}
 use Rattle.zic_states.specs.Kept.{Kept, kept_of}
 use Rattle.zic_states.specs.Laws.{HasSetsInOrder, IsOrderly}
+use Rattle.zic_states.specs.State.{Shown}
 use Rattle.zic_states.specs.Tail.{HasContinuing, IsOnlyContinuing, HasNoSet, HasLastSet, KeepsFrom, KeepsByContinuing}
 use Rattle.zic_states.specs.Until.{set_of}
-use Rattle.zic_states.specs.Zone.{Zone, HasBegun, Governs}
+use Rattle.zic_states.specs.Zone.{Zone, HasBegun, Governs, ZoneKeeps, Shows}
 
 -- From its start on the last line governs, and so it does from one second before the explicit end on.
 pub record LastLineGoverns : Type 0 where
@@ -44,3 +46,15 @@ ByNone =
     (zone : Zone) → IsOrderly zone → (i : ℕ) (line : ZoneLine) (name : List ℕ) (year : ℤ) → HasLastSet zone i line name year
     → (HasContinuing (set_of zone.source.rules name) → ⊥)
     → (kept : Kept) × KeepsFrom zone (year_second (year +ℤ pos 3) -ℤ pos 1) line kept
+
+-- What the zone keeps at some instant it keeps before the end; so what it shows at some instant it shows before the end, and a
+-- fault of some instant is one of an instant before the end.
+pub record KeptBefore : Type 0 where
+  pub keeps : (zone : Zone) → IsOrderly zone → (end : ℤ) → IsEnd zone end → (t : ℤ) (line : ZoneLine) (kept : Kept)
+      → ZoneKeeps zone t line kept → (u : ℤ) × (u <ℤ end) × ZoneKeeps zone u line kept
+  pub shows : (zone : Zone) → IsOrderly zone → (end : ℤ) → IsEnd zone end → (t : ℤ) (state : Shown) → Shows zone t state
+      → (u : ℤ) × (u <ℤ end) × Shows zone u state
+  pub no_letter : (zone : Zone) → IsOrderly zone → (end : ℤ) → IsEnd zone end → HasNoLetter zone
+      → (fault : HasNoLetter zone) × (fault.t <ℤ end)
+  pub bad_abbreviation : (zone : Zone) → IsOrderly zone → (end : ℤ) → IsEnd zone end → HasBadAbbreviation zone
+      → (fault : HasBadAbbreviation zone) × (fault.t <ℤ end)

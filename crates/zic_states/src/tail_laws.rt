@@ -1,6 +1,6 @@
 //! Laws of what zones show from their explicit ends on, as contracts: no function here does anything. The crates above cite the
 //! lemmas in `proofs/` that prove them.
-ghost use Rattle.zic_states.specs.TailLaws.{LastLineGoverns, FixedTail, ByContinuing, ByOne, ByNone};
+ghost use Rattle.zic_states.specs.TailLaws.{LastLineGoverns, FixedTail, ByContinuing, ByOne, ByNone, KeptBefore};
 
 /// From its start on, and so from one second before the explicit end on, the last line governs.
 pub fn the_last_line_governs()
@@ -25,4 +25,9 @@ pub fn one_continuing_rule_decides_for_ever()
 /// Where none goes on for ever, the zone keeps one thing from the explicit end on.
 pub fn without_a_continuing_rule_one_thing_is_kept()
     ensures { ByNone }
+{}
+
+/// What is kept or shown at some instant is kept or shown before the explicit end.
+pub fn all_is_kept_before_the_end()
+    ensures { KeptBefore }
 {}
