@@ -26,3 +26,5 @@ pub mod TailSet
 pub mod TailWindow
 pub mod TailKept
 pub mod TailShown
+pub mod TailRepeats
+pub mod TailForEver

@@ -118,16 +118,16 @@ module _ (set : RuleSet) (offset year : ℤ) (given : IsNamedTo set offset year)
               absurd (omega (arith, ints))
         ]
 
-    -- it has an occurrence between the fifth day after the year and the end
+    -- it has an occurrence between the 22nd day after the year and the end
     pub own_instant : (later : ℤ) × (u : ℤ) × IsOccurrence set (rule_in number rule later) × IsInstant set offset (rule_in number rule later) u
-        × ((year_second (year +ℤ pos 1) +ℤ pos (4 * 86_400)) ≤ℤ u) × (u <ℤ year_second (year +ℤ pos 3))
+        × ((year_second (year +ℤ pos 1) +ℤ pos (21 * 86_400)) ≤ℤ u) × (u <ℤ year_second (year +ℤ pos 3))
     own_instant =
         let is_one = occurs_after number rule (year +ℤ pos 1) member continues (omega (arith, ints)) in
         let is_two = occurs_after number rule (year +ℤ pos 2) member continues (omega (arith, ints)) in
         let (u, at_u) = some_instant set offset (rule_in number rule (year +ℤ pos 1)) sound is_one in
         let (v, at_v) = some_instant set offset (rule_in number rule (year +ℤ pos 2)) sound is_two in
         let before = next_past u at_u in
-        by_lt_z u (year_second (year +ℤ pos 1) +ℤ pos (4 * 86_400))
+        by_lt_z u (year_second (year +ℤ pos 1) +ℤ pos (21 * 86_400))
         (λ early.
         let near = two_instants number rule member continues u v at_u at_v in
         let from = instant_from set offset (rule_in number rule (year +ℤ pos 2)) v sound within is_two at_v in

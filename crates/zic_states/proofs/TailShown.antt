@@ -76,7 +76,7 @@ continuing_or_none set =
 abbrev KeepsBefore : Zone → ℤ → ZoneLine → Kept → Type 0
 KeepsBefore zone end line kept = (u : ℤ) × (u <ℤ end) × ZoneKeeps zone u line kept
 
-by_same : (zone : Zone) (u end : ℤ) (a b : ZoneLine) (k l : Kept) → u <ℤ end → a ≡ b → k ≡ l → ZoneKeeps zone u b l → KeepsBefore zone end a k
+pub by_same : (zone : Zone) (u end : ℤ) (a b : ZoneLine) (k l : Kept) → u <ℤ end → a ≡ b → k ≡ l → ZoneKeeps zone u b l → KeepsBefore zone end a k
 by_same zone u end a b k l lt line kept keeps =
     let by_line = subst (λ (x : ZoneLine). ZoneKeeps zone u x l) (sym line) keeps in
     (u, lt, subst (λ (x : Kept). ZoneKeeps zone u a x) (sym kept) by_line)
@@ -106,7 +106,7 @@ module _ (zone : Zone) (orderly : IsOrderly zone) (i : ℕ) (line : ZoneLine) (l
             let (later, u, is, at, late, before) = own_instant (set_of zone.source.rules name) line.offset year (given zone orderly i line name year tail)
             by.occurrence.number by.occurrence.rule by.current.is.member by.continues in
             let same = by.keeps.only other thing keeps in
-            let own = keeps_from_last zone orderly i line name year tail u (rule_in by.occurrence.number by.occurrence.rule later) u late
+            let own = keeps_from_last zone orderly i line name year tail u (rule_in by.occurrence.number by.occurrence.rule later) u (omega (arith, ints))
             (record { is = is; instant = at; not_after = omega (arith, ints); last = λ q v is_q at_v not_after. not_after }) in
             by_same zone u (year_second (year +ℤ pos 3)) other line thing (kept_from by.occurrence) before same.0 same.1 own.keeps
         | inr none ↦

@@ -1,5 +1,5 @@
 -- What decides what a zone shows from its explicit end on: the rules of the last line's set that have no last year.
-use Rattle.std.specs.Prelude.{◌≡◌, ℕ, ℤ, ◌<ℤ◌, ◌≤ℤ◌, List, None}
+use Rattle.std.specs.Prelude.{◌≡◌, ℕ, ◌*◌, ℤ, pos, ◌+ℤ◌, ◌<ℤ◌, ◌≤ℤ◌, List, None}
 use Rattle.zic_lines.specs.declared.rule.Rule.{Rule}
 use Rattle.zic_lines.specs.declared.rules.Rules.{Rules}
 use Rattle.zic_lines.specs.declared.rules.Rules.TheVariants.{Standard, Amount, Set}
@@ -8,8 +8,9 @@ use Rattle.zic_occurrences.specs.Laws.{IsLastNotAfter}
 use Rattle.zic_occurrences.specs.Occurrence.{RuleSet, IsMember, Occurrence}
 use Rattle.zic_states.specs.End.{IsLastLine, IsLastYear}
 use Rattle.zic_states.specs.Kept.{Kept, kept_from}
+use Rattle.zic_states.specs.State.{Shown}
 use Rattle.zic_states.specs.Until.{set_of}
-use Rattle.zic_states.specs.Zone.{Zone, ZoneKeeps}
+use Rattle.zic_states.specs.Zone.{Zone, ZoneKeeps, Shows}
 
 -- The rule goes on for ever: it has no last year.
 abbrev pub IsContinuing : Rule → Type 0
@@ -55,3 +56,9 @@ pub record KeepsByContinuing (zone : Zone) (t : ℤ) (line : ZoneLine) (name : L
   pub after : year <ℤ occurrence.year
   pub continues : IsContinuing occurrence.rule
   pub keeps : KeepsJust zone t line (kept_from occurrence)
+
+-- From this instant on the zone keeps and shows after 400 years, which are 146,097 days, what it keeps and shows.
+pub record Repeats (zone : Zone) (start : ℤ) : Type 0 where
+  pub keeps : (t : ℤ) (line : ZoneLine) (kept : Kept) → start ≤ℤ t → ZoneKeeps zone t line kept
+      → ZoneKeeps zone (t +ℤ pos (146_097 * 86_400)) line kept
+  pub shows : (t : ℤ) (state : Shown) → start ≤ℤ t → Shows zone t state → Shows zone (t +ℤ pos (146_097 * 86_400)) state

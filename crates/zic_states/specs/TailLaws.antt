@@ -2,13 +2,14 @@
 use Rattle.std.specs.Prelude.{ℕ, ℤ, pos, ◌+ℤ◌, ◌-ℤ◌, ◌<ℤ◌, ◌≤ℤ◌, List}
 use Rattle.zic_lines.specs.declared.rule.Rule.{Rule}
 use Rattle.zic_lines.specs.declared.zone_line.ZoneLine.{ZoneLine}
-use Rattle.zic_occurrences.specs.Occurrence.{year_second}
+use Rattle.zic_occurrences.specs.Laws.{IsLastNotAfter}
+use Rattle.zic_occurrences.specs.Occurrence.{Occurrence, year_second}
 use Rattle.zic_states.specs.End.{IsLastLine, IsEnd}
 use Rattle.zic_states.specs.Fault.{HasNoLetter, HasBadAbbreviation}
 use Rattle.zic_states.specs.Kept.{Kept, kept_of}
 use Rattle.zic_states.specs.Laws.{HasSetsInOrder, IsOrderly}
 use Rattle.zic_states.specs.State.{Shown}
-use Rattle.zic_states.specs.Tail.{HasContinuing, IsOnlyContinuing, HasNoSet, HasLastSet, KeepsFrom, KeepsByContinuing}
+use Rattle.zic_states.specs.Tail.{HasContinuing, IsOnlyContinuing, HasNoSet, HasLastSet, KeepsFrom, KeepsByContinuing, Repeats}
 use Rattle.zic_states.specs.Until.{set_of}
 use Rattle.zic_states.specs.Zone.{Zone, HasBegun, Governs, ZoneKeeps, Shows}
 
@@ -58,3 +59,12 @@ pub record KeptBefore : Type 0 where
       → (fault : HasNoLetter zone) × (fault.t <ℤ end)
   pub bad_abbreviation : (zone : Zone) → IsOrderly zone → (end : ℤ) → IsEnd zone end → HasBadAbbreviation zone
       → (fault : HasBadAbbreviation zone) × (fault.t <ℤ end)
+
+-- What a zone shows comes again after 400 years, from one second before the end on; and where a rule of the last line's set goes on
+-- for ever, from the last occurrence before the end on.
+pub record RepeatsForEver : Type 0 where
+  pub from_end : (zone : Zone) → IsOrderly zone → (end : ℤ) → IsEnd zone end → Repeats zone (end -ℤ pos 1)
+  pub from_last : (zone : Zone) → IsOrderly zone → (i : ℕ) (line : ZoneLine) (name : List ℕ) (year : ℤ)
+      → HasLastSet zone i line name year → HasContinuing (set_of zone.source.rules name) → (o : Occurrence) (start : ℤ)
+      → IsLastNotAfter (set_of zone.source.rules name) line.offset (year_second (year +ℤ pos 3) -ℤ pos 1) o start
+      → Repeats zone start

@@ -1,6 +1,6 @@
 //! Laws of what zones show from their explicit ends on, as contracts: no function here does anything. The crates above cite the
 //! lemmas in `proofs/` that prove them.
-ghost use Rattle.zic_states.specs.TailLaws.{LastLineGoverns, FixedTail, ByContinuing, ByOne, ByNone, KeptBefore};
+ghost use Rattle.zic_states.specs.TailLaws.{LastLineGoverns, FixedTail, ByContinuing, ByOne, ByNone, KeptBefore, RepeatsForEver};
 
 /// From its start on, and so from one second before the explicit end on, the last line governs.
 pub fn the_last_line_governs()
@@ -30,4 +30,9 @@ pub fn without_a_continuing_rule_one_thing_is_kept()
 /// What is kept or shown at some instant is kept or shown before the explicit end.
 pub fn all_is_kept_before_the_end()
     ensures { KeptBefore }
+{}
+
+/// What is shown comes again after 400 years, for ever.
+pub fn what_is_shown_repeats_for_ever()
+    ensures { RepeatsForEver }
 {}
