@@ -37,13 +37,13 @@ repeats : (zone : Zone) (start : ℤ)
 repeats zone start again = record {
   keeps = again;
   shows = λ t state le shown. record {
-        line = shown.line;
-        kept = shown.kept;
-        keeps = again t shown.line shown.kept le shown.keeps;
-        offset = shown.offset;
-        daylight = shown.daylight;
-        name = shown.name;
-      };
+    line = shown.line;
+    kept = shown.kept;
+    keeps = again t shown.line shown.kept le shown.keeps;
+    offset = shown.offset;
+    daylight = shown.daylight;
+    name = shown.name;
+  };
 }
 
 -- where one thing is kept for ever

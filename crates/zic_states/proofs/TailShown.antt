@@ -133,8 +133,7 @@ pub kept_before : KeptBefore
 kept_before = record {
   keeps = keeps_before;
   shows = λ zone orderly end is_end t state shown.
-      let (u, lt, keeps) = keeps_before zone orderly end is_end t shown.line shown.kept shown.keeps in
-      (
+      let (u, lt, keeps) = keeps_before zone orderly end is_end t shown.line shown.kept shown.keeps in (
         u,
         lt,
         record { line = shown.line; kept = shown.kept; keeps = keeps; offset = shown.offset; daylight = shown.daylight; name = shown.name },
@@ -143,8 +142,7 @@ kept_before = record {
       let (u, lt, keeps) = keeps_before zone orderly end is_end fault.t fault.line fault.kept fault.keeps in
       (record { t = u; line = fault.line; kept = fault.kept; keeps = keeps; wants = fault.wants }, lt);
   bad_abbreviation = λ zone orderly end is_end fault.
-      let (u, lt, keeps) = keeps_before zone orderly end is_end fault.t fault.shows.line fault.shows.kept fault.shows.keeps in
-      (
+      let (u, lt, keeps) = keeps_before zone orderly end is_end fault.t fault.shows.line fault.shows.kept fault.shows.keeps in (
         record {
           t = u;
           state = fault.state;
