@@ -23,7 +23,7 @@ use Rattle.zic_states.proofs.TailShown.{continuing_or_none}
 use Rattle.zic_states.proofs.TailWindow.{settled}
 
 -- what is kept at two instants alike, at the one where it is kept at the other
-at_both : (zone : Zone) (t u : ℤ) (line : ZoneLine) (kept : Kept) → KeepsJust zone t line kept → KeepsJust zone u line kept
+pub at_both : (zone : Zone) (t u : ℤ) (line : ZoneLine) (kept : Kept) → KeepsJust zone t line kept → KeepsJust zone u line kept
     → (other : ZoneLine) (thing : Kept) → ZoneKeeps zone t other thing → ZoneKeeps zone u other thing
 at_both zone t u line kept here there other thing keeps =
     let (same_line, same) = here.only other thing keeps in
