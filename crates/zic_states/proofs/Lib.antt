@@ -28,3 +28,4 @@ pub mod TailKept
 pub mod TailShown
 pub mod TailRepeats
 pub mod TailForEver
+pub mod TailChanges

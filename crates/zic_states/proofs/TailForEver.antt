@@ -12,18 +12,18 @@ use Rattle.zic_states.specs.End.{IsLastLine, IsEndBy, IsEnd}
 use Rattle.zic_states.specs.Kept.{Kept, kept_of, kept_from}
 use Rattle.zic_states.specs.Laws.{IsOrderly}
 use Rattle.zic_states.specs.Tail.{HasContinuing, IsOnlyContinuing, HasNoSet, HasLastSet, KeepsJust, KeepsFrom, Repeats}
-use Rattle.zic_states.specs.TailLaws.{RepeatsForEver}
+use Rattle.zic_states.specs.TailLaws.{RepeatsForEver, AlternatesForEver}
 use Rattle.zic_states.specs.Until.{set_of}
 use Rattle.zic_states.specs.Zone.{Zone, ZoneKeeps}
 use Rattle.zic_states.proofs.TailKept.{given, keeps_from_last, by_one, by_none}
 use Rattle.zic_states.proofs.TailLine.{governs_from_end, fixed_tail}
-use Rattle.zic_states.proofs.TailRepeats.{again, current_again, late_or_only}
+use Rattle.zic_states.proofs.TailRepeats.{again, current_again, late_or_only, follows_another}
 use Rattle.zic_states.proofs.TailSet.{rule_in, last_is_after, some_last, own_instant}
 use Rattle.zic_states.proofs.TailShown.{continuing_or_none}
 use Rattle.zic_states.proofs.TailWindow.{settled}
 
 -- what is kept at two instants alike, at the one where it is kept at the other
-at_both : (zone : Zone) (t u : ℤ) (line : ZoneLine) (kept : Kept) → KeepsJust zone t line kept → KeepsJust zone u line kept
+pub at_both : (zone : Zone) (t u : ℤ) (line : ZoneLine) (kept : Kept) → KeepsJust zone t line kept → KeepsJust zone u line kept
     → (other : ZoneLine) (thing : Kept) → ZoneKeeps zone t other thing → ZoneKeeps zone u other thing
 at_both zone t u line kept here there other thing keeps =
     let (same_line, same) = here.only other thing keeps in
@@ -146,3 +146,11 @@ repeats_for_ever = record {
       repeats_by zone orderly i line last line.rules end refl by is_end;
   from_last = λ zone orderly i line name year tail has o start last. from_last zone orderly i line name year tail has o start last;
 }
+
+pub alternates_for_ever : AlternatesForEver
+alternates_for_ever zone orderly i line name year tail has alternate o u last q is le =
+    let from = given zone orderly i line name year tail in
+    let (number, rule, member, continues) = has in
+    let after = last_is_after (set_of zone.source.rules name) line.offset year from number rule member continues
+    (year_second (year +ℤ pos 3) -ℤ pos 1) o u (omega (arith, ints)) last in
+    follows_another (set_of zone.source.rules name) line.offset year from alternate o u last after q is le

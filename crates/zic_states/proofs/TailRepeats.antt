@@ -1,17 +1,18 @@
 -- From the last occurrence before the explicit end on, occurrences come again after 400 years, which are 12,622,780,800 seconds.
-use Rattle.std.proofs.Common.{◌≡◌, ◌*◌, All, ◌⊎◌, inl, inr, refl, arith}
+use Rattle.std.proofs.Common.{◌≡◌, ℕ, ◌*◌, All, ◌⊎◌, inl, inr, refl, sym, arith}
 use Rattle.std.specs.Prelude.{ℤ, pos, ◌+ℤ◌, ◌-ℤ◌, ◌<ℤ◌, ◌≤ℤ◌}
 use Rattle.std.proofs.lemmas.Int.{ints, by_lt_z}
+use Rattle.zic_lines.specs.declared.rule.Rule.{Rule}
 use Rattle.zic_words.specs.declared.clock.ClockForm.{ClockForm}
 use Rattle.zic_words.specs.declared.clock.ClockForm.TheVariants.{Wall, Standard, Universal}
 use Rattle.zic_source.specs.Sound.{IsSoundRule}
 use Rattle.zic_occurrences.specs.Laws.{IsLastNotAfter}
-use Rattle.zic_occurrences.specs.Occurrence.{RuleSet, Occurrence, IsOccurrence, nominal, year_second}
+use Rattle.zic_occurrences.specs.Occurrence.{RuleSet, IsMember, Occurrence, IsOccurrence, nominal, year_second}
 use Rattle.zic_occurrences.specs.Order.{IsPredecessor, IsSavedBefore, IsInstant, IsInOrder, instant_by}
-use Rattle.zic_occurrences.proofs.Bounds.{nominal_to, two_years, nominal_second-period, instant_near_nominal}
+use Rattle.zic_occurrences.proofs.Bounds.{years_apart, nominal_from, nominal_to, two_years, nominal_second-period, instant_near_nominal}
 use Rattle.zic_occurrences.proofs.Instants.{saved_before, some_instant, instants_rise, tied_instants}
 use Rattle.zic_occurrences.proofs.Same.{one_instant}
-use Rattle.zic_states.specs.Tail.{IsOnlyContinuing}
+use Rattle.zic_states.specs.Tail.{IsContinuing, IsOnlyContinuing, Alternate, FollowsAnother}
 use Rattle.zic_states.proofs.Ends.{not_later}
 use Rattle.zic_states.proofs.TailSet.{rule_in, IsNamedTo, continues_after, occurs_after, own_instant}
 
@@ -207,4 +208,52 @@ module _ (set : RuleSet) (offset year : ℤ) (given : IsNamedTo set offset year)
       elim (late_or_not o saved is_saved) [
         | inl late ↦ inl late
         | inr not_late ↦ inr (only_one o u saved is_saved not_late last after)
+      ]
+
+  -- ---- rules that alternate
+
+  late_follows : Alternate set year → (q : Occurrence) → IsOccurrence set q → IsLate q → FollowsAnother set year q
+  late_follows alternate q is late =
+      let earlier = late.predecessor.earlier in
+      let from = late.late in
+      let after = is_after late.before late.predecessor.is from in
+      record {
+        before = late.before;
+        predecessor = late.predecessor;
+        after = after;
+        continues = continues_after set offset year given late.before late.predecessor.is after;
+        another = alternate q late.before is late.predecessor (is_after q is (omega (arith, ints))) after;
+      }
+
+  -- an occurrence four years after the year is late
+  fourth_is_late : (number : ℕ) (rule : Rule) → IsMember set number rule → IsContinuing rule → IsLate (rule_in number rule (year +ℤ pos 4))
+  fourth_is_late number rule member continues =
+      let second = occurs_after set offset year given number rule (year +ℤ pos 2) member continues (omega (arith, ints)) in
+      let fourth = occurs_after set offset year given number rule (year +ℤ pos 4) member continues (omega (arith, ints)) in
+      let less = two_years set (rule_in number rule (year +ℤ pos 2)) (rule_in number rule (year +ℤ pos 4)) sound second fourth (omega (arith, ints)) in
+      let from = nominal_from set (rule_in number rule (year +ℤ pos 2)) sound second in
+      let apart = years_apart (year +ℤ pos 1) (year +ℤ pos 2) (omega (arith, ints)) in
+      let (saved, is_saved) = saved_before set (rule_in number rule (year +ℤ pos 4)) sound fourth in
+      elim is_saved [
+        | inl (first, e) ↦
+            let least = first (rule_in number rule (year +ℤ pos 2)) second in
+            absurd (omega (arith, ints))
+        | inr (p, pred, e) ↦
+            let least = pred.greatest (rule_in number rule (year +ℤ pos 2)) second less in
+            record { before = p; predecessor = pred; late = omega (arith, ints) }
+      ]
+
+  -- a rule that goes on alone doesn't alternate
+  not_alone : (number : ℕ) (rule : Rule) → IsOnlyContinuing set number rule → Alternate set year → ⊥
+  not_alone number rule only alternate =
+      let fourth = occurs_after set offset year given number rule (year +ℤ pos 4) only.member only.continues (omega (arith, ints)) in
+      let follows = late_follows alternate (rule_in number rule (year +ℤ pos 4)) fourth (fourth_is_late number rule only.member only.continues) in
+      follows.another (sym (only.only follows.before.number follows.before.rule follows.predecessor.is.member follows.continues))
+
+  pub follows_another : Alternate set year → (o : Occurrence) (u : ℤ) → IsLastNotAfter set offset (year_second (year +ℤ pos 3) -ℤ pos 1) o u
+      → year <ℤ o.year → (q : Occurrence) → IsOccurrence set q → nominal o ≤ℤ nominal q → FollowsAnother set year q
+  follows_another alternate o u last after q is le =
+      elim (late_or_only o u last after) [
+        | inl late ↦ late_follows alternate q is (late_later o q late is le)
+        | inr only ↦ absurd (not_alone o.number o.rule only alternate)
       ]

@@ -1,11 +1,12 @@
 -- What decides what a zone shows from its explicit end on: the rules of the last line's set that have no last year.
-use Rattle.std.specs.Prelude.{◌≡◌, ℕ, ◌*◌, ℤ, pos, ◌+ℤ◌, ◌<ℤ◌, ◌≤ℤ◌, List, None}
+use Rattle.std.specs.Prelude.{◌≡◌, ◌≢◌, ℕ, ◌*◌, ℤ, pos, ◌+ℤ◌, ◌<ℤ◌, ◌≤ℤ◌, List, None}
 use Rattle.zic_lines.specs.declared.rule.Rule.{Rule}
 use Rattle.zic_lines.specs.declared.rules.Rules.{Rules}
 use Rattle.zic_lines.specs.declared.rules.Rules.TheVariants.{Standard, Amount, Set}
 use Rattle.zic_lines.specs.declared.zone_line.ZoneLine.{ZoneLine}
 use Rattle.zic_occurrences.specs.Laws.{IsLastNotAfter}
-use Rattle.zic_occurrences.specs.Occurrence.{RuleSet, IsMember, Occurrence}
+use Rattle.zic_occurrences.specs.Occurrence.{RuleSet, IsMember, Occurrence, IsOccurrence}
+use Rattle.zic_occurrences.specs.Order.{IsPredecessor}
 use Rattle.zic_states.specs.End.{IsLastLine, IsLastYear}
 use Rattle.zic_states.specs.Kept.{Kept, kept_from}
 use Rattle.zic_states.specs.State.{Shown}
@@ -25,6 +26,19 @@ pub record IsOnlyContinuing (set : RuleSet) (number : ℕ) (rule : Rule) : Type 
   pub member : IsMember set number rule
   pub continues : IsContinuing rule
   pub only : (other : ℕ) (its : Rule) → IsMember set other its → IsContinuing its → other ≡ number
+
+-- No two neighbouring occurrences of years after this one are of one rule.
+abbrev pub Alternate : RuleSet → ℤ → Type 0
+Alternate set year =
+    (o p : Occurrence) → IsOccurrence set o → IsPredecessor set o p → year <ℤ o.year → year <ℤ p.year → o.number ≢ p.number
+
+-- The occurrence before this one is of another rule, which goes on for ever, and of a year after this one.
+pub record FollowsAnother (set : RuleSet) (year : ℤ) (o : Occurrence) : Type 0 where
+  pub before : Occurrence
+  pub predecessor : IsPredecessor set o before
+  pub after : year <ℤ before.year
+  pub continues : IsContinuing before.rule
+  pub another : o.number ≢ before.number
 
 -- RULES name no set
 abbrev pub HasNoSet : Rules → Type 0

@@ -1,15 +1,16 @@
 -- Laws of what a zone shows from its explicit end on: each is the contract of a function of the module `tail_laws`.
-use Rattle.std.specs.Prelude.{ℕ, ℤ, pos, ◌+ℤ◌, ◌-ℤ◌, ◌<ℤ◌, ◌≤ℤ◌, List}
+use Rattle.std.specs.Prelude.{◌<◌, ℕ, ℤ, pos, ◌+ℤ◌, ◌-ℤ◌, ◌<ℤ◌, ◌≤ℤ◌, List, length}
 use Rattle.zic_lines.specs.declared.rule.Rule.{Rule}
 use Rattle.zic_lines.specs.declared.zone_line.ZoneLine.{ZoneLine}
 use Rattle.zic_occurrences.specs.Laws.{IsLastNotAfter}
-use Rattle.zic_occurrences.specs.Occurrence.{Occurrence, year_second}
+use Rattle.zic_occurrences.specs.Occurrence.{Occurrence, IsOccurrence, nominal, year_second}
+use Rattle.zic_states.specs.Change.{IsChange, IsAfterChanges}
 use Rattle.zic_states.specs.End.{IsLastLine, IsEnd}
 use Rattle.zic_states.specs.Fault.{HasNoLetter, HasBadAbbreviation}
 use Rattle.zic_states.specs.Kept.{Kept, kept_of}
 use Rattle.zic_states.specs.Laws.{HasSetsInOrder, IsOrderly}
 use Rattle.zic_states.specs.State.{Shown}
-use Rattle.zic_states.specs.Tail.{HasContinuing, IsOnlyContinuing, HasNoSet, HasLastSet, KeepsFrom, KeepsByContinuing, Repeats}
+use Rattle.zic_states.specs.Tail.{HasContinuing, IsOnlyContinuing, HasNoSet, HasLastSet, KeepsFrom, KeepsByContinuing, Alternate, FollowsAnother, Repeats}
 use Rattle.zic_states.specs.Until.{set_of}
 use Rattle.zic_states.specs.Zone.{Zone, HasBegun, Governs, ZoneKeeps, Shows}
 
@@ -68,3 +69,27 @@ pub record RepeatsForEver : Type 0 where
       → HasLastSet zone i line name year → HasContinuing (set_of zone.source.rules name) → (o : Occurrence) (start : ℤ)
       → IsLastNotAfter (set_of zone.source.rules name) line.offset (year_second (year +ℤ pos 3) -ℤ pos 1) o start
       → Repeats zone start
+
+-- Where rules of the last line's set go on for ever and alternate, each occurrence from the last before the end on follows one of
+-- another rule.
+abbrev pub AlternatesForEver : Type 0
+AlternatesForEver =
+    (zone : Zone) → IsOrderly zone → (i : ℕ) (line : ZoneLine) (name : List ℕ) (year : ℤ) → HasLastSet zone i line name year
+    → HasContinuing (set_of zone.source.rules name) → Alternate (set_of zone.source.rules name) year → (o : Occurrence) (u : ℤ)
+    → IsLastNotAfter (set_of zone.source.rules name) line.offset (year_second (year +ℤ pos 3) -ℤ pos 1) o u
+    → (q : Occurrence) → IsOccurrence (set_of zone.source.rules name) q → nominal o ≤ℤ nominal q
+    → FollowsAnother (set_of zone.source.rules name) year q
+
+-- What the zone shows at an instant before the end it shows since the last change.
+abbrev pub StaysSinceChange : Type 0
+StaysSinceChange =
+    (zone : Zone) → IsOrderly zone → zone.number < length zone.source.zones → (HasNoLetter zone → ⊥)
+    → (end s t : ℤ) → IsEnd zone end → s ≤ℤ t → t <ℤ end → ((u : ℤ) → IsChange zone u → s <ℤ u → t <ℤ u)
+    → (state : Shown) → Shows zone t state → Shows zone s state
+
+-- A zone that keeps one thing from one second before the end on shows one state after all changes.
+abbrev pub OneStateAfterChanges : Type 0
+OneStateAfterChanges =
+    (zone : Zone) → IsOrderly zone → zone.number < length zone.source.zones → (HasNoLetter zone → ⊥)
+    → (end : ℤ) (line : ZoneLine) (kept : Kept) → IsEnd zone end → KeepsFrom zone (end -ℤ pos 1) line kept
+    → (state : Shown) → Shows zone (end -ℤ pos 1) state → (t : ℤ) → IsAfterChanges zone t → Shows zone t state

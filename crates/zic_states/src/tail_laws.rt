@@ -1,6 +1,6 @@
 //! Laws of what zones show from their explicit ends on, as contracts: no function here does anything. The crates above cite the
 //! lemmas in `proofs/` that prove them.
-ghost use Rattle.zic_states.specs.TailLaws.{LastLineGoverns, FixedTail, ByContinuing, ByOne, ByNone, KeptBefore, RepeatsForEver};
+ghost use Rattle.zic_states.specs.TailLaws.{LastLineGoverns, FixedTail, ByContinuing, ByOne, ByNone, KeptBefore, RepeatsForEver, AlternatesForEver, StaysSinceChange, OneStateAfterChanges};
 
 /// From its start on, and so from one second before the explicit end on, the last line governs.
 pub fn the_last_line_governs()
@@ -35,4 +35,19 @@ pub fn all_is_kept_before_the_end()
 /// What is shown comes again after 400 years, for ever.
 pub fn what_is_shown_repeats_for_ever()
     ensures { RepeatsForEver }
+{}
+
+/// Where rules go on for ever and alternate, each occurrence from the last before the explicit end on follows one of another rule.
+pub fn rules_alternate_for_ever()
+    ensures { AlternatesForEver }
+{}
+
+/// What is shown at an instant before the explicit end is shown since the last change.
+pub fn a_state_stays_since_its_change()
+    ensures { StaysSinceChange }
+{}
+
+/// Where one thing is kept for ever, one state is shown after all changes.
+pub fn one_state_is_shown_after_all_changes()
+    ensures { OneStateAfterChanges }
 {}
