@@ -1,8 +1,8 @@
 //! The explicit end of a zone.
 
-ghost use Rattle.std.specs.Prelude.{◌≡◌, true, pos, IfSome};
+ghost use Rattle.std.specs.Prelude.{◌≡◌, ◌≤◌, true, pos, IfSome};
 ghost use Rattle.zic_source.specs.Source.{is_set};
-ghost use Rattle.zic_source.specs.Sound.{IsSoundLine};
+ghost use Rattle.zic_source.specs.Sound.{IsSoundSource, IsSoundLine};
 ghost use Rattle.zic_states.specs.End.{IsYearOf};
 ghost use Rattle.zic_states.specs.Until.{set_of};
 ghost use Rattle.zic_stretches.specs.Stretch.{zone_of};
@@ -31,9 +31,11 @@ pub(crate) fn year_of(instant: i64) -> u16
 
 /// The last year that a set names, or in which its line starts.
 fn last_year(source: &Source, set: &SetName, start: Option<i64>) -> u16
+    requires sound { IsSoundSource source.now }
     requires set { is_set set.now source.now.rules ≡ true }
     requires start { IfSome start (IsInYears 9002) }
-    ensures { IsLastYearFrom (set_of source.now.rules set.now) start result }
+    ensures last { IsLastYearFrom (set_of source.now.rules set.now) start result }
+    ensures range { result ≤ 9001 }
 {
     let named = last_named_year(source, set);
     match start {
@@ -50,6 +52,7 @@ pub(crate) fn end_of(
     line: &ZoneLine,
     start: Option<i64>,
 ) -> i64
+    requires sound { IsSoundSource source.now }
     requires line { IsSoundLine source.now.rules line.now }
     requires start { IsStart (zone_of source.now zone) number start }
     requires in_years { IfSome start (IsInYears 9002) }

@@ -3,6 +3,7 @@
 ghost use Rattle.std.specs.Prelude.{◌≡◌, ◌<◌, ◌<ℤ◌, ◌++◌, map, IfOk, IfSome, length};
 ghost use Rattle.std.specs.Option.{ForSome};
 ghost use Rattle.zic_source.specs.Source.{zone_at, lines_of_zone};
+ghost use Rattle.zic_source.specs.Sound.{IsSoundSource};
 ghost use Rattle.zic_states.specs.ByList.{AreRising, before, not_after};
 ghost use Rattle.zic_stretches.specs.Stretch.{zone_of};
 ghost use Rattle.zic_stretches.specs.code.End.{IsInYears};
@@ -27,6 +28,7 @@ pub(crate) fn add_stretches(
     occurrences: &[TimedOccurrence],
     stretches: &mut Vec<Stretch>,
 ) -> Result<(), AllocError>
+    requires sound { IsSoundSource source.now }
     requires zone { zone < length source.now.zones }
     requires number { ForSome (zone_at source.now zone) (λ lines. number < length (lines_of_zone lines)) }
     requires start { IfSome start (λ s. IsInYears 9002 s × (s <ℤ end)) }

@@ -5,6 +5,7 @@ ghost use Rattle.std.specs.Option.{ForSome};
 ghost use Rattle.zic_base.specs.Fault.{fault_of};
 ghost use Rattle.zic_base.specs.Memory.{IfRefusal};
 ghost use Rattle.zic_source.specs.Source.{zone_at, lines_of_zone};
+ghost use Rattle.zic_source.specs.Sound.{IsSoundSource};
 ghost use Rattle.zic_states.specs.End.{IsEnd};
 ghost use Rattle.zic_states.specs.Fault.{HasRulesOutOfOrder, HasUntilNotRising};
 ghost use Rattle.zic_states.specs.Zone.{lines_of};
@@ -33,6 +34,7 @@ pub fn stretches(alloc: Global, source: &Source, zone: usize) -> Result<Stretche
     ensures all { IfOk result (λ s. AreStretches (zone_of source.now zone) s.end s.list.items) }
     ensures err { IfRefusal fault_of result (IsFaultOfStretches (zone_of source.now zone)) }
 {
+    prove!(zone < source.zones());
     let last = source.lines(zone) - 1;
     let mut list = Vec::new(alloc);
     let mut start = None;
@@ -52,6 +54,7 @@ fn add_line(
     start: Option<i64>,
     stretches: &mut Vec<Stretch>,
 ) -> Result<i64, Stop>
+    requires sound { IsSoundSource source.now }
     requires zone { zone < length source.now.zones }
     requires number { ForSome (zone_at source.now zone) (λ lines. number + 1 < length (lines_of_zone lines)) }
     requires walked { IsWalkedTo (zone_of source.now zone) number start stretches.old.items }
@@ -90,6 +93,7 @@ fn add_last(
     start: Option<i64>,
     stretches: &mut Vec<Stretch>,
 ) -> Result<i64, Stop>
+    requires sound { IsSoundSource source.now }
     requires zone { zone < length source.now.zones }
     requires number { ForSome (zone_at source.now zone) (λ lines. number + 1 ≡ length (lines_of_zone lines)) }
     requires walked { IsWalkedTo (zone_of source.now zone) number start stretches.old.items }
@@ -114,6 +118,7 @@ fn add_last(
 /// Why a zone has no stretches where the UNTIL of a line doesn't rise: the set of this line or of a later one is out of order,
 /// or else that.
 fn not_rising(alloc: Global, source: &Source, zone: usize, next: usize) -> Stop
+    requires sound { IsSoundSource source.now }
     requires zone { zone < length source.now.zones }
     requires order { AreOrderedTo (zone_of source.now zone) next }
     requires falls { HasUntilNotRising (zone_of source.now zone) }
@@ -127,6 +132,7 @@ fn not_rising(alloc: Global, source: &Source, zone: usize, next: usize) -> Stop
 
 /// Whether the set of each line from this one on is in order.
 fn order_of_rest(alloc: Global, source: &Source, zone: usize, next: usize) -> Result<(), Stop>
+    requires sound { IsSoundSource source.now }
     requires zone { zone < length source.now.zones }
     requires order { AreOrderedTo (zone_of source.now zone) next }
     ensures order { IfOk result (λ _. HasRulesOutOfOrder (zone_of source.now zone) → ⊥) }

@@ -3,7 +3,7 @@
 ghost use Rattle.std.specs.Prelude.{◌≡◌, ◌<◌, ◌*◌, pos, ◌+ℤ◌, ◌<ℤ◌, ◌≤ℤ◌, None, Some, IfSome, length};
 ghost use Rattle.std.specs.Option.{ForSome};
 ghost use Rattle.zic_source.specs.Source.{zone_at, lines_of_zone};
-ghost use Rattle.zic_source.specs.Sound.{IsSoundLine};
+ghost use Rattle.zic_source.specs.Sound.{IsSoundSource, IsSoundLine};
 ghost use Rattle.zic_states.specs.ByList.{rule_at};
 ghost use Rattle.zic_states.specs.Kept.{IsRuleOf};
 ghost use Rattle.zic_states.specs.Zone.{line_at};
@@ -26,6 +26,7 @@ pub(crate) fn window_end(
     mine: &[TimedOccurrence],
     stretches: &[Stretch],
 ) -> i64
+    requires sound { IsSoundSource source.now }
     requires zone { zone < length source.now.zones }
     requires number { ForSome (zone_at source.now zone) (λ lines. number < length (lines_of_zone lines)) }
     requires start { IsInYears 9002 start }
@@ -50,6 +51,7 @@ fn last_rule(stretches: &[Stretch]) -> Option<u16>
 
 /// The total offset of a line by this rule, or before all occurrences.
 fn total_offset(source: &Source, line: &ZoneLine, rule: Option<u16>) -> i64
+    requires sound { IsSoundSource source.now }
     requires line { IsSoundLine source.now.rules line.now }
     requires rule { IsRuleOf source.now.rules line.now.rules rule }
     ensures { IsTotalOffset source.now.rules line.now rule result }

@@ -16,7 +16,7 @@ ComesAfter (Some start) t = start <ℤ t
 
 -- From `start` to the first stretch the line of this number holds by this rule, from each stretch to the next that stretch's line by
 -- its rule, and from the last up to the end.
-pub AreHeld : Zone → ℤ → Option ℤ → ℕ → Option ℕ → List Stretch → Type 0
+unfoldable pub AreHeld : Zone → ℤ → Option ℤ → ℕ → Option ℕ → List Stretch → Type 0
 AreHeld zone end start number rule [] = (t : ℤ) → IsFrom start t → t <ℤ end → Holds zone t number rule
 AreHeld zone end start number rule (s ∷ ss) =
     ComesAfter start s.from × (s.from <ℤ end)
