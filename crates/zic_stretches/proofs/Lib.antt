@@ -5,3 +5,5 @@ pub mod Mine
 pub mod Untils
 pub mod Tells
 pub mod Windows
+pub mod Added
+pub mod Outcomes

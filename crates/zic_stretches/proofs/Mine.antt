@@ -16,7 +16,7 @@ int_le-false : (a b : ℤ) → b <ℤ a → int_le a b ≡ false
 int_le-false a b h = grind (arith, ints)
 
 module _ {A : Type 0} (test : A → Bool) where
-  filter_all : (xs : List A) → All (λ x. test x ≡ true) xs → filter test xs ≡ xs
+  pub filter_all : (xs : List A) → All (λ x. test x ≡ true) xs → filter test xs ≡ xs
   filter_all [] all = refl
   filter_all (x ∷ xs) all =
       rw (All-head (λ y. test y ≡ true) x xs all) (ap (λ (l : List A). x ∷ l) (filter_all xs (All-tail (λ y. test y ≡ true) x xs all)))
@@ -33,7 +33,7 @@ parted done rest t early late =
     let second = filter_none test rest (All-weaker (λ x. t <ℤ x.instant) (λ x. test x ≡ false) (λ x lt. int_le-false x.instant t lt) rest late) in
     filter-append test done rest ∙ ap (λ (l : List TimedOccurrence). l ++ filter test rest) first ∙ ap (λ (l : List TimedOccurrence). done ++ l) second ∙ append-nil done
 
-pub rule_of : Option TimedOccurrence → Option ℕ
+abbrev pub rule_of : Option TimedOccurrence → Option ℕ
 rule_of o = option_map (λ x. x.rule) o
 
 at_end : (xs : List TimedOccurrence) (x : TimedOccurrence) → slice_get (xs ++ x ∷ []) (length xs) ≡ Some x
@@ -45,7 +45,7 @@ last_pushed xs x =
     let place : length (xs ++ x ∷ []) - 1 ≡ length xs = omega (arith, length-append xs (x ∷ [])) in
     ap (slice_get (xs ++ x ∷ [])) place ∙ at_end xs x
 
-rising_tail : (x : TimedOccurrence) (xs : List TimedOccurrence) → AreRising (x ∷ xs) → AreRising xs × All (λ y. x.instant <ℤ y.instant) xs
+pub rising_tail : (x : TimedOccurrence) (xs : List TimedOccurrence) → AreRising (x ∷ xs) → AreRising xs × All (λ y. x.instant <ℤ y.instant) xs
 rising_tail x xs rising = (
   λ i j d lt within. rising (suc i) (suc j) d (omega arith) (omega arith),
   λ i d within. rising 0 (suc i) d (omega arith) (omega arith),
@@ -59,7 +59,7 @@ pub held_by_each : (zone : Zone) (number : ℕ) (end : ℤ) (g : ℤ → ℤ) (m
     → ((t : ℤ) → All (λ x. t <ℤ x.instant → g t <ℤ x.instant) rest)
     → AreRising rest → All (λ x. x.instant <ℤ end) rest → All (λ x. ComesAfter start x.instant) rest
     → AreHeld zone end start number (rule_of (last_of done)) (map (stretch_at number) rest)
-unfolding AreHeld rule_of
+unfolding AreHeld
 held_by_each zone number end g mine up done [] start same holds early late rising before after = λ t from lt.
     let at : not_after mine (g t) ≡ done = ap (λ (l : List TimedOccurrence). not_after l (g t)) (sym same) ∙ parted done [] (g t) (early t from) (All-nil (λ x. g t <ℤ x.instant)) in
     subst (λ (l : List TimedOccurrence). Holds zone t number (option_map (λ (x : TimedOccurrence). x.rule) (last_of l))) at (holds t from lt)

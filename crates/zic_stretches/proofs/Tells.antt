@@ -53,7 +53,7 @@ listed_for_until rules line until (Set name) xs has order listed = (order, rw ha
 pub before_limit : (xs : List TimedOccurrence) (limit : ℤ) → All (λ x. x.instant <ℤ limit) (before xs limit)
 before_limit xs limit = λ i d within. less_from_test (get_or (before xs limit) i d).instant limit (filter_passes (λ (x : TimedOccurrence). int_lt x.instant limit) xs i d within)
 
-rising_before : (xs : List TimedOccurrence) (limit : ℤ) → AreRising xs → AreRising (before xs limit)
+pub rising_before : (xs : List TimedOccurrence) (limit : ℤ) → AreRising xs → AreRising (before xs limit)
 rising_before xs limit rising = AllPairs-filter (λ a b. a.instant <ℤ b.instant) (λ x. int_lt x.instant limit) xs rising
 
 listed_fixed : (rules : List Rule) (offset limit : ℤ) (says : Rules) (xs : List TimedOccurrence) → IsFixed says → AreListedFor rules offset limit says xs
