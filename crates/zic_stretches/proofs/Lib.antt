@@ -7,3 +7,4 @@ pub mod Tells
 pub mod Windows
 pub mod Added
 pub mod Outcomes
+pub mod Walks

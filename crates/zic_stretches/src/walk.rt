@@ -10,6 +10,7 @@ ghost use Rattle.zic_states.specs.End.{IsEnd};
 ghost use Rattle.zic_states.specs.Fault.{HasRulesOutOfOrder, HasUntilNotRising};
 ghost use Rattle.zic_states.specs.Zone.{lines_of};
 ghost use Rattle.zic_stretches.specs.Stretch.{zone_of, AreStretches, IsFaultOfStretches};
+ghost use Rattle.zic_stretches.specs.code.End.{IsInYears};
 ghost use Rattle.zic_stretches.specs.code.Held.{AreSoFar, HeldTo};
 ghost use Rattle.zic_stretches.specs.code.Walk.{AreOrderedTo, DoRiseTo, IsWalkedTo};
 
@@ -99,6 +100,7 @@ fn add_last(
     requires walked { IsWalkedTo (zone_of source.now zone) number start stretches.old.items }
     ensures order { IfOk result (λ _. AreOrderedTo (zone_of source.now zone) (suc number)) }
     ensures end { IfOk result (λ end. IsEnd (zone_of source.now zone) end) }
+    ensures years { IfOk result (IsInYears 9900) }
     ensures held { IfOk result (λ end. HeldTo (zone_of source.now zone) number end stretches.new.items) }
     ensures err { IfRefusal fault_of result (IsFaultOfStretches (zone_of source.now zone)) }
 {
