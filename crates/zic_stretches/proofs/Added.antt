@@ -1,5 +1,5 @@
 -- A line's stretches added to those before it.
-use Rattle.std.proofs.Common.{◌≡◌, ℕ, zero, suc, ◌+◌, ◌-◌, ◌<◌, ◌≤◌, true, List, [], ◌∷◌, ◌++◌, length, map, get_or, Option, Some, None, refl, sym, ap, subst, ◌∙◌, arith, append_assoc, length-append, ⊎_elim, to_z, of_z, w64, ℤ, pos, ◌+ℤ◌, ◌<ℤ◌, ◌≤ℤ◌}
+use Rattle.std.proofs.Common.{◌≡◌, ℕ, zero, suc, ◌<◌, ◌≤◌, List, [], ◌∷◌, ◌++◌, length, map, get_or, Option, Some, None, refl, sym, ap, subst, ◌∙◌, arith, append_assoc, length-append, ⊎_elim, to_z, of_z, w64, ℤ, pos, ◌+ℤ◌, ◌<ℤ◌, ◌≤ℤ◌}
 use mir.Val.{SFits}
 use Rattle.std.specs.Prelude.{All, Contains, filter, flat_map, int_le, IfSome}
 use Rattle.std.specs.Int.{int_max}
@@ -13,14 +13,13 @@ use Rattle.zic_source.specs.Source.{ZoneLines, zone_at, lines_of_zone}
 use Rattle.zic_source.proofs.Elements.{cons_cases, contains_got, got}
 use Rattle.zic_occurrences.specs.declared.occurrence.TimedOccurrence.{TimedOccurrence}
 use Rattle.zic_states.specs.ByList.{AreRising, before, not_after, rule_at}
-use Rattle.zic_states.specs.Kept.{Kept, IsKeptBy}
 use Rattle.zic_states.specs.Zone.{Zone, line_at, Keeps}
 use Rattle.zic_states.proofs.Lines.{line_at_is}
 use Rattle.zic_states.proofs.Filters.{int_le-true, not_after_from_test, into_filter}
 use Rattle.zic_stretches.specs.declared.stretch.Stretch.{Stretch}
 use Rattle.zic_stretches.specs.Stretch.{Holds}
-use Rattle.zic_stretches.specs.code.Held.{IsFrom, ComesAfter, AreHeld, HeldTo, AreSoFar, last_line}
-use Rattle.zic_stretches.specs.code.Line.{TellsKept, IsLineTo, IsEndOfWindow, stretch_at, bound_of}
+use Rattle.zic_stretches.specs.code.Held.{AreHeld, HeldTo, AreSoFar, last_line}
+use Rattle.zic_stretches.specs.code.Line.{TellsKept, IsLineTo, IsEndOfWindow, stretch_at}
 use Rattle.zic_stretches.specs.code.End.{IsInYears}
 use Rattle.zic_stretches.proofs.Years.{small}
 use Rattle.zic_stretches.proofs.Held.{joined, last_line_joined}
@@ -63,12 +62,12 @@ late mine rest t split k d within =
     by_lt_z t x.instant
     (λ lt. lt)
     (λ le.
-        let has = contains_got rest k x (slice_get-get_or rest k d within) in
-        let kept = into_filter test rest x has (int_le-true x.instant t le) in
-        let own : filter test done ≡ done = filter_all test done (λ i c inside. filter_passes test mine i c inside) in
-        let whole : done ++ filter test rest ≡ done = ap (λ (l : List TimedOccurrence). l ++ filter test rest) (sym own) ∙ sym (filter-append test done rest) ∙ ap (filter test) split in
-        let lengths : length (done ++ filter test rest) ≡ length done = ap length whole in
-        absurd (omega (arith, lengths, kept.1, length-append done (filter test rest))))
+    let has = contains_got rest k x (slice_get-get_or rest k d within) in
+    let kept = into_filter test rest x has (int_le-true x.instant t le) in
+    let own : filter test done ≡ done = filter_all test done (λ i c inside. filter_passes test mine i c inside) in
+    let whole : done ++ filter test rest ≡ done = ap (λ (l : List TimedOccurrence). l ++ filter test rest) (sym own) ∙ sym (filter-append test done rest) ∙ ap (filter test) split in
+    let lengths : length (done ++ filter test rest) ≡ length done = ap length whole in
+    absurd (omega (arith, lengths, kept.1, length-append done (filter test rest))))
 
 pub last_line_of_each : (n : ℕ) (xs : List TimedOccurrence) → last_line n (map (stretch_at n) xs) ≡ n
 last_line_of_each n [] = refl
@@ -95,10 +94,10 @@ added_first zone zero end line mine old new at so_far is e =
     let tells = is.tells line at in
     let whole : new ≡ map (stretch_at 0) mine = e ∙ ap (λ (l : List Stretch). l ++ map (stretch_at 0) mine) so_far in
     let held = held_by_each zone 0 end (λ t. t) mine (λ t. omega (arith, ints)) [] mine None refl
-        (λ t from lt. holds_first zone end line mine at is t lt)
-        (λ t from. All-nil (λ x. x.instant ≤ℤ t))
-        (λ t k d within lt. lt)
-        tells.rising is.before_end (λ k d within. tt)
+    (λ t from lt. holds_first zone end line mine at is t lt)
+    (λ t from. All-nil (λ x. x.instant ≤ℤ t))
+    (λ t k d within lt. lt)
+    tells.rising is.before_end (λ k d within. tt)
     in
     subst (HeldTo zone 0 end) (sym whole) (record { held = held; last = last_line_of_each 0 mine })
 

@@ -1,5 +1,5 @@
 -- The explicit end.
-use Rattle.std.proofs.Common.{◌≡◌, ℕ, zero, suc, ◌≤◌, ◌<◌, max, List, Option, Some, None, refl, sym, ap, subst, ◌∙◌, arith, ℤ, pos, ◌+ℤ◌, ◌*ℤ◌, ◌<ℤ◌, ◌≤ℤ◌}
+use Rattle.std.proofs.Common.{◌≡◌, ℕ, zero, suc, ◌≤◌, max, List, Option, Some, None, refl, sym, ap, subst, ◌∙◌, arith, ℤ, pos, ◌+ℤ◌, ◌*ℤ◌, ◌<ℤ◌}
 use Rattle.std.specs.Prelude.{IfSome}
 use Rattle.std.specs.Int.{int_max}
 use Rattle.std.proofs.lemmas.Int.{ints}
@@ -9,12 +9,11 @@ use Rattle.zic_lines.specs.declared.rules.Rules.{Rules}
 use Rattle.zic_lines.specs.declared.rules.Rules.TheVariants.{Standard, Amount, Set}
 use Rattle.zic_lines.specs.declared.zone_line.ZoneLine.{ZoneLine}
 use Rattle.zic_occurrences.specs.Occurrence.{RuleSet, year_second}
-use Rattle.zic_occurrences.specs.Listing.{IsLastNamed}
-use Rattle.zic_states.specs.End.{IsYearOf, IsLastYear, IsEndBy}
+use Rattle.zic_states.specs.End.{IsLastYear, IsEndBy}
 use Rattle.zic_states.specs.Until.{set_of}
 use Rattle.zic_states.specs.Zone.{Zone}
 use Rattle.zic_stretches.specs.code.End.{IsStart, IsInYears, IsLastYearFrom, IsEndAfter, IsEndFrom}
-use Rattle.zic_stretches.proofs.Years.{years_rise, not_later, year_1970, year_before}
+use Rattle.zic_stretches.proofs.Years.{years_rise, not_later, year_1970}
 
 pub first_day : (year : ℤ) → pos 86_400 *ℤ form_day year 1 (Day 1) ≡ year_second year
 unfolding form_day year_second

@@ -1,6 +1,6 @@
 -- The stretches from a line's occurrences.
-use Rattle.std.proofs.Common.{◌≡◌, ℕ, suc, ◌+◌, ◌-◌, ◌<◌, Bool, true, false, List, [], ◌∷◌, ◌++◌, length, map, get_or, Option, Some, None, option_map, refl, sym, ap, subst, ◌∙◌, arith, append_assoc, append-nil, length-append, ℤ, ◌<ℤ◌, ◌≤ℤ◌}
-use Rattle.std.specs.Prelude.{All, AllPairs, filter, int_le, slice_get, Contains}
+use Rattle.std.proofs.Common.{◌≡◌, ℕ, suc, ◌-◌, Bool, true, false, List, [], ◌∷◌, ◌++◌, length, map, Option, Some, option_map, refl, sym, ap, subst, ◌∙◌, arith, append_assoc, append-nil, length-append, ℤ, ◌<ℤ◌, ◌≤ℤ◌}
+use Rattle.std.specs.Prelude.{All, filter, int_le, slice_get}
 use Rattle.std.proofs.lemmas.Int.{ints}
 use Rattle.std.proofs.lemmas.List.Elements.{All-head, All-tail, All-cons, All-nil, All-push, All-weaker, filter-append}
 use Rattle.zic_occurrences.specs.declared.occurrence.TimedOccurrence.{TimedOccurrence}
@@ -75,9 +75,9 @@ held_by_each zone number end g mine up done (x ∷ xs) start same holds early la
     subst (λ (l : List TimedOccurrence). Holds zone t number (option_map (λ (y : TimedOccurrence). y.rule) (last_of l))) at (holds t from (omega (arith, ints)))
     in
     let rest = held_by_each zone number end g mine up (done ++ x ∷ []) xs (Some x.instant) (append_assoc done (x ∷ []) xs ∙ same)
-        (λ t le lt. holds t (on t le) lt)
-        (λ t le. All-push (λ y. y.instant ≤ℤ g t) done x (early t (on t le)) (let more = up t in omega (arith, ints)))
-        (λ t. All-tail (λ y. t <ℤ y.instant → g t <ℤ y.instant) x xs (late t))
-        tail.0 (All-tail (λ y. y.instant <ℤ end) x xs before) tail.1
+    (λ t le lt. holds t (on t le) lt)
+    (λ t le. All-push (λ y. y.instant ≤ℤ g t) done x (early t (on t le)) (let more = up t in omega (arith, ints)))
+    (λ t. All-tail (λ y. t <ℤ y.instant → g t <ℤ y.instant) x xs (late t))
+    tail.0 (All-tail (λ y. y.instant <ℤ end) x xs before) tail.1
     in
     (comes, within, first, subst (λ (o : Option TimedOccurrence). AreHeld zone end (Some x.instant) number (option_map (λ (y : TimedOccurrence). y.rule) o) (map (stretch_at number) xs)) (last_pushed done x) rest)

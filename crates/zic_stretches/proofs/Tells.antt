@@ -1,10 +1,10 @@
 -- What the occurrences of a line tell.
-use Rattle.std.proofs.Common.{◌≡◌, ℕ, zero, suc, ◌+◌, ◌*◌, ◌≤◌, List, [], get_or, Option, Some, None, All, refl, sym, ap, subst, ◌∙◌, arith, ℤ, pos, ◌+ℤ◌, ◌-ℤ◌, ◌<ℤ◌, ◌≤ℤ◌, ◌↔◌}
+use Rattle.std.proofs.Common.{◌≡◌, ℕ, ◌+◌, List, [], get_or, Option, Some, None, All, refl, sym, ap, subst, ◌∙◌, arith, ℤ, pos, ◌+ℤ◌, ◌<ℤ◌, ◌≤ℤ◌, ◌↔◌}
 use Rattle.std.specs.Prelude.{IfSome, int_lt}
 use Rattle.std.specs.Int.{int_max}
 use Rattle.std.specs.Option.{MatchOption}
 use Rattle.std.proofs.lemmas.Int.{ints}
-use Rattle.std.proofs.lemmas.Option.{same_Some, MatchOption-at_some}
+use Rattle.std.proofs.lemmas.Option.{MatchOption-at_some}
 use Rattle.std.proofs.lemmas.List.Elements.{filter_passes}
 use Rattle.std.proofs.lemmas.List.Kept.{AllPairs-filter}
 use Rattle.zic_lines.specs.declared.rule.Rule.{Rule}
@@ -16,11 +16,10 @@ use Rattle.zic_source.specs.Sound.{IsSoundRule, IsSoundLine}
 use Rattle.zic_occurrences.specs.declared.occurrence.TimedOccurrence.{TimedOccurrence}
 use Rattle.zic_occurrences.specs.Occurrence.{year_second}
 use Rattle.zic_occurrences.specs.Order.{IsInOrder}
-use Rattle.zic_states.specs.ByList.{AreRising, before, rule_at, IsLimit, AreListedFor}
-use Rattle.zic_states.specs.Kept.{Kept, IsKeptBy, IsRuleOf}
+use Rattle.zic_states.specs.ByList.{AreRising, before, AreListedFor}
 use Rattle.zic_states.specs.Occurrences.{AreOccurrencesFor}
 use Rattle.zic_states.specs.Until.{IsUntil, set_of}
-use Rattle.zic_states.specs.Zone.{Zone, IsNotOver, KeepsBy}
+use Rattle.zic_states.specs.Zone.{Zone, IsNotOver}
 use Rattle.zic_states.proofs.ByList.{limit_at_end, limit_without_until, listed_to_year, keeps_by_list, is_rule_of_line}
 use Rattle.zic_states.proofs.Filters.{less_from_test}
 use Rattle.zic_states.proofs.Ordered.{one_until}
@@ -77,12 +76,13 @@ module _ (zone : Zone) (line : ZoneLine) (sound : All IsSoundRule zone.source.ru
   -- a line with an UNTIL isn't over just before its instant
   pub not_over_until : (end u : ℤ) → IsUntil zone.source.rules line end → IsNotOver zone line u ↔ (u <ℤ end)
   not_over_until end u is =
-      let Later : Type 0 = (e : ℤ) × IsUntil zone.source.rules line e × (u <ℤ e) in
-      (λ not_over.
-          let (e, is_too, lt) : Later = MatchOption-at_some (Unit {0}) (λ _. Later) is.until is.has not_over in
-          let same = one_until zone.source.rules line sound line_sound (ordered_set zone.source.rules line.offset line.rules order) e end is_too is in
-          omega (arith, ints, lt, same),
-      λ lt. subst (λ (o : Option Until). MatchOption o (Unit {0}) (λ _. Later)) (sym is.has) (end, is, lt))
+      let Later : Type 0 = (e : ℤ) × IsUntil zone.source.rules line e × (u <ℤ e) in (
+        λ not_over.
+            let (e, is_too, lt) : Later = MatchOption-at_some (Unit {0}) (λ _. Later) is.until is.has not_over in
+            let same = one_until zone.source.rules line sound line_sound (ordered_set zone.source.rules line.offset line.rules order) e end is_too is in
+            omega (arith, ints, lt, same),
+        λ lt. subst (λ (o : Option Until). MatchOption o (Unit {0}) (λ _. Later)) (sym is.has) (end, is, lt),
+      )
 
   pub tells_to_until : (end bound : ℤ) (year : ℕ) → IsUntil zone.source.rules line end → AreOccurrencesOn zone.source.rules line.offset year line.rules xs
       → (end +ℤ pos 172_800) ≤ℤ year_second (pos year) → TellsKept zone bound line (before xs end)

@@ -1,12 +1,12 @@
 -- Where the instant of an UNTIL lies.
-use Rattle.std.proofs.Common.{◌≡◌, ℕ, ◌+◌, ◌*◌, ◌≤◌, List, Option, Some, None, All, refl, sym, ap, subst, ◌∙◌, arith, ℤ, pos, ◌+ℤ◌, ◌-ℤ◌, ◌*ℤ◌, ◌<ℤ◌, ◌≤ℤ◌}
+use Rattle.std.proofs.Common.{◌≡◌, ℕ, ◌+◌, ◌≤◌, List, Option, Some, None, All, refl, sym, subst, ◌∙◌, arith, ℤ, pos, ◌+ℤ◌, ◌*ℤ◌, ◌<ℤ◌, ◌≤ℤ◌}
 use Rattle.std.specs.Prelude.{IfSome, unsigned_abs}
 use Rattle.std.specs.Int.{IsInRange}
 use Rattle.std.proofs.lemmas.Int.{ints}
 use Rattle.std.proofs.lemmas.Option.{same_Some}
 use Rattle.zic_calendar.specs.declared.day_form.On.{On}
 use Rattle.zic_calendar.specs.declared.day_form.On.TheVariants.{Day, Last, After, Before}
-use Rattle.zic_calendar.specs.Calendar.{day_number, days_in_month}
+use Rattle.zic_calendar.specs.Calendar.{day_number}
 use Rattle.zic_calendar.specs.DayForm.{FormFits, form_day, IsNearMonth}
 use Rattle.zic_calendar.proofs.DateLemmas.{first_has}
 use Rattle.zic_calendar.proofs.FormLemmas.{form_bounds}
@@ -20,10 +20,10 @@ use Rattle.zic_lines.specs.declared.until.Until.{Until}
 use Rattle.zic_lines.specs.declared.zone_line.ZoneLine.{ZoneLine}
 use Rattle.zic_source.specs.Sound.{IsSoundRule, IsSoundLine, IsSoundUntil, IsSoundMoment, AreSoundRules, IsWithinDay}
 use Rattle.zic_source.proofs.Elements.{all_got}
-use Rattle.zic_occurrences.specs.Occurrence.{RuleSet, Occurrence, IsOccurrence, nominal_second, year_second}
+use Rattle.zic_occurrences.specs.Occurrence.{RuleSet, Occurrence, nominal_second, year_second}
 use Rattle.zic_occurrences.specs.Order.{instant_by}
 use Rattle.zic_occurrences.proofs.Bounds.{moment_to}
-use Rattle.zic_states.specs.Until.{IsUntil, IsSavedAtUntil, IsStage, saved_after, until_by, set_of}
+use Rattle.zic_states.specs.Until.{IsUntil, IsSavedAtUntil, IsStage, saved_after, set_of}
 use Rattle.zic_stretches.specs.code.End.{IsInYears}
 use Rattle.zic_stretches.proofs.Years.{year_second-is, first_of_year, years_rise, not_later}
 

@@ -1,6 +1,6 @@
 -- The walk through the lines of a zone.
 use Rattle.std.proofs.Common.{◌≡◌, ℕ, zero, suc, ◌+◌, ◌<◌, ◌≤◌, Bool, true, false, ◌⊎◌, inl, inr, ⊎_elim, List, [], ◌∷◌, ◌++◌, length, map, Option, Some, None, refl, sym, ap, subst, ◌∙◌, arith, ℤ, pos, ◌+ℤ◌, ◌<ℤ◌, ◌≤ℤ◌}
-use Rattle.std.specs.Prelude.{All, IfSome, IsSomeAnd, slice_get, option_map, is_some}
+use Rattle.std.specs.Prelude.{IfSome, IsSomeAnd, slice_get, option_map, is_some}
 use Rattle.std.proofs.lemmas.Bool.{cases_lt}
 use Rattle.std.proofs.lemmas.Int.{ints}
 use Rattle.std.proofs.lemmas.Option.{same_Some, slice_get-map, slice_get_within}
@@ -14,8 +14,8 @@ use Rattle.zic_lines.specs.declared.rules.Rules.TheVariants.{Standard, Amount, S
 use Rattle.zic_lines.specs.declared.until.Until.{Until}
 use Rattle.zic_lines.specs.declared.zone_line.ZoneLine.{ZoneLine}
 use Rattle.zic_source.specs.Sound.{IsSoundLine, IsSoundZone, IsSoundSource}
-use Rattle.zic_source.specs.Source.{ZoneLines, zone_at, lines_of_zone}
-use Rattle.zic_source.proofs.Elements.{all_got, got}
+use Rattle.zic_source.specs.Source.{ZoneLines, lines_of_zone}
+use Rattle.zic_source.proofs.Elements.{all_got}
 use Rattle.zic_occurrences.specs.declared.occurrence.TimedOccurrence.{TimedOccurrence}
 use Rattle.zic_occurrences.specs.Occurrence.{year_second}
 use Rattle.zic_states.specs.ByList.{before}
@@ -29,9 +29,9 @@ use Rattle.zic_states.proofs.Ordered.{one_until}
 use Rattle.zic_stretches.specs.declared.stretch.Stretch.{Stretch}
 use Rattle.zic_stretches.specs.Stretch.{IsFaultOfStretches}
 use Rattle.zic_stretches.specs.code.End.{IsStart, IsInYears, IsEndAfter, IsEndFrom}
-use Rattle.zic_stretches.specs.code.Held.{IsFrom, HeldTo, AreSoFar}
+use Rattle.zic_stretches.specs.code.Held.{IsFrom, AreSoFar}
 use Rattle.zic_stretches.specs.code.Line.{IsOrderedOn, IsDisorderedOn, AreOccurrencesOn, TellsKept, IsLineTo, bound_of}
-use Rattle.zic_stretches.specs.code.Walk.{AreOrderedTo, DoRiseTo, IsWalkedTo}
+use Rattle.zic_stretches.specs.code.Walk.{AreOrderedTo, DoRiseTo}
 use Rattle.zic_stretches.proofs.Years.{years_rise}
 use Rattle.zic_stretches.proofs.Untils.{near_until, near_enough, in_years}
 use Rattle.zic_stretches.proofs.Tells.{ordered_set, not_over_until, tells_to_until, tells_last, before_limit}

@@ -1,5 +1,5 @@
 -- The window at the start of a line.
-use Rattle.std.proofs.Common.{◌≡◌, ℕ, zero, suc, ◌+◌, ◌-◌, ◌<◌, List, [], ◌∷◌, length, to_z, of_z, w64, FitsSigned, Option, Some, None, All, refl, sym, ap, subst, ◌∙◌, arith, ℤ, pos, ◌+ℤ◌, ◌-ℤ◌, ◌<ℤ◌, ◌≤ℤ◌}
+use Rattle.std.proofs.Common.{◌≡◌, ℕ, zero, suc, ◌-◌, ◌<◌, List, [], ◌∷◌, length, to_z, of_z, w64, FitsSigned, Option, Some, None, All, sym, ap, subst, ◌∙◌, arith, ℤ, pos, ◌+ℤ◌, ◌-ℤ◌, ◌<ℤ◌, ◌≤ℤ◌}
 use Rattle.std.specs.Prelude.{IfSome, slice_get}
 use Rattle.std.specs.Int.{int_max}
 use Rattle.std.proofs.lemmas.Int.{ints}
@@ -14,11 +14,11 @@ use Rattle.zic_source.proofs.Elements.{all_got, got}
 use Rattle.zic_occurrences.specs.declared.occurrence.TimedOccurrence.{TimedOccurrence}
 use Rattle.zic_states.specs.ByList.{rule_at}
 use Rattle.zic_states.specs.Kept.{Kept, IsKeptBy, IsRuleOf}
-use Rattle.zic_states.specs.Zone.{Zone, line_at, lines_of, Ends, IsWindowEnd, Keeps}
+use Rattle.zic_states.specs.Zone.{Zone, line_at, Ends, IsWindowEnd, Keeps}
 use Rattle.zic_states.proofs.Lines.{line_at_is}
 use Rattle.zic_stretches.specs.declared.stretch.Stretch.{Stretch}
 use Rattle.zic_stretches.specs.Stretch.{Holds}
-use Rattle.zic_stretches.specs.code.Held.{HeldTo, AreSoFar, last_line, last_rule}
+use Rattle.zic_stretches.specs.code.Held.{HeldTo, AreSoFar, last_rule}
 use Rattle.zic_stretches.specs.code.Line.{TellsKept, IsEndOfWindow, IsTotalOffset}
 use Rattle.zic_words.specs.Time.{IsWithin}
 use Rattle.zic_stretches.specs.code.End.{IsInYears}

@@ -1,9 +1,9 @@
 -- Years of instants, and where they lie among the numbers.
-use Rattle.std.proofs.Common.{◌≡◌, ℕ, ◌+◌, ◌*◌, ◌<◌, ◌≤◌, max, inl, inr, refl, sym, ap, subst, ◌∙◌, arith, ℤ, pos, negsuc, neg_ℤ, ◌+ℤ◌, ◌*ℤ◌, ◌<ℤ◌, ◌≤ℤ◌, to_z, of_z, w64}
+use Rattle.std.proofs.Common.{◌≡◌, ℕ, ◌<◌, ◌≤◌, inl, inr, refl, ap, ◌∙◌, arith, ℤ, pos, negsuc, neg_ℤ, ◌+ℤ◌, ◌*ℤ◌, ◌<ℤ◌, ◌≤ℤ◌, to_z, of_z, w64}
 use Rattle.std.specs.Int.{int_div_euclid}
 use Rattle.std.proofs.lemmas.Bool.{cases_lt}
 use Rattle.std.proofs.lemmas.Int.{ints, by_lt_z}
-use Rattle.zic_calendar.specs.Calendar.{day_number, days_in_year, IsDate, IsEarlier, year_start}
+use Rattle.zic_calendar.specs.Calendar.{day_number, IsDate, IsEarlier, year_start}
 use Rattle.zic_calendar.proofs.YearLemmas.{year_start-next, year_start-1970}
 use Rattle.zic_calendar.proofs.DateLemmas.{day_number-rises, first_has, cases_date, days_of_months-zero, supported_day}
 use Rattle.zic_occurrences.specs.Occurrence.{year_second}

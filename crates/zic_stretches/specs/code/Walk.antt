@@ -1,5 +1,5 @@
 -- The walk through the lines of a zone.
-use Rattle.std.specs.Prelude.{◌≡◌, ℕ, suc, ◌<◌, ℤ, ◌<ℤ◌, List, Option, Some, IfSome}
+use Rattle.std.specs.Prelude.{◌≡◌, ℕ, suc, ◌<◌, ℤ, ◌<ℤ◌, List, Option, Some}
 use Rattle.zic_lines.specs.declared.zone_line.ZoneLine.{ZoneLine}
 use Rattle.zic_states.specs.Zone.{Zone, line_at, Ends}
 use Rattle.zic_stretches.specs.declared.stretch.Stretch.{Stretch}

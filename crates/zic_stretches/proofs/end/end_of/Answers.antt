@@ -1,4 +1,4 @@
-use Rattle.std.proofs.Common.{◌≡◌, ◌∙◌, ℕ, Option, Some, None, ◌≤◌, arith, ℤ, pos, ◌+ℤ◌, ◌*ℤ◌, to_z, of_z, w64, ap, subst, sym}
+use Rattle.std.proofs.Common.{◌≡◌, ◌∙◌, Option, arith, ℤ, pos, ◌+ℤ◌, ◌*ℤ◌, to_z, of_z, w64, ap, subst, sym}
 use Rattle.std.specs.Prelude.{IfSome}
 use Rattle.std.proofs.lemmas.Int.{ints}
 use Rattle.zic_calendar.specs.declared.day_form.On.TheVariants.{Day}
@@ -6,7 +6,7 @@ use Rattle.zic_calendar.specs.DayForm.{form_day}
 use Rattle.zic_occurrences.specs.Occurrence.{year_second}
 use Rattle.zic_stretches.specs.Stretch.{zone_of}
 use Rattle.zic_stretches.specs.code.End.{IsStart, IsInYears, IsEndFrom}
-use Rattle.zic_stretches.proofs.Years.{cast, small}
+use Rattle.zic_stretches.proofs.Years.{small}
 use Rattle.zic_stretches.proofs.Ends.{first_day, fixed_unless, end_by_set, end_after_start, end_of_one}
 use Rattle.zic_stretches.proofs.end.end_of.Goals as goal
 

@@ -1,6 +1,5 @@
-use Rattle.std.proofs.Common.{◌≡◌, ℕ, Option, ◌≤◌, arith, ℤ, pos, to_z, of_z, w64, subst, sym}
+use Rattle.std.proofs.Common.{Option, arith, ℤ, pos, subst, sym}
 use Rattle.std.specs.Prelude.{IfSome}
-use Rattle.std.proofs.lemmas.Int.{ints}
 use Rattle.zic_stretches.specs.code.End.{IsInYears}
 use Rattle.zic_occurrences.specs.Occurrence.{RuleSet}
 use Rattle.zic_occurrences.proofs.LastNamed.{named_year}

@@ -1,10 +1,8 @@
-use Rattle.std.proofs.Common.{◌≡◌, ◌∙◌, arith, ap, subst, sym, refl, ℕ, ◌≤◌, ℤ, pos, ◌<ℤ◌, ◌≤ℤ◌, ◌*ℤ◌, ◌+ℤ◌, neg_ℤ, to_z, of_z, w64}
+use Rattle.std.proofs.Common.{◌≡◌, arith, subst, sym, ℤ, pos, ◌<ℤ◌, neg_ℤ, to_z, of_z, w64}
 use Rattle.std.specs.Prelude.{unsigned_abs}
-use Rattle.std.specs.Int.{int_div_euclid}
 use Rattle.std.proofs.lemmas.Int.{ints}
 use Rattle.zic_states.specs.End.{IsYearOf}
-use Rattle.zic_stretches.specs.code.End.{IsInYears}
-use Rattle.zic_stretches.proofs.Years.{DayOf, day_of_instant, year_0, year_of_day}
+use Rattle.zic_stretches.proofs.Years.{day_of_instant, year_0, year_of_day}
 use Rattle.zic_stretches.proofs.end.year_of.Goals as goal
 
 pub returns-then-day-lt-FIRST_DAY : goal.returns-then-day-lt-FIRST_DAY
@@ -24,5 +22,5 @@ returns c =
     let civil = c.civil.result in
     let year : pos (unsigned_abs (to_z w64 (of_z w64 civil.year))) ≡ civil.year = omega (arith, ints, c.civil.ensures.year) in
     let of = year_of_day c.args.instant (to_z w64 (of_z w64 c.div_euclid-day.result)) civil.year civil.month civil.day
-        (omega (arith, ints, day.fits, day.from)) (omega (arith, ints, day.fits, day.to)) c.civil.ensures.date.0 c.civil.ensures.date.1 in
+    (omega (arith, ints, day.fits, day.from)) (omega (arith, ints, day.fits, day.to)) c.civil.ensures.date.0 c.civil.ensures.date.1 in
     subst (λ (y : ℤ). IsYearOf c.args.instant y) (sym year) of

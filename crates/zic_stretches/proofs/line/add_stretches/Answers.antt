@@ -1,5 +1,5 @@
-use Rattle.std.proofs.Common.{rules, ◌≡◌, ◌∙◌, ◌++◌, ◌∷◌, [], map, ℕ, List, Option, Some, None, Ok, arith, ap, subst, sym, refl, ℤ, pos, ◌+ℤ◌, ◌<ℤ◌, ◌≤ℤ◌, to_z, of_z, w64}
-use Rattle.std.specs.Prelude.{IfSome, IfOk}
+use Rattle.std.proofs.Common.{◌≡◌, ◌∙◌, ◌++◌, map, List, Option, arith, ap, subst, sym, ℤ, pos, ◌+ℤ◌, ◌<ℤ◌, ◌≤ℤ◌, to_z, of_z, w64}
+use Rattle.std.specs.Prelude.{IfSome}
 use Rattle.std.proofs.lemmas.Int.{ints}
 use Rattle.zic_occurrences.specs.declared.occurrence.TimedOccurrence.{TimedOccurrence}
 use Rattle.zic_states.specs.ByList.{AreRising, before, not_after, rule_at}
@@ -7,7 +7,7 @@ use Rattle.zic_states.specs.Zone.{line_at}
 use Rattle.zic_stretches.specs.declared.stretch.Stretch.{Stretch}
 use Rattle.zic_stretches.specs.Stretch.{zone_of}
 use Rattle.zic_stretches.specs.code.End.{IsInYears}
-use Rattle.zic_stretches.specs.code.Held.{AreSoFar, HeldTo}
+use Rattle.zic_stretches.specs.code.Held.{AreSoFar}
 use Rattle.zic_stretches.specs.code.Line.{IsLineTo, TellsKept, stretch_at}
 use Rattle.zic_stretches.proofs.Years.{cast}
 use Rattle.zic_stretches.proofs.Added.{few_lines, has_line, tells_to_window, window_of_line, added_first, added_later, before_cast, window_cast}
@@ -32,7 +32,7 @@ returns-in_default c =
     let is = subst (λ (o : Option ℤ). IsLineTo zone number o c.args.end (before c.args.occurrences.now c.args.end)) c.in_default.is c.requires.line in
     if_ok_map c.add_occurrences.result _ _
     (λ _ e. added_first zone number c.args.end has.line _ c.args.stretches.now.items _ has.at so_far is
-        (e ∙ ap (λ (xs : List TimedOccurrence). c.args.stretches.now.items ++ map (stretch_at number) xs) mine))
+    (e ∙ ap (λ (xs : List TimedOccurrence). c.args.stretches.now.items ++ map (stretch_at number) xs) mine))
     c.add_occurrences.ensures
 
 pub window_end-window-requires-clause-tells : goal.window_end-window-requires-clause-tells
@@ -86,6 +86,6 @@ returns c =
     let more = map (stretch_at number) c.after.result.now in
     if_ok_map c.add_occurrences-2.result _ _
     (λ _ e. added_later zone number s c.args.end w has.line xs c.after.result.now one old _ has.at so_far is
-        (window_of_line zone number w has c.window_end-window.ensures.window) from to in_years.1 split first
-        (e ∙ ap (λ (l : List Stretch). l ++ more) c.in_ok-push.ensures.items))
+    (window_of_line zone number w has c.window_end-window.ensures.window) from to in_years.1 split first
+    (e ∙ ap (λ (l : List Stretch). l ++ more) c.in_ok-push.ensures.items))
     c.add_occurrences-2.ensures

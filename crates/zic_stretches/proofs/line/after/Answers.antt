@@ -4,10 +4,6 @@ use Rattle.std.proofs.lemmas.List.{take-append-drop, take_all}
 use Rattle.zic_occurrences.specs.declared.occurrence.TimedOccurrence.{TimedOccurrence}
 use Rattle.zic_states.specs.ByList.{not_after}
 use Rattle.zic_states.proofs.Points.{filter_from_clause, parted_not_after}
-use Rattle.zic_stretches.proofs.Mine.{held_by_each}
-use Rattle.zic_stretches.proofs.Tells.{tells_to_limit}
-use Rattle.zic_stretches.proofs.Untils.{near_enough}
-use Rattle.zic_stretches.proofs.Held.{all_stretches}
 use Rattle.zic_stretches.proofs.line.after.Goals as goal
 
 pub returns : goal.returns

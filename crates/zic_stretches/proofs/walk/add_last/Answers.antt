@@ -1,15 +1,14 @@
-use Rattle.std.proofs.Common.{◌≡◌, ◌∙◌, ℕ, suc, ◌+◌, ◌≤◌, ◌<◌, Option, Some, None, List, arith, sym, ap, subst, length, ℤ, pos, ◌<ℤ◌, ◌≤ℤ◌, to_z, of_z, w64}
+use Rattle.std.proofs.Common.{List, arith, sym, subst, ℤ, pos, ◌<ℤ◌}
 use Rattle.std.specs.Prelude.{IfSome}
-use Rattle.std.proofs.lemmas.Int.{ints}
 use Rattle.std.proofs.lemmas.Option.{IfSome_then}
 use Rattle.std.proofs.lemmas.Result.{err_from_is_err_and}
 use Rattle.zic_base.specs.Fault.{fault_of}
 use Rattle.zic_source.proofs.Elements.{got}
 use Rattle.zic_occurrences.specs.declared.occurrence.TimedOccurrence.{TimedOccurrence}
 use Rattle.zic_states.specs.ByList.{before}
-use Rattle.zic_states.specs.End.{IsYearOf, IsEnd, IsEndBy}
+use Rattle.zic_states.specs.End.{IsYearOf, IsEnd}
 use Rattle.zic_stretches.specs.Stretch.{zone_of}
-use Rattle.zic_stretches.specs.code.End.{IsStart, IsInYears, IsEndFrom}
+use Rattle.zic_stretches.specs.code.End.{IsInYears}
 use Rattle.zic_stretches.specs.code.Line.{IsLineTo}
 use Rattle.zic_stretches.proofs.Years.{cast, in_later_years, year_before}
 use Rattle.zic_stretches.proofs.Windows.{line_is}

@@ -1,4 +1,4 @@
-use Rattle.std.proofs.Common.{◌≡◌, ◌∙◌, ℕ, suc, ◌+◌, Option, Some, None, List, add-one, arith, sym, ap, subst, length, ℤ, pos, ◌<ℤ◌, ◌≤ℤ◌, to_z, of_z, w64}
+use Rattle.std.proofs.Common.{◌≡◌, ◌∙◌, suc, Option, Some, List, add-one, arith, sym, subst, ℤ, ◌<ℤ◌, to_z, of_z, w64}
 use Rattle.std.specs.Prelude.{IfSome}
 use Rattle.std.proofs.lemmas.Int.{ints}
 use Rattle.std.proofs.lemmas.Option.{IfSome_then}
@@ -105,7 +105,7 @@ add_stretches-requires-clause-line c =
       | in_default-start w ↦ w.start-is
     ] in
     let own = line_to_until zone n c.args.start end line c.in-Some.until c.in_ok-found.found.items c.requires.sound at c.in-Some.is is
-        c.in_ok-found.ensures.order c.in_ok-found.ensures.all c.in-Some-until_instant.ensures in
+    c.in_ok-found.ensures.order c.in_ok-found.ensures.all c.in-Some-until_instant.ensures in
     subst (λ (o : Option ℤ). IsLineTo zone n o (to_z w64 (of_z w64 end)) (before c.deref-2.result.now (to_z w64 (of_z w64 end)))) (sym begun)
     (subst (λ (e : ℤ). IsLineTo zone n c.args.start e (before c.deref-2.result.now e)) (sym same)
     (subst (λ (xs : List TimedOccurrence). IsLineTo zone n c.args.start end (before xs end)) (sym c.deref-2.ensures.value) own))

@@ -1,4 +1,4 @@
-use Rattle.std.proofs.Common.{◌≡◌, ℕ, suc, ◌+◌, ◌-◌, Option, ℤ, arith, sym, subst, length}
+use Rattle.std.proofs.Common.{◌≡◌, suc, ◌-◌, Option, ℤ, arith, sym, subst, length}
 use Rattle.std.specs.Prelude.{IfSome}
 use Rattle.zic_source.specs.Source.{ZoneLines, lines_of_zone}
 use Rattle.zic_source.proofs.Elements.{got}

@@ -1,5 +1,4 @@
-use Rattle.std.proofs.Common.{◌≡◌, ◌∙◌, ◌-◌, Option, Some, None, ℕ, arith, ap, subst, sym, ℤ, pos, ◌+ℤ◌, ◌-ℤ◌, to_z, of_z, w64}
-use Rattle.std.proofs.lemmas.Int.{ints}
+use Rattle.std.proofs.Common.{◌≡◌, ◌∙◌, ◌-◌, Option, ℕ, arith, ap, subst, sym, ℤ, to_z, of_z, w64}
 use Rattle.zic_states.specs.Kept.{IsRuleOf}
 use Rattle.zic_stretches.specs.Stretch.{zone_of}
 use Rattle.std.specs.Prelude.{IfSome}
@@ -20,7 +19,7 @@ total_offset-earlier-requires-clause-rule c =
 pub overflow_add-result : goal.overflow_add-result
 overflow_add-result c =
     let sum = reckoned c.args.start c.total_offset-earlier.result c.total_offset-later.result c.max.result c.requires.start
-        c.total_offset-earlier.ensures.within c.total_offset-later.ensures.within c.max.ensures.value in
+    c.total_offset-earlier.ensures.within c.total_offset-later.ensures.within c.max.ensures.value in
     sum.fits
 
 pub returns-clause-window : goal.returns-clause-window
@@ -42,11 +41,11 @@ returns-clause-window c =
 pub returns-clause-from : goal.returns-clause-from
 returns-clause-from c =
     let sum = reckoned c.args.start c.total_offset-earlier.result c.total_offset-later.result c.max.result c.requires.start
-        c.total_offset-earlier.ensures.within c.total_offset-later.ensures.within c.max.ensures.value in
+    c.total_offset-earlier.ensures.within c.total_offset-later.ensures.within c.max.ensures.value in
     rw sum.is sum.from
 
 pub returns-clause-to : goal.returns-clause-to
 returns-clause-to c =
     let sum = reckoned c.args.start c.total_offset-earlier.result c.total_offset-later.result c.max.result c.requires.start
-        c.total_offset-earlier.ensures.within c.total_offset-later.ensures.within c.max.ensures.value in
+    c.total_offset-earlier.ensures.within c.total_offset-later.ensures.within c.max.ensures.value in
     rw sum.is sum.to
