@@ -1,0 +1,10 @@
+pub mod Years
+pub mod Ends
+pub mod Held
+pub mod Mine
+pub mod Untils
+pub mod Tells
+pub mod Windows
+pub mod Added
+pub mod Outcomes
+pub mod Walks

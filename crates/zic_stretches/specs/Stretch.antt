@@ -1,0 +1,35 @@
+-- The stretches of a zone: which of its lines governs, and what its RULES keep, from an instant on up to the next.
+use Rattle.std.specs.Prelude.{◌≡◌, ◌+◌, ℕ, ℤ, ◌<ℤ◌, ◌≤ℤ◌, ◌⊎◌, List, All, AllPairs, Option, Some, None, IfSome, IsSomeAnd, slice_get}
+use Rattle.zic_base.specs.declared.fault.Fault.{Fault}
+use Rattle.zic_base.specs.declared.fault.Kind.TheVariants as kind
+use Rattle.zic_lines.specs.declared.zone_line.ZoneLine.{ZoneLine}
+use Rattle.zic_source.specs.Source.{SourceLines}
+use Rattle.zic_states.specs.Fault.{HasRulesOutOfOrder, HasUntilNotRising}
+use Rattle.zic_states.specs.Kept.{Kept, IsKeptBy, IsRuleOf}
+use Rattle.zic_states.specs.Zone.{Zone, lines_of, Governs, Keeps}
+use Rattle.zic_stretches.specs.declared.stretch.Stretch.{Stretch}
+
+-- the zone of this number of a source
+abbrev pub zone_of : SourceLines → ℕ → Zone
+zone_of source number = record { source = source; number = number }
+
+-- The line of this number governs at t, and keeps what its RULES keep by this rule, or before all occurrences.
+pub record Holds (zone : Zone) (t : ℤ) (number : ℕ) (rule : Option ℕ) : Type 0 where
+  pub line : ZoneLine
+  pub governs : Governs zone number line t
+  pub of_line : IsRuleOf zone.source.rules line.rules rule
+  pub keeps : (kept : Kept) → IsKeptBy zone.source.rules line.rules rule kept → Keeps zone number line t kept
+
+-- all stretches of a zone before an instant, in order; before the first the Zone line governs, before all its occurrences
+pub record AreStretches (zone : Zone) (end : ℤ) (stretches : List Stretch) : Type 0 where
+  pub rising : AllPairs (λ a b. a.from <ℤ b.from) stretches
+  pub before_end : All (λ s. s.from <ℤ end) stretches
+  pub before : (t : ℤ) → t <ℤ end → All (λ s. t <ℤ s.from) stretches → Holds zone t 0 None
+  pub each : (k : ℕ) (s : Stretch) (t : ℤ) → slice_get stretches k ≡ Some s → s.from ≤ℤ t → t <ℤ end
+      → IfSome (slice_get stretches (k + 1)) (λ next. t <ℤ next.from) → Holds zone t s.line s.rule
+
+-- why a zone has no stretches: a set is out of order, or else an UNTIL doesn't rise
+pub record IsFaultOfStretches (zone : Zone) (fault : Fault) : Type 0 where
+  pub place : IsSomeAnd (lines_of zone) (λ lines. fault.place ≡ lines.first.place)
+  pub kind : ((fault.kind ≡ kind.RulesOutOfOrder) × HasRulesOutOfOrder zone)
+      ⊎ ((fault.kind ≡ kind.UntilNotRising) × HasUntilNotRising zone × (HasRulesOutOfOrder zone → ⊥))

@@ -1,0 +1,5 @@
+-- Definitions that the proofs of this crate's code use, and no contract of another crate.
+pub mod End
+pub mod Held
+pub mod Line
+pub mod Walk
