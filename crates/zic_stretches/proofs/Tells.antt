@@ -79,7 +79,7 @@ module _ (zone : Zone) (line : ZoneLine) (sound : All IsSoundRule zone.source.ru
       let Later : Type 0 = (e : ℤ) × IsUntil zone.source.rules line e × (u <ℤ e) in (
         λ not_over.
             let (e, is_too, lt) : Later = MatchOption-at_some (Unit {0}) (λ _. Later) is.until is.has not_over in
-            let same = one_until zone.source.rules line sound line_sound (ordered_set zone.source.rules line.offset line.rules order) e end is_too is in
+            let same = one_until zone.source.rules line (ordered_set zone.source.rules line.offset line.rules order) e end is_too is in
             omega (arith, ints, lt, same),
         λ lt. subst (λ (o : Option Until). MatchOption o (Unit {0}) (λ _. Later)) (sym is.has) (end, is, lt),
       )

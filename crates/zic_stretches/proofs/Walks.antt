@@ -141,7 +141,7 @@ one_end : (zone : Zone) (number i : ℕ) (t u : ℤ) → IsSoundSource zone.sour
 one_end zone number i t u sound ordered lt ends other =
     let (line, at, is) = some_and_has (line_at zone i) (λ l. IsUntil zone.source.rules l t) ends in
     let is_too = subst (λ (o : Option ZoneLine). IsSomeAnd o (λ l. IsUntil zone.source.rules l u)) at other in
-    one_until zone.source.rules line sound.rules (sound_line zone i line sound at)
+    one_until zone.source.rules line
     (ordered_set zone.source.rules line.offset line.rules (ordered i line lt at)) t u is is_too
 
 -- the UNTIL of one line more
