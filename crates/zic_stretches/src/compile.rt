@@ -1,0 +1,45 @@
+//! How a timeline is made.
+
+ghost use Rattle.std.specs.Prelude.{◌≡◌, ◌<◌, IfOk, length};
+ghost use Rattle.zic_base.specs.Fault.{fault_of};
+ghost use Rattle.zic_base.specs.Memory.{IfRefusal};
+ghost use Rattle.zic_states.specs.Fault.{IsSound, IsFaultOfStates};
+ghost use Rattle.zic_stretches.specs.Stretch.{zone_of};
+
+use crate::changes::{changes_of, refusal, state_at};
+use crate::offsets::are_offsets_in_range;
+use crate::timelines::Timeline;
+use crate::walk::stretches;
+use std::alloc::Global;
+use zic_base::{Kind, Stop};
+use zic_source::Source;
+
+/// All that a zone shows before its explicit end; the zone by its number from 0.
+///
+/// Refuses, at the Zone line, the first of these that applies: `OffsetRange` where a line's standard offset together with a
+/// saving of its RULES passes 24 hours; `RulesOutOfOrder` where a line's set is out of order in any year; `UntilNotRising` where
+/// an UNTIL isn't after that of the line before it; `NoLetter` where at some instant FORMAT wants a letter and there is none;
+/// `BadAbbreviation` where at some instant the zone shows what is no abbreviation.
+pub fn timeline<'a>(alloc: Global, source: &'a Source, zone: usize) -> Result<Timeline<'a>, Stop>
+    requires { zone < length source.now.zones }
+    ensures ok { IfOk result (λ t. t ≡ zone_of source.now zone) }
+    ensures sound { IfOk result IsSound }
+    ensures err { IfRefusal fault_of result (IsFaultOfStates (zone_of source.now zone)) }
+{
+    if !are_offsets_in_range(source, zone) {
+        return Err(Stop::at(source.line(zone, 0).place, Kind::OffsetRange));
+    }
+    let all = stretches(alloc, source, zone)?;
+    let first = match state_at(source, zone, 0, None) {
+        Ok(first) => first,
+        Err(kind) => return Err(refusal(source, zone, &all, kind)),
+    };
+    let changes = changes_of(alloc, source, zone, &all, first)?;
+    Ok(Timeline {
+        source,
+        zone,
+        first,
+        changes,
+        end: all.end,
+    })
+}
