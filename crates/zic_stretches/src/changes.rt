@@ -1,18 +1,19 @@
 //! The changes of a zone, from its stretches.
 
-ghost use Rattle.std.specs.Prelude.{◌≡◌, ◌<◌, None, true, false, map, IfOk, IfErr, IfSome, length};
+ghost use Rattle.std.specs.Prelude.{◌≡◌, ◌<◌, None, true, false, map, IfOk, IfErr, IfSome, IsSomeAnd, length};
 ghost use Rattle.zic_base.specs.Fault.{fault_of};
 ghost use Rattle.zic_base.specs.Memory.{IfRefusal};
 ghost use Rattle.zic_states.specs.Abbreviation.{is_abbreviation};
 ghost use Rattle.zic_states.specs.Fault.{HasOffsetOutOfRange, IsFaultOfStates, HasNoLetter};
 ghost use Rattle.zic_states.specs.State.{Shown};
+ghost use Rattle.zic_states.specs.Zone.{lines_of};
 ghost use Rattle.zic_stretches.specs.Stretch.{zone_of};
 ghost use Rattle.zic_stretches.specs.code.Shown.{HasStretches, IsHeld, ShowsWhereHeld, IsUnnamed, IsUnnamedAt, ShowsNamed, AreSoFrom, shown_by, dated};
 
 use crate::stretch::Stretches;
 use crate::zone_state::{ZoneState, state_by};
 use std::alloc::Global;
-use zic_base::{Kind, Stop};
+use zic_base::{Kind, Place, Stop};
 use zic_source::Source;
 
 /// A state and the instant from which on a zone shows it.
@@ -83,7 +84,7 @@ pub(crate) fn refusal(source: &Source, zone: usize, all: &Stretches, kind: Kind)
     requires unnamed { IsUnnamed (zone_of source.now zone) kind }
     ensures { IfSome (fault_of result) (IsFaultOfStates (zone_of source.now zone)) }
 {
-    let place = source.line(zone, 0).place;
+    let place = place_of(source, zone);
     if lacks_letter(source, zone, all) {
         Stop::at(place, Kind::NoLetter)
     } else {
@@ -117,5 +118,17 @@ fn lacks_letter_at(source: &Source, zone: usize, line: u16, rule: Option<u16>) -
     ensures lacks { result ≡ true → HasNoLetter (zone_of source.now zone) }
     ensures has { result ≡ false → (state : Shown) × ShowsWhereHeld (zone_of source.now zone) line rule state }
 {
-    state_at(source, zone, line, rule).err() == Some(Kind::NoLetter)
+    match state_at(source, zone, line, rule) {
+        Ok(_) => false,
+        Err(Kind::NoLetter) => true,
+        Err(_) => false,
+    }
+}
+
+/// Where the Zone line stands.
+pub(crate) fn place_of(source: &Source, zone: usize) -> Place
+    requires { zone < length source.now.zones }
+    ensures { IsSomeAnd (lines_of (zone_of source.now zone)) (λ lines. result ≡ lines.first.place) }
+{
+    source.line(zone, 0).place
 }

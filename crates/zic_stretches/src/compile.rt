@@ -6,7 +6,7 @@ ghost use Rattle.zic_base.specs.Memory.{IfRefusal};
 ghost use Rattle.zic_states.specs.Fault.{IsSound, IsFaultOfStates};
 ghost use Rattle.zic_stretches.specs.Stretch.{zone_of};
 
-use crate::changes::{changes_of, refusal, state_at};
+use crate::changes::{changes_of, place_of, refusal, state_at};
 use crate::offsets::are_offsets_in_range;
 use crate::timelines::Timeline;
 use crate::walk::stretches;
@@ -27,7 +27,7 @@ pub fn timeline<'a>(alloc: Global, source: &'a Source, zone: usize) -> Result<Ti
     ensures err { IfRefusal fault_of result (IsFaultOfStates (zone_of source.now zone)) }
 {
     if !are_offsets_in_range(source, zone) {
-        return Err(Stop::at(source.line(zone, 0).place, Kind::OffsetRange));
+        return Err(Stop::at(place_of(source, zone), Kind::OffsetRange));
     }
     let all = stretches(alloc, source, zone)?;
     let first = match state_at(source, zone, 0, None) {
@@ -35,11 +35,5 @@ pub fn timeline<'a>(alloc: Global, source: &'a Source, zone: usize) -> Result<Ti
         Err(kind) => return Err(refusal(source, zone, &all, kind)),
     };
     let changes = changes_of(alloc, source, zone, &all, first)?;
-    Ok(Timeline {
-        source,
-        zone,
-        first,
-        changes,
-        end: all.end,
-    })
+    Ok(Timeline::new(source, zone, first, changes, all.end))
 }

@@ -41,7 +41,7 @@ fn is_line_in_range(source: &Source, line: &ZoneLine) -> bool
 fn are_totals_in_range(source: &Source, numbers: &[usize], offset: i32) -> bool
     requires numbers { All (λ n. n < length source.now.rules) numbers.now }
     requires offset { IsWithinDay offset }
-    ensures inside { result ≡ true → AreAllInRange source.now.rules offset numbers.now }
+    ensures inside { result ≡ true → AreAllInRange source.now.rules offset numbers.now (length numbers.now) }
     ensures outside { result ≡ false → IsOneOutOfRange source.now.rules offset numbers.now }
 {
     for number in numbers {

@@ -1,10 +1,13 @@
 //! What a zone shows before its explicit end.
 
-ghost use Rattle.std.specs.Prelude.{◌≡◌, ◌<◌, ◌<ℤ◌, ℤ, List, length};
+ghost use Rattle.std.specs.Prelude.{◌≡◌, ◌<◌, ◌<ℤ◌, ℤ, List, length, map};
 ghost use Rattle.zic_states.specs.Change.{AreChanges, IsFirstState};
 ghost use Rattle.zic_states.specs.Change as changes;
 ghost use Rattle.zic_states.specs.End.{IsEnd};
 ghost use Rattle.zic_states.specs.Zone.{Shows};
+ghost use Rattle.zic_states.specs.Fault.{IsSound};
+ghost use Rattle.zic_stretches.specs.Stretch.{zone_of};
+ghost use Rattle.zic_stretches.specs.code.Shown.{IsTimeline, shown_by, dated};
 ghost use Rattle.zic_stretches.specs.Timeline.{shown, change_of, IsChangeAt};
 
 use crate::changes::DatedState;
@@ -27,10 +30,7 @@ pub struct Timeline<'a> {
 }
 
 impl<'a> Model for Timeline<'a> {
-    ghost use Rattle.std.specs.Prelude.{map};
     ghost use Rattle.zic_states.specs.Zone.{Zone};
-    ghost use Rattle.zic_stretches.specs.code.Shown.{IsTimeline, shown_by, dated};
-
     ghost Value = { Zone };
 
     ghost view = { λ t. record { source = t.source.now; number = t.zone } };
@@ -39,6 +39,27 @@ impl<'a> Model for Timeline<'a> {
 }
 
 impl<'a> Timeline<'a> {
+    /// The timeline of a zone with this first state, these changes and this end.
+    pub(crate) fn new(
+        source: &'a Source,
+        zone: usize,
+        first: ZoneState,
+        changes: Vec<DatedState>,
+        end: i64,
+    ) -> Timeline<'a>
+        requires { IsTimeline (zone_of source.now zone) end (shown_by first) (map dated changes.items) }
+        ensures zone { result ≡ zone_of source.now zone }
+        ensures sound { IsSound result }
+    {
+        Timeline {
+            source,
+            zone,
+            first,
+            changes,
+            end,
+        }
+    }
+
     /// The explicit end, in seconds from 1970-01-01T00:00:00 UT: all changes that are listed come before it.
     pub fn end(&self) -> i64
         ensures { IsEnd self.now result }
@@ -78,9 +99,9 @@ impl<'a> Timeline<'a> {
         ensures { Shows self.now t (shown result) }
     {
         let count = self.changes.partition_point(|change| change.instant <= t);
-        match self.changes[..count].last() {
-            Some(change) => state_of(&change.state),
-            None => state_of(&self.first),
+        if count == 0 {
+            return state_of(&self.first);
         }
+        state_of(&self.changes[count - 1].state)
     }
 }

@@ -1,5 +1,5 @@
 -- What is shown from one stretch to the next.
-use Rattle.std.specs.Prelude.{◌≡◌, ◌≢◌, ◌≤◌, ◌<◌, ◌×◌, ◌⊎◌, ℕ, zero, suc, ℤ, ◌+ℤ◌, ◌<ℤ◌, ◌≤ℤ◌, List, [], ◌∷◌, Bool, true, false, Option, Some, None, option_map, IfSome, Contains, slice_get, map, unsigned_abs}
+use Rattle.std.specs.Prelude.{◌≡◌, ◌≢◌, ◌≤◌, ◌<◌, ◌⊎◌, ℕ, zero, suc, ℤ, ◌+ℤ◌, ◌<ℤ◌, ◌≤ℤ◌, List, [], ◌∷◌, ◌++◌, Bool, true, false, Option, Some, None, option_map, IfSome, Contains, slice_get, slice_index, map, unsigned_abs}
 use Rattle.zic_base.specs.declared.fault.Kind.{Kind}
 use Rattle.zic_base.specs.declared.fault.Kind.TheVariants as kind
 use Rattle.zic_lines.specs.declared.rule.Rule.{Rule}
@@ -41,7 +41,9 @@ pub record IsShownBy (rules : List Rule) (line : ZoneLine) (rule : Option ℕ) (
 pub record IsRefusedBy (rules : List Rule) (line : ZoneLine) (rule : Option ℕ) (reason : Kind) : Type 0 where
   pub kept : Kept
   pub is_kept : IsKeptBy rules line.rules rule kept
-  pub refused : IsRefusal (abbreviation line.format (line.offset +ℤ kept.saving) kept.daylight kept.letter) reason
+  pub offset : ℤ
+  pub total : offset ≡ line.offset +ℤ kept.saving
+  pub refused : IsRefusal (abbreviation line.format offset kept.daylight kept.letter) reason
 
 -- The line's standard offset is within 24 hours together with each saving of its RULES.
 abbrev pub IsInRangeOn : List Rule → ZoneLine → Type 0
@@ -51,11 +53,12 @@ IsInRangeOn rules line = (saving : ℤ) → IsSavingOf rules line.rules saving �
 abbrev pub IsOutOfRangeOn : List Rule → ZoneLine → Type 0
 IsOutOfRangeOn rules line = (saving : ℤ) × IsSavingOf rules line.rules saving × (GREATEST_OFFSET < unsigned_abs (line.offset +ℤ saving))
 
--- an offset together with the saving of each of the rules of these numbers
-abbrev pub AreAllInRange : List Rule → ℤ → List ℕ → Type 0
-AreAllInRange rules offset numbers = (n : ℕ) (rule : Rule) → Contains numbers n → slice_get rules n ≡ Some rule
+-- An offset is within 24 hours together with the saving of each of the rules of the first n of these numbers.
+abbrev pub AreAllInRange : List Rule → ℤ → List ℕ → ℕ → Type 0
+AreAllInRange rules offset numbers n = (k : ℕ) (rule : Rule) → k < n → slice_get rules (slice_index numbers k) ≡ Some rule
     → unsigned_abs (offset +ℤ rule.saving.seconds) ≤ GREATEST_OFFSET
 
+-- With the saving of the rule of one of the numbers it passes 24 hours.
 abbrev pub IsOneOutOfRange : List Rule → ℤ → List ℕ → Type 0
 IsOneOutOfRange rules offset numbers = (n : ℕ) × (rule : Rule) × Contains numbers n × (slice_get rules n ≡ Some rule)
     × (GREATEST_OFFSET < unsigned_abs (offset +ℤ rule.saving.seconds))
@@ -113,6 +116,12 @@ IsUpTo all i t = (t <ℤ all.end) × IfSome (slice_get all.list.items i) (λ s. 
 -- From the stretch before this place on, up to that at this place, the state is so.
 abbrev pub IsSoTo : (ℤ → Shown → Type 0) → Stretches → ℕ → Shown → Type 0
 IsSoTo IsSo all i state = (t : ℤ) → IsFrom (from_of all.list.items i) t → IsUpTo all i t → IsSo t state
+
+-- the changes so far, up to the stretch at this place, where the state `last` is shown before it: they go on with any later ones
+pub record AreKeptTo (zone : Zone) (all : Stretches) (first : Shown) (i : ℕ) (last : Shown) (cs : List Change) : Type 0 where
+  pub so : IsSoTo (ShowsNamed zone) all i last
+  pub later : (rest : List Change) → AreSoFrom (ShowsNamed zone) all.end (from_of all.list.items i) last rest
+      → AreSoFrom (ShowsNamed zone) all.end None first (cs ++ rest)
 
 -- Before the stretch at this place the zone shows some state at each instant.
 abbrev pub ShowsSomeTo : Zone → Stretches → ℕ → Type 0

@@ -1,0 +1,6 @@
+pub mod TimelineAssumed
+pub mod TimelineChanges
+pub mod TimelineStates
+pub mod TimelineFaults
+pub mod TimelineKept
+pub mod TimelineOffsets
