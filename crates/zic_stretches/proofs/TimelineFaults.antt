@@ -94,6 +94,11 @@ pub stop_tells : (zone : Zone) (stop : Stop) (fault : Fault) → stop ≡ stops.
     → IfSome (fault_of stop) (IsFaultOfStates zone)
 stop_tells zone stop fault e is = subst (λ (s : Stop). IfSome (fault_of s) (IsFaultOfStates zone)) (sym e) is
 
+pub from_stretches : (zone : Zone) (stop : Stop) → (HasOffsetOutOfRange zone → ⊥) → IfSome (fault_of stop) (IsFaultOfStretches zone)
+    → IfSome (fault_of stop) (IsFaultOfStates zone)
+from_stretches zone (stops.Fault fault) range is = fault_of_stretches zone fault is.place range is
+from_stretches zone stops.Memory range is = tt
+
 -- ---- before the end
 
 module _ (zone : Zone) (orderly : IsOrderly zone) (end : ℤ) (is_end : IsEnd zone end) where

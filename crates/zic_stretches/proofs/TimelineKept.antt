@@ -131,3 +131,10 @@ pub change_at_place : (xs : List DatedState) (k : ℕ) (x : DatedState) (c : Cha
     → c.state ≡ shown_by x.state → slice_get (map dated xs) k ≡ Some c
 change_at_place xs k x c at instant state =
     into_dated xs k x at ∙ ap Some (sym (λ j. record { instant = instant j; state = state j }))
+
+pub as_many : (xs : List DatedState) → length xs ≡ length (map dated xs)
+as_many [] = refl
+as_many (x ∷ xs) = ap (λ n. suc n) (as_many xs)
+
+pub is_within : (xs : List DatedState) (cs : List Change) (i : ℕ) → cs ≡ map dated xs → i < length cs → i < length xs
+is_within xs cs i same lt = let count = as_many xs in let e = ap (λ (ds : List Change). length ds) same in omega (arith, lt, count, e)

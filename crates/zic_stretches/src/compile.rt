@@ -1,18 +1,22 @@
 //! How a timeline is made.
 
-ghost use Rattle.std.specs.Prelude.{◌≡◌, ◌<◌, IfOk, length};
+ghost use Rattle.std.specs.Prelude.{◌≡◌, ◌<◌, None, true, IfOk, length};
 ghost use Rattle.zic_base.specs.Fault.{fault_of};
 ghost use Rattle.zic_base.specs.Memory.{IfRefusal};
 ghost use Rattle.zic_states.specs.Fault.{IsSound, IsFaultOfStates};
+ghost use Rattle.zic_states.specs.Abbreviation.{is_abbreviation};
 ghost use Rattle.zic_stretches.specs.Stretch.{zone_of};
+ghost use Rattle.zic_stretches.specs.code.Shown.{HasStretches, ShowsWhereHeld, shown_by};
 
 use crate::changes::{changes_of, place_of, refusal, state_at};
 use crate::offsets::are_offsets_in_range;
+use crate::stretch::Stretches;
 use crate::timelines::Timeline;
 use crate::walk::stretches;
+use crate::zone_state::ZoneState;
 use std::alloc::Global;
 use zic_base::{Kind, Stop};
-use zic_source::Source;
+use zic_source::{MOST_RULES, Source};
 
 /// All that a zone shows before its explicit end; the zone by its number from 0.
 ///
@@ -29,11 +33,39 @@ pub fn timeline<'a>(alloc: Global, source: &'a Source, zone: usize) -> Result<Ti
     if !are_offsets_in_range(source, zone) {
         return Err(Stop::at(place_of(source, zone), Kind::OffsetRange));
     }
+    prove!(source.rules() <= MOST_RULES);
     let all = stretches(alloc, source, zone)?;
-    let first = match state_at(source, zone, 0, None) {
-        Ok(first) => first,
-        Err(kind) => return Err(refusal(source, zone, &all, kind)),
-    };
-    let changes = changes_of(alloc, source, zone, &all, first)?;
+    timeline_of(alloc, source, zone, &all)
+}
+
+/// The timeline of a zone with these stretches.
+fn timeline_of<'a>(
+    alloc: Global,
+    source: &'a Source,
+    zone: usize,
+    all: &Stretches,
+) -> Result<Timeline<'a>, Stop>
+    requires zone { zone < length source.now.zones }
+    requires stretches { HasStretches (zone_of source.now zone) all.now }
+    ensures ok { IfOk result (λ t. t ≡ zone_of source.now zone) }
+    ensures sound { IfOk result IsSound }
+    ensures err { IfRefusal fault_of result (IsFaultOfStates (zone_of source.now zone)) }
+{
+    let first = first_of(source, zone, all)?;
+    let changes = changes_of(alloc, source, zone, all, first)?;
     Ok(Timeline::new(source, zone, first, changes, all.end))
+}
+
+/// The state before all stretches.
+fn first_of(source: &Source, zone: usize, all: &Stretches) -> Result<ZoneState, Stop>
+    requires zone { zone < length source.now.zones }
+    requires stretches { HasStretches (zone_of source.now zone) all.now }
+    ensures shows { IfOk result (λ s. ShowsWhereHeld (zone_of source.now zone) 0 None (shown_by s)) }
+    ensures within { IfOk result (λ s. is_abbreviation s.name ≡ true) }
+    ensures err { IfRefusal fault_of result (IsFaultOfStates (zone_of source.now zone)) }
+{
+    match state_at(source, zone, 0, None) {
+        Ok(first) => Ok(first),
+        Err(kind) => Err(refusal(source, zone, all, kind)),
+    }
 }

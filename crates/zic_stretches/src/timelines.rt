@@ -31,6 +31,9 @@ pub struct Timeline<'a> {
 
 impl<'a> Model for Timeline<'a> {
     ghost use Rattle.zic_states.specs.Zone.{Zone};
+    ghost use Rattle.std.specs.Prelude.{map};
+    ghost use Rattle.zic_stretches.specs.code.Shown.{IsTimeline, shown_by, dated};
+
     ghost Value = { Zone };
 
     ghost view = { λ t. record { source = t.source.now; number = t.zone } };
