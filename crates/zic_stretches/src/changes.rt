@@ -47,18 +47,18 @@ pub(crate) fn changes_of(
     source: &Source,
     zone: usize,
     all: &Stretches,
-    first: ZoneState,
+    first: &ZoneState,
 ) -> Result<Vec<DatedState>, Stop>
     requires zone { zone < length source.now.zones }
     requires stretches { HasStretches (zone_of source.now zone) all.now }
-    requires first { ShowsWhereHeld (zone_of source.now zone) 0 None (shown_by first) }
-    requires within { is_abbreviation first.name ≡ true }
+    requires first { ShowsWhereHeld (zone_of source.now zone) 0 None (shown_by first.now) }
+    requires within { is_abbreviation first.now.name ≡ true }
     ensures ok { IfOk result
-        (λ cs. AreSoFrom (ShowsNamed (zone_of source.now zone)) all.now.end None (shown_by first) (map dated cs.items)) }
+        (λ cs. AreSoFrom (ShowsNamed (zone_of source.now zone)) all.now.end None (shown_by first.now) (map dated cs.items)) }
     ensures err { IfRefusal fault_of result (IsFaultOfStates (zone_of source.now zone)) }
 {
     let mut changes = Vec::new(alloc);
-    let mut last = first;
+    let mut last = *first;
     for stretch in &all.list {
         match state_at(source, zone, stretch.line, stretch.rule) {
             Ok(state) => {

@@ -52,7 +52,7 @@ fn timeline_of<'a>(
     ensures err { IfRefusal fault_of result (IsFaultOfStates (zone_of source.now zone)) }
 {
     let first = first_of(source, zone, all)?;
-    let changes = changes_of(alloc, source, zone, all, first)?;
+    let changes = changes_of(alloc, source, zone, all, &first)?;
     Ok(Timeline::new(source, zone, first, changes, all.end))
 }
 

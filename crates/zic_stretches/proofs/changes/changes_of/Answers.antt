@@ -10,8 +10,8 @@ use Rattle.zic_stretches.proofs.changes.changes_of.Goals.{then-ne+in_ok-push-in-
 pub loop-stretch-init : goal.loop-stretch-init
 loop-stretch-init c =
     let zone = zone_of c.args.source.now c.args.zone in
-    subst (λ (xs : List DatedState). AreKeptTo zone c.args.all.now (shown_by c.args.first) 0 (shown_by c.args.first) (map dated xs)) (sym c.new-changes.ensures.items)
-    (kept_first zone c.args.all.now c.requires.stretches.stretches (shown_by c.args.first) c.requires.first c.requires.within)
+    subst (λ (xs : List DatedState). AreKeptTo zone c.args.all.now (shown_by c.args.first.now) 0 (shown_by c.args.first.now) (map dated xs)) (sym c.new-changes.ensures.items)
+    (kept_first zone c.args.all.now c.requires.stretches.stretches (shown_by c.args.first.now) c.requires.first c.requires.within)
 
 pub state_at-requires-clause-held : goal.state_at-requires-clause-held
 state_at-requires-clause-held c =
@@ -42,7 +42,7 @@ loop-stretch-preserved c =
     let at = item_at all.list.items ys i c.deref-stretch-items.ensures.value c.loop-stretch-test.true in
     let state = c.in-Ok.state in
     let last = c.loop-stretch.last in
-    let first = shown_by c.args.first in
+    let first = shown_by c.args.first.now in
     let old = c.loop-stretch.changes.items in
     elim c.if-ne.branch [
       | then-ne+in_ok-push-in-Ok w ↦
@@ -63,5 +63,5 @@ returns-clause-ok c =
     let all = c.args.all.now in
     let same = ap (λ (xs : List Stretch). length xs) c.deref-stretch-items.ensures.value in
     let end : c.loop-stretch.stretch-index ≡ length all.list.items = omega (arith, same, c.loop-stretch-test.false, c.loop-stretch.auto.stretch-index-end) in
-    kept_to_end (zone_of c.args.source.now c.args.zone) all c.requires.stretches.stretches (shown_by c.args.first) c.loop-stretch.stretch-index
+    kept_to_end (zone_of c.args.source.now c.args.zone) all c.requires.stretches.stretches (shown_by c.args.first.now) c.loop-stretch.stretch-index
     (shown_by c.loop-stretch.last) (map dated c.loop-stretch.changes.items) end c.loop-stretch.invariant

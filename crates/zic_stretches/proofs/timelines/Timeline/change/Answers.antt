@@ -17,7 +17,8 @@ index-change-requires c =
     let r = c.requires in
     let there = subst (λ (z : Zone). AreChanges z r.0) (sym c.self.view_is) r.1 in
     let same = the_changes (zone_of t.source.now t.zone) t.end (shown_by t.first) (map dated t.changes.items) c.self.invariant r.0 there in
-    is_within t.changes.items r.0 c.args.i same r.2
+    let lt = is_within t.changes.items r.0 c.args.i same r.2 in
+    search (rules, lt)
 
 pub returns : goal.returns
 returns c =
