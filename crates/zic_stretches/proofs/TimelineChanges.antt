@@ -31,9 +31,13 @@ module _ (IsSo : ℤ → Shown → Type 0) (end : ℤ) where
   pub so_earlier : (start : Option ℤ) (u : ℤ) (state : Shown) (cs : List Change) → ComesAfter start u
       → ((t : ℤ) → IsFrom start t → t <ℤ u → IsSo t state) → AreSoFrom IsSo end (Some u) state cs → AreSoFrom IsSo end start state cs
   so_earlier start u state [] after so rest = λ t from before. by_lt_z t u (λ lt. so t from lt) (λ ge. rest t ge before)
-  so_earlier start u state (c ∷ cs) after so rest =
-      (later_after start u c.instant after rest.0, rest.1, rest.2,
-          λ t from before. by_lt_z t u (λ lt. so t from lt) (λ ge. rest.3 t ge before), rest.4)
+  so_earlier start u state (c ∷ cs) after so rest = (
+    later_after start u c.instant after rest.0,
+    rest.1,
+    rest.2,
+    λ t from before. by_lt_z t u (λ lt. so t from lt) (λ ge. rest.3 t ge before),
+    rest.4,
+  )
 
   so_at_start : (u : ℤ) (state : Shown) (cs : List Change) → u <ℤ end → AreSoFrom IsSo end (Some u) state cs → IsSo u state
   so_at_start u state [] before so = so u (omega (arith, ints)) before
@@ -75,11 +79,11 @@ module _ (IsSo : ℤ → Shown → Type 0) (end : ℤ) where
       absurd (changes state (so t from' before) (so (t -ℤ pos 1) from (omega (arith, ints))))
   so_all t before changes start state (c ∷ cs) from from' so =
       by_lt_z t c.instant
-          (λ lt. absurd (changes state (so.3 t from' lt) (so.3 (t -ℤ pos 1) from (omega (arith, ints)))))
-          (λ ge. by_lt_z c.instant t
-              (λ gt. any_later (λ x. x.instant ≡ t) c cs
-                  (so_all t before changes (Some c.instant) c.state cs (omega (arith, ints)) ge so.4))
-              (λ le. any_first (λ x. x.instant ≡ t) c cs (omega (arith, ints))))
+      (λ lt. absurd (changes state (so.3 t from' lt) (so.3 (t -ℤ pos 1) from (omega (arith, ints)))))
+      (λ ge. by_lt_z c.instant t
+      (λ gt. any_later (λ x. x.instant ≡ t) c cs
+      (so_all t before changes (Some c.instant) c.state cs (omega (arith, ints)) ge so.4))
+      (λ le. any_first (λ x. x.instant ≡ t) c cs (omega (arith, ints))))
 
   -- before the first change
   pub so_first : (t : ℤ) (start : Option ℤ) (state : Shown) (cs : List Change) → IsFrom start t → t <ℤ end
@@ -105,5 +109,5 @@ module _ (IsSo : ℤ → Shown → Type 0) (end : ℤ) where
   so_somewhere t start state [] from before so = (state, so t from before)
   so_somewhere t start state (c ∷ cs) from before so =
       by_lt_z t c.instant
-          (λ lt. (state, so.3 t from lt))
-          (λ ge. so_somewhere t (Some c.instant) c.state cs ge before so.4)
+      (λ lt. (state, so.3 t from lt))
+      (λ ge. so_somewhere t (Some c.instant) c.state cs ge before so.4)

@@ -62,28 +62,28 @@ module _ (zone : Zone) (fault : Fault) (place : IsSomeAnd (lines_of zone) (λ li
   pub fault_of_range : fault.kind ≡ kind.OffsetRange → HasOffsetOutOfRange zone → IsFaultOfStates zone fault
   fault_of_range is has = made kind.OffsetRange is has
       (least_by zone 24 (λ lt. absurd (omega (arith, lt))) (λ lt. absurd (omega (arith, lt))) (λ lt. absurd (omega (arith, lt)))
-          (λ lt. absurd (omega (arith, lt))) (omega arith))
+      (λ lt. absurd (omega (arith, lt))) (omega arith))
 
   pub fault_of_stretches : (HasOffsetOutOfRange zone → ⊥) → IsFaultOfStretches zone fault → IsFaultOfStates zone fault
   fault_of_stretches range is = ⊎_elim
       (λ order. made kind.RulesOutOfOrder order.0 order.1
-          (least_by zone 25 (λ _. range) (λ lt. absurd (omega (arith, lt))) (λ lt. absurd (omega (arith, lt)))
-              (λ lt. absurd (omega (arith, lt))) (omega arith)))
+      (least_by zone 25 (λ _. range) (λ lt. absurd (omega (arith, lt))) (λ lt. absurd (omega (arith, lt)))
+      (λ lt. absurd (omega (arith, lt))) (omega arith)))
       (λ untils. made kind.UntilNotRising untils.0 untils.1
-          (least_by zone 26 (λ _. range) (λ _. untils.2) (λ lt. absurd (omega (arith, lt)))
-              (λ lt. absurd (omega (arith, lt))) (omega arith)))
+      (least_by zone 26 (λ _. range) (λ _. untils.2) (λ lt. absurd (omega (arith, lt)))
+      (λ lt. absurd (omega (arith, lt))) (omega arith)))
       is.kind
 
   module _ (all : Stretches) (known : HasStretches zone all) where
     pub fault_of_letter : fault.kind ≡ kind.NoLetter → HasNoLetter zone → IsFaultOfStates zone fault
     fault_of_letter is has = made kind.NoLetter is has
         (least_by zone 27 (λ _. known.in_range) (λ _. known.orderly.sets.in_order) (λ _. known.orderly.untils)
-            (λ lt. absurd (omega (arith, lt))) (omega arith))
+        (λ lt. absurd (omega (arith, lt))) (omega arith))
 
     fault_of_name : fault.kind ≡ kind.BadAbbreviation → (HasNoLetter zone → ⊥) → HasBadAbbreviation zone → IsFaultOfStates zone fault
     fault_of_name is letter has = made kind.BadAbbreviation is has
         (least_by zone 28 (λ _. known.in_range) (λ _. known.orderly.sets.in_order) (λ _. known.orderly.untils)
-            (λ _. letter) (omega arith))
+        (λ _. letter) (omega arith))
 
     pub fault_of_unnamed : (k : Kind) → fault.kind ≡ k → (HasNoLetter zone → ⊥) → IsUnnamed zone k → IsFaultOfStates zone fault
     fault_of_unnamed kind.NoLetter is letter un = absurd (letter un)
@@ -109,20 +109,23 @@ module _ (zone : Zone) (orderly : IsOrderly zone) (end : ℤ) (is_end : IsEnd zo
   -- what it shows, it shows before its end
   shown_earlier : (t : ℤ) (state : Shown) → Shows zone t state → (u : ℤ) × (u <ℤ end) × Shows zone u state
   shown_earlier t state shows =
-      let (u, before, keeps) = earlier t shows.line shows.kept shows.keeps in
-      (u, before, record {
-        line = shows.line;
-        kept = shows.kept;
-        keeps = keeps;
-        offset = shows.offset;
-        daylight = shows.daylight;
-        name = shows.name;
-      })
+      let (u, before, keeps) = earlier t shows.line shows.kept shows.keeps in (
+        u,
+        before,
+        record {
+          line = shows.line;
+          kept = shows.kept;
+          keeps = keeps;
+          offset = shows.offset;
+          daylight = shows.daylight;
+          name = shows.name;
+        },
+      )
 
   -- a line and what it keeps are one
   filled_once : (t : ℤ) (line line' : ZoneLine) (kept kept' : Kept) → ZoneKeeps zone t line kept → ZoneKeeps zone t line' kept'
       → abbreviation line.format (line.offset +ℤ kept.saving) kept.daylight kept.letter
-          ≡ abbreviation line'.format (line'.offset +ℤ kept'.saving) kept'.daylight kept'.letter
+      ≡ abbreviation line'.format (line'.offset +ℤ kept'.saving) kept'.daylight kept'.letter
   filled_once t line line' kept kept' by by' =
       let read = untils_are_read zone orderly in
       let (number, same) = one_line zone orderly read t by.number by'.number line line' by.governs by'.governs in
@@ -153,13 +156,13 @@ module _ (zone : Zone) (orderly : IsOrderly zone) (end : ℤ) (is_end : IsEnd zo
     is_sound range = sound_by zone range orderly.sets.in_order orderly.untils
         (no_letter_lacks (λ t before. let (state, shows) = named t before in (state, shows.0)))
         (λ bad.
-            let (u, before, shows) = shown_earlier bad.t bad.state bad.shows in
-            let (state, is) = named u before in
-            let same = one u bad.state state shows is.0 in
-            let name = is.1 in
-            let breaks = bad.breaks in
-            let e = ap (λ (x : Shown). is_abbreviation x.name) same in
-            cc)
+        let (u, before, shows) = shown_earlier bad.t bad.state bad.shows in
+        let (state, is) = named u before in
+        let same = one u bad.state state shows is.0 in
+        let name = is.1 in
+        let breaks = bad.breaks in
+        let e = ap (λ (x : Shown). is_abbreviation x.name) same in
+        cc)
 
     pub timeline : (HasOffsetOutOfRange zone → ⊥) → IsTimeline zone end first cs
     timeline range = record { sound = is_sound range; orderly = orderly; is_end = is_end; so = so }

@@ -24,16 +24,19 @@ module _ (zone : Zone) (end : ℤ) (first : Shown) (cs : List Change) (kept : Is
 
   each : (k : ℕ) (d : Change) → k < length cs → IsChange zone (get_or cs k d).instant × Shows zone (get_or cs k d).instant (get_or cs k d).state
   each = so_each (ShowsNamed zone) end (λ c. IsChange zone c.instant × Shows zone c.instant c.state)
-      (λ c earlier before now was differs. (record {
-        end = end;
-        is_end = kept.is_end;
-        before_end = before;
-        state = c.state;
-        earlier = earlier;
-        shows = now.0;
-        showed = was.0;
-        differs = λ e. differs (sym e);
-      }, now.0))
+      (λ c earlier before now was differs. (
+        record {
+          end = end;
+          is_end = kept.is_end;
+          before_end = before;
+          state = c.state;
+          earlier = earlier;
+          shows = now.0;
+          showed = was.0;
+          differs = λ e. differs (sym e);
+        },
+        now.0,
+      ))
       None first cs kept.so
 
   pub are_changes : AreChanges zone cs
@@ -56,7 +59,7 @@ module _ (zone : Zone) (end : ℤ) (first : Shown) (cs : List Change) (kept : Is
   is_first end' t is_end before none =
       let same = one_end zone kept.orderly.sets end' end is_end kept.is_end in
       (so_first (ShowsNamed zone) end t None first cs tt (subst (λ (e : ℤ). t <ℤ e) same before)
-          (λ c at. none c.instant (change_at c at)) kept.so).0
+      (λ c at. none c.instant (change_at c at)) kept.so).0
 
   -- any list of all changes is this one
   pub the_changes : (others : List Change) → AreChanges zone others → others ≡ cs
@@ -86,7 +89,7 @@ two_rise xs i j x y rising at_i at_j lt =
     let to_j = into_dated xs j y at_j in
     let both = rising i j (dated x) lt (slice_get_within (map dated xs) j (dated y) to_j) in
     let less : x.instant <ℤ y.instant =
-        rw (get_or_from_slice_get (map dated xs) i (dated x) (dated x) (into_dated xs i x at_i), get_or_from_slice_get (map dated xs) j (dated y) (dated x) to_j) at both in
+    rw (get_or_from_slice_get (map dated xs) i (dated x) (dated x) (into_dated xs i x at_i), get_or_from_slice_get (map dated xs) j (dated y) (dated x) to_j) at both in
     less
 
 not_after-true : (a t : ℤ) → a ≤ℤ t → int_le a t ≡ true

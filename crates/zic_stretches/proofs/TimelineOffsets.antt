@@ -34,9 +34,11 @@ set_out_of_range rules line offset name numbers at_offset has_set e (number, rul
     let has_too = subst (λ (ns : List ℕ). Contains ns number) e has in
     let of_set = All-contains (IsMemberNumber set) (set_rules name rules) number (members set) has_too in
     let same = same_Some of_set.rule rule (sym of_set.member.numbered ∙ at) in
-    let member = subst (λ (r : Rule). IsMember set number r) same of_set.member in
-    (rule.saving.seconds, subst (λ (r : Rules). IsSavingOf rules r rule.saving.seconds) (sym has_set) (number, rule, member, refl),
-        subst (λ (o : ℤ). GREATEST_OFFSET < unsigned_abs (o +ℤ rule.saving.seconds)) at_offset passes)
+    let member = subst (λ (r : Rule). IsMember set number r) same of_set.member in (
+      rule.saving.seconds,
+      subst (λ (r : Rules). IsSavingOf rules r rule.saving.seconds) (sym has_set) (number, rule, member, refl),
+      subst (λ (o : ℤ). GREATEST_OFFSET < unsigned_abs (o +ℤ rule.saving.seconds)) at_offset passes,
+    )
 
 pub in_range_more : (rules : List Rule) (offset : ℤ) (numbers : List ℕ) (i : ℕ) (rule : Rule) → AreAllInRange rules offset numbers i
     → slice_get rules (get_or numbers i 0) ≡ Some rule → (saving : ℤ) → saving ≡ rule.saving.seconds → unsigned_abs (offset +ℤ saving) ≤ GREATEST_OFFSET

@@ -66,11 +66,11 @@ unnamed_at zone number rule line reason at held by = ⊎_elim
       wants = ap (λ (o : ℤ). abbreviation line.format o by.kept.daylight by.kept.letter) (sym by.total) ∙ lacks.1;
     })
     (λ breaks.
-        let state : Shown = record { offset = by.offset; daylight = by.kept.daylight; name = breaks.1.name } in
-        let shown : IsShownBy zone.source.rules line rule state =
-            record { kept = by.kept; is_kept = by.is_kept; offset = by.total; daylight = refl; name = breaks.1.is } in
-        subst (IsUnnamedAt zone number rule) (sym breaks.0)
-        (state, shows_held zone number rule line state at shown, breaks.1.breaks))
+    let state : Shown = record { offset = by.offset; daylight = by.kept.daylight; name = breaks.1.name } in
+    let shown : IsShownBy zone.source.rules line rule state =
+    record { kept = by.kept; is_kept = by.is_kept; offset = by.total; daylight = refl; name = breaks.1.is } in
+    subst (IsUnnamedAt zone number rule) (sym breaks.0)
+    (state, shows_held zone number rule line state at shown, breaks.1.breaks))
     by.refused
 
 -- the same of what a call answers
@@ -120,10 +120,14 @@ module _ (zone : Zone) (all : Stretches) (known : AreStretches zone all.end all.
   held_from i s at t from up = known.each i s t at from up.0 up.1
 
   pub held_at : (i : ℕ) (s : Stretch) → slice_get all.list.items i ≡ Some s → IsHeld zone s.line s.rule
-  held_at i s at =
-      (s.from, held_from i s at s.from (omega (arith, ints))
-          (before_end i s at, by_some (slice_get all.list.items (i + 1)) (λ n. s.from <ℤ n.from)
-              (λ n next. two_rise i (i + 1) s n at next (omega arith))))
+  held_at i s at = (
+    s.from,
+    held_from i s at s.from (omega (arith, ints)) (
+      before_end i s at,
+      by_some (slice_get all.list.items (i + 1)) (λ n. s.from <ℤ n.from)
+          (λ n next. two_rise i (i + 1) s n at next (omega arith)),
+    ),
+  )
 
   -- before the first
   from_first : (t : ℤ) (first : Stretch) → slice_get all.list.items 0 ≡ Some first → t <ℤ first.from
@@ -200,9 +204,13 @@ module _ (zone : Zone) (all : Stretches) (known : AreStretches zone all.end all.
     pub new_state : (i : ℕ) (s : Stretch) (state next : Shown) → slice_get all.list.items i ≡ Some s → IsSoTo IsSo all i state
         → (state ≡ next → ⊥) → (rest : List Change) → AreSoFrom IsSo all.end (from_of all.list.items (i + 1)) next rest
         → AreSoFrom IsSo all.end (from_of all.list.items i) state (record { instant = s.from; state = next } ∷ rest)
-    new_state i s state next at so differs rest later =
-        (after_from i s at, before_end i s at, differs, so_up_to i s state at so,
-            subst (λ (o : Option ℤ). AreSoFrom IsSo all.end o next rest) (from_next i s at) later)
+    new_state i s state next at so differs rest later = (
+      after_from i s at,
+      before_end i s at,
+      differs,
+      so_up_to i s state at so,
+      subst (λ (o : Option ℤ). AreSoFrom IsSo all.end o next rest) (from_next i s at) later,
+    )
 
     -- after the last
     none_at_end : (t : ℤ) → IfSome (slice_get all.list.items (length all.list.items)) (λ s. t <ℤ s.from)
@@ -226,8 +234,11 @@ module _ (zone : Zone) (all : Stretches) (known : AreStretches zone all.end all.
       (λ ge. (state, shows t (held_from i s at t ge up)))
 
   pub some_to_end : ShowsSomeTo zone all (length all.list.items) → ShowsSomeBefore zone all.end
-  some_to_end some t before = some t (before, subst (λ (o : Option Stretch). IfSome o (λ s. t <ℤ s.from))
-      (sym (slice_get_past all.list.items (length all.list.items) (omega arith))) tt)
+  some_to_end some t before = some t (
+    before,
+    subst (λ (o : Option Stretch). IfSome o (λ s. t <ℤ s.from))
+        (sym (slice_get_past all.list.items (length all.list.items) (omega arith))) tt,
+  )
 
 -- ---- equal states
 
@@ -281,7 +292,7 @@ module _ (zone : Zone) (all : Stretches) (known : AreStretches zone all.end all.
     so = so_at_next zone all known (ShowsNamed zone) i s state at (λ t h. (shows t h, name));
     later = λ rest so. so_far.later rest
         (same_state zone all known (ShowsNamed zone) i s last at so_far.so rest
-            (subst (λ (x : Shown). AreSoFrom (ShowsNamed zone) all.end (from_of all.list.items (i + 1)) x rest) (sym same) so));
+        (subst (λ (x : Shown). AreSoFrom (ShowsNamed zone) all.end (from_of all.list.items (i + 1)) x rest) (sym same) so));
   }
 
   kept_new : (i : ℕ) (s : Stretch) (last state : Shown) (cs : List Change) → slice_get all.list.items i ≡ Some s
@@ -292,7 +303,7 @@ module _ (zone : Zone) (all : Stretches) (known : AreStretches zone all.end all.
     later = λ rest so. subst (λ (ds : List Change). AreSoFrom (ShowsNamed zone) all.end None first ds)
         (sym (append_assoc cs (record { instant = s.from; state = state } ∷ []) rest))
         (so_far.later (record { instant = s.from; state = state } ∷ rest)
-            (new_state zone all known (ShowsNamed zone) i s last state at so_far.so differs rest so));
+        (new_state zone all known (ShowsNamed zone) i s last state at so_far.so differs rest so));
   }
 
   pub kept_pushed : (i : ℕ) (s : Stretch) (last state : ZoneState) (xs ys : List DatedState) → slice_get all.list.items i ≡ Some s

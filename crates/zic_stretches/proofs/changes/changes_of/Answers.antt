@@ -28,7 +28,7 @@ refusal-requires-clause-unnamed c =
     let s = get_or ys i nowhere in
     unnamed_from zone s.line s.rule c.in-Err.kind
     (held_at zone c.args.all.now c.requires.stretches.stretches i s
-        (item_at c.args.all.now.list.items ys i c.deref-stretch-items.ensures.value c.loop-stretch-test.true))
+    (item_at c.args.all.now.list.items ys i c.deref-stretch-items.ensures.value c.loop-stretch-test.true))
     c.in-Err.ensures.err
 
 pub loop-stretch-preserved : goal.loop-stretch-preserved
@@ -50,12 +50,12 @@ loop-stretch-preserved c =
           let items : w.push.new.self.items ≡ old ++ record { instant = s.from; state = state } ∷ [] = search rules in
           rw (w.last-is, w.changes-is)
           (kept_pushed zone all known first i s last state old w.push.new.self.items at c.in-Ok.ensures.ok c.in-Ok.ensures.within differs items
-              c.loop-stretch.invariant)
+          c.loop-stretch.invariant)
       | else-ne w ↦
           let same = states_same state last c.ne.result c.ne.ensures w.if-ne.false in
           rw (w.last-is, w.changes-is)
           (kept_same zone all known first i s (shown_by last) (shown_by state) (map dated old) at c.in-Ok.ensures.ok c.in-Ok.ensures.within same
-              c.loop-stretch.invariant)
+          c.loop-stretch.invariant)
     ]
 
 pub returns-clause-ok : goal.returns-clause-ok

@@ -18,4 +18,4 @@ returns-else-lacks_letter c =
     let fault = fault_at c.place_of-place.result c.args.kind in
     stop_tells zone c.at-else-lacks_letter.result fault c.at-else-lacks_letter.ensures
     (fault_of_unnamed zone fault c.place_of-place.ensures c.args.all.now c.requires.stretches c.args.kind refl
-        (c.lacks_letter.ensures.has c.if-lacks_letter.false) c.requires.unnamed)
+    (c.lacks_letter.ensures.has c.if-lacks_letter.false) c.requires.unnamed)

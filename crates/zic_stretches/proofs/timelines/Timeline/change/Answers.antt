@@ -33,6 +33,8 @@ returns c =
     let x = c.index-change.result.now in
     let at : slice_get xs c.args.i ≡ Some x = slice_get_read xs (length xs) c.args.i x (search rules) lt c.index-change.ensures in
     let fits : SFits w64 x.instant = search rules in
-    let same : to_z w64 (of_z w64 x.instant) ≡ x.instant = omega (arith, ints, fits) in
-    (cs, subst (λ (z : Zone). AreChanges z cs) c.self.view_is are,
-        change_at_place xs c.args.i x (change_of (record { instant = to_z w64 (of_z w64 x.instant); state = c.state_of.result })) at same c.state_of.ensures)
+    let same : to_z w64 (of_z w64 x.instant) ≡ x.instant = omega (arith, ints, fits) in (
+      cs,
+      subst (λ (z : Zone). AreChanges z cs) c.self.view_is are,
+      change_at_place xs c.args.i x (change_of (record { instant = to_z w64 (of_z w64 x.instant); state = c.state_of.result })) at same c.state_of.ensures,
+    )

@@ -20,7 +20,7 @@ returns-then-count-eq0 c =
     let kept = subst (λ (zs : List DatedState). IsTimeline zone t.end first (map dated zs)) (sym c.deref.ensures.value) c.self.invariant in
     let before : c.args.t <ℤ t.end = c.requires t.end (subst (λ (z : Zone). IsEnd z t.end) c.self.view_is c.self.invariant.is_end) in
     let point = IsPartitionPoint-from_clause (λ (x : DatedState). int_le x.instant c.args.t) ys c.partition_point-count.result
-        c.partition_point-count.ensures.partitioned (parted_dated ys c.args.t (are_changes zone t.end first (map dated ys) kept).rising) (λ a r q k. search rules) in
+    c.partition_point-count.ensures.partitioned (parted_dated ys c.args.t (are_changes zone t.end first (map dated ys) kept).rising) (λ a r q k. search rules) in
     let shows = state_first zone t.end first ys kept c.args.t before c.partition_point-count.result point c.if-count-eq0.true in
     subst (λ (s : Shown). Shows c.args.self.now c.args.t s) (sym c.state_of.ensures) (subst (λ (z : Zone). Shows z c.args.t first) c.self.view_is shows)
 
@@ -35,7 +35,7 @@ returns c =
     let before : c.args.t <ℤ t.end = c.requires t.end (subst (λ (z : Zone). IsEnd z t.end) c.self.view_is c.self.invariant.is_end) in
     let n = c.partition_point-count.result in
     let point = IsPartitionPoint-from_clause (λ (x : DatedState). int_le x.instant c.args.t) ys n
-        c.partition_point-count.ensures.partitioned (parted_dated ys c.args.t (are_changes zone t.end first (map dated ys) kept).rising) (λ a r q k. search rules) in
+    c.partition_point-count.ensures.partitioned (parted_dated ys c.args.t (are_changes zone t.end first (map dated ys) kept).rising) (λ a r q k. search rules) in
     let some = c.if-count-eq0.false in
     let is : n ≡ suc (n - 1) = omega (arith, some) in
     let bound = c.partition_point-count.ensures.bound in
