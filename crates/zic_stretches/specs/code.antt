@@ -2,4 +2,5 @@
 pub mod End
 pub mod Held
 pub mod Line
+pub mod Shown
 pub mod Walk
