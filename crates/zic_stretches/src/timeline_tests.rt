@@ -6,9 +6,6 @@ use std::test::Fail;
 use zic_base::{Kind, Place, Stop};
 use zic_source::{Source, read_source};
 
-const UNITED_STATES: &[u8] =
-    b"Rule US 2007 max - Mar Sun>=8 2:00 1:00 D\nRule US 2007 max - Nov Sun>=1 2:00 0 S\n";
-
 const EIRE: &[u8] =
     b"Rule Eire 1996 max - Mar lastSun 1:00u 0 -\nRule Eire 1996 max - Oct lastSun 1:00u -1:00 -\n";
 
@@ -25,46 +22,6 @@ fn read(alloc: Global, parts: &[&[u8]]) -> Result<Source, Fail> {
         Err(Stop::Fault(_)) => Err(Fail::from("a fault")),
         Err(Stop::Memory) => Err(Fail::from("out of memory")),
     }
-}
-
-const STANDARD: State<'static> = State {
-    offset: -18_000,
-    daylight: false,
-    name: b"EST",
-};
-
-const DAYLIGHT: State<'static> = State {
-    offset: -14_400,
-    daylight: true,
-    name: b"EDT",
-};
-
-#[test]
-fn new_york(rt: HostRuntime) -> Result<(), Fail> {
-    let source = read(rt.alloc(), &[UNITED_STATES, b"Zone Z/NY -5:00 US E%sT\n"])?;
-    assert_eq!(rt; source.zones(), 1);
-    let Ok(found) = timeline(rt.alloc(), &source, 0) else {
-        return Err(Fail::from("timeline"));
-    };
-    assert_eq!(rt; found.first(), STANDARD);
-    assert_eq!(rt; found.len(), 6);
-    let expected = [
-        (1_173_596_400, DAYLIGHT),
-        (1_194_156_000, STANDARD),
-        (1_205_046_000, DAYLIGHT),
-        (1_225_605_600, STANDARD),
-        (1_236_495_600, DAYLIGHT),
-        (1_257_055_200, STANDARD),
-    ];
-    let mut i = 0;
-    for (instant, state) in expected {
-        assert_eq!(rt; found.change(i), Change { instant, state });
-        i += 1;
-    }
-    assert_eq!(rt; found.state(1_194_155_999), DAYLIGHT);
-    assert_eq!(rt; found.state(1_194_156_000), STANDARD);
-    assert_eq!(rt; found.end(), 1_262_304_000);
-    Ok(())
 }
 
 #[test]
