@@ -1,4 +1,4 @@
-//! Which line of a zone governs at an instant, and which occurrence of its set is current.
+//! What a zone shows before its explicit end: which line governs, which occurrence is current, and the states and changes.
 #![tactic(auto)]
 
 mod changes;
