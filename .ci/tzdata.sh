@@ -1,25 +1,48 @@
 #!/usr/bin/env bash
 # Reads the system's own release of the tz database, sees that it is accepted, and compares the numbers of its Rule,
-# Zone, continuation and Link lines with those that awk counts. Debian's package tzdata is installed where it is missing.
+# Zone, continuation and Link lines with those that awk counts. Then compares the changes of every zone, up to its explicit
+# end, with the files that the system's zic makes of that release. Debian's packages tzdata and libc-bin, which has zic, are
+# installed where they are missing; `python3` is 3.9 or later.
 set -euo pipefail
 cd "$(dirname "${BASH_SOURCE[0]}")/.."
+PATH=$PATH:/usr/sbin
 release=/usr/share/zoneinfo/tzdata.zi
-if [ ! -f "$release" ]; then
+work=$(mktemp -d)
+trap 'rm -rf "$work"' EXIT
+
+install() {
     apt-get update -qq >&2
-    DEBIAN_FRONTEND=noninteractive apt-get install -y -qq tzdata >&2
-fi
-log=$(mktemp)
-trap 'rm -f "$log"' EXIT
-if ! (cd crates/source_counts && rt run) <crates/source_counts/stdin >"$log" 2>&1; then
-    cat "$log" >&2
+    DEBIAN_FRONTEND=noninteractive apt-get install -y -qq "$1" >&2
+}
+
+# builds a program, by its run on its own input
+build() {
+    if ! (cd "crates/$1" && rt run) <"crates/$1/stdin" >"$work/log" 2>&1; then
+        cat "$work/log" >&2
+        exit 1
+    fi
+}
+
+fail() {
+    echo "tzdata.zi: got '$1', and not '$2'" >&2
     exit 1
-fi
+}
+
+[ -f "$release" ] || install tzdata
+command -v zic >"$work/log" || install libc-bin
+
+build source_counts
 got=$(crates/source_counts/out/source_counts <"$release")
 # In such a release each keyword is cut to one letter, and the lines that begin with none are continuations.
 want=$(awk '/^R /{r++} /^Z /{z++} /^L /{l++} !/^[RZL#]/ && NF {c++}
     END {printf "%d rules, %d zones, %d continuations, %d links\n", r, z, c, l}' "$release")
-if [ "$got" != "$want" ]; then
-    echo "tzdata.zi: got '$got', and not '$want'" >&2
-    exit 1
-fi
+[ "$got" = "$want" ] || fail "$got" "$want"
 echo "tzdata.zi: $got"
+
+build zone_changes
+crates/zone_changes/out/zone_changes <"$release" >"$work/changes" || fail "$(tail -n 1 "$work/changes")" "the changes of all zones"
+zic -b fat -d "$work/files" "$release"
+got=$(python3 witness/changes.py "$work/changes" "$work/files") || fail "$got" "0 differences"
+want=$(awk '/^Z /{z++} END {printf "%d zones\n", z}' "$release")
+[ "${got%%,*}" = "$want" ] || fail "$got" "$want"
+echo "tzdata.zi: $got from $(zic --version)"

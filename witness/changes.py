@@ -43,31 +43,40 @@ def state_by_footer(zone, t):
     return int(local.utcoffset().total_seconds()), int(bool(local.dst())), local.tzname()
 
 
-def shown_by_file(path, end, ours):
-    """The first state and the changes before `end` that a file shows; after its last transition `ours` are looked at."""
+def changes_by_footer(zone, state, instants):
+    """The changes of a zone that shows `state` at the first of these instants, where it changes at most once between two."""
+    for before, after in zip(instants, instants[1:]):
+        if state_by_footer(zone, after) == state:
+            continue
+        while after - before > 1:
+            middle = (before + after) // 2
+            if state_by_footer(zone, middle) == state:
+                before = middle
+            else:
+                after = middle
+        state = state_by_footer(zone, after)
+        yield after, state
+
+
+def shown_by_file(path, end):
+    """The first state and the changes before `end` that a file shows; after its last transition it is looked at each hour."""
     octets = open(path, "rb").read()
     first, transitions = read_second_block(octets)
-    zone = ZoneInfo.from_file(io.BytesIO(octets))
-    state, changes = first, []
     # fat files begin with a transition to the first state, long ago
     if transitions and transitions[0][0] < -(2**40):
-        state = first = transitions[0][1]
+        first = transitions[0][1]
         transitions = transitions[1:]
+    state, changes = first, []
     for t, after in transitions:
         if t < end and after != state:
             changes.append((t, after))
             state = after
-    last = transitions[-1][0] if transitions else -(2**62)
-    for t, _ in ours:
-        if t > last:
-            before, after = state_by_footer(zone, t - 1), state_by_footer(zone, t)
-            if before != state:
-                changes.append((t - 1, before))
-            if after != before:
-                changes.append((t, after))
-            state = after
-    if last < end and end > 0 and state_by_footer(zone, end - 1) != state:
-        changes.append((end - 1, state_by_footer(zone, end - 1)))
+    last = transitions[-1][0] if transitions else end - 2
+    if last < end - 1:
+        has_rules = b"," in octets[octets[:-1].rindex(b"\n"):]
+        zone = ZoneInfo.from_file(io.BytesIO(octets))
+        looks = range(last, end - 1, 3600) if has_rules else [last]
+        changes += changes_by_footer(zone, state, [*looks, end - 1])
     return first, changes
 
 
@@ -91,7 +100,7 @@ def main():
     zones = read_ours(sys.argv[1])
     differences = 0
     for name, zone in zones.items():
-        first, changes = shown_by_file(f"{sys.argv[2]}/{name}", zone["end"], zone["changes"])
+        first, changes = shown_by_file(f"{sys.argv[2]}/{name}", zone["end"])
         if (first, changes) != (zone["first"], zone["changes"]):
             differences += 1
             ours = set(zone["changes"]) ^ set(changes)

@@ -4,4 +4,5 @@ pub mod Memory
 pub mod Option
 pub mod Check
 pub mod Byte
+pub mod State
 pub mod code

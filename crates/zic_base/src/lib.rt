@@ -1,5 +1,5 @@
 //! What all crates share: where a line stands, what is wrong with a source or a zone, short texts, the bytes of
-//! abbreviations, and limits.
+//! abbreviations, states, and limits.
 #![tactic(auto)]
 
 mod byte;
@@ -7,12 +7,14 @@ mod fault;
 mod limit;
 mod place;
 mod short_text;
+mod state;
 
 pub use byte::{are_abbreviation_bytes, is_abbreviation_byte};
 pub use fault::{Fault, Kind, Stop};
 pub use limit::{FARTHEST_FILE_OFFSET, LONGEST_ABBREVIATION, LONGEST_FILE, SHORTEST_ABBREVIATION};
 pub use place::Place;
 pub use short_text::ShortText;
+pub use state::State;
 
 #[cfg(test)]
 mod tests;

@@ -4,3 +4,4 @@ pub mod ClockLemmas
 pub mod NameLemmas
 pub mod StringLemmas
 pub mod PrintLemmas
+pub mod MakingLemmas

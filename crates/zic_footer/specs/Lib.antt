@@ -5,8 +5,9 @@ pub mod Meaning
 pub mod Parsing
 pub mod Printing
 pub mod code
-pub use Rattle.zic_rules.specs.State
-pub use Rattle.zic_rules.specs.Zone
+pub use Rattle.zic_base.specs.State
+pub use Rattle.zic_states.specs.Change
+pub use Rattle.zic_states.specs.End
+pub use Rattle.zic_states.specs.Zone
 pub use Rattle.zic_rules.specs.Tail
-pub use Rattle.zic_rules.specs.Fault
 pub use Rattle.zic_source.specs.Source

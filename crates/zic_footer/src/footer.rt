@@ -1,14 +1,13 @@
 //! A footer, and what it says.
 
 ghost use Rattle.std.specs.Prelude.{◌≡◌, ℤ};
+ghost use Rattle.zic_base.specs.State.{shown};
 ghost use Rattle.zic_footer.specs.Footer.{constant, version_of};
 ghost use Rattle.zic_footer.specs.Grammar.{IsTzString};
 ghost use Rattle.zic_footer.specs.Meaning.{Means};
-ghost use Rattle.zic_rules.specs.State.{shown};
 
 use std::marker::Model;
-use zic_base::{LONGEST_ABBREVIATION, ShortText};
-use zic_rules::State;
+use zic_base::{LONGEST_ABBREVIATION, ShortText, State};
 
 /// The abbreviation of local time in a footer, without the `<` and `>` of its text; clauses see its octets.
 pub type Abbr = ShortText<LONGEST_ABBREVIATION>;

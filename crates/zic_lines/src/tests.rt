@@ -2,21 +2,10 @@
 
 use super::*;
 use std::alloc::Global;
+use std::process::Abort;
 use std::test::Fail;
-use zic_calendar::On;
-use zic_words::{ClockForm, ClockTime};
 
 const PLACE: Place = Place { text: 1, line: 7 };
-
-/// What this line says where a continuation line is awaited or not, if there is memory for it.
-fn entry(alloc: Global, awaited: bool, line: &[u8]) -> Result<Result<Option<Entry>, Kind>, Fail> {
-    match read(alloc, awaited, line) {
-        Ok(entry) => Ok(Ok(entry)),
-        Err(Stop::Fault(fault)) if fault.place == PLACE => Ok(Err(fault.kind)),
-        Err(Stop::Fault(_)) => Err(Fail::from("the line's place")),
-        Err(Stop::Memory) => Err(Fail::from("out of memory")),
-    }
-}
 
 fn read(alloc: Global, awaited: bool, line: &[u8]) -> Result<Option<Entry>, Stop> {
     let mut fields = Fields::new(alloc);
@@ -27,105 +16,153 @@ fn read(alloc: Global, awaited: bool, line: &[u8]) -> Result<Option<Entry>, Stop
     Ok(Some(line_entry(alloc, awaited, PLACE, &fields)?))
 }
 
-#[test]
-fn rule_line(rt: HostRuntime) -> Result<(), Fail> {
-    let line = b"Rule US 1967 2006 - Oct lastSun 2:00s 0 S # as zic(8) has it";
-    let Ok(Some(Entry::Rule(rule))) = entry(rt.alloc(), false, line)? else {
-        return Err(Fail::from("a rule"));
+/// Octets as text.
+fn text_of(alloc: Global, octets: &[u8]) -> Result<String, Fail> {
+    Ok(
+        String::from_utf8(Vec::from_slice(alloc, octets)?)
+            .ok()
+            .ok_or("text")?,
+    )
+}
+
+fn rule_text(alloc: Global, rule: &Rule) -> Result<String, Fail> {
+    let Place { text, line } = rule.place;
+    let name = text_of(alloc, rule.name.octets())?;
+    let letter = text_of(alloc, rule.letter.octets())?;
+    let (first, last, moment, saving) = (rule.first, rule.last, rule.moment, rule.saving);
+    Ok(format!(in alloc;
+        "rule {text}:{line} {name} {first} {last:?} {moment:?} {saving:?} {letter}"
+    )?)
+}
+
+fn rules_text(alloc: Global, rules: &Rules) -> Result<String, Fail> {
+    match rules {
+        Rules::Standard => Ok(String::from_str(alloc, "standard")?),
+        Rules::Amount(saving) => Ok(format!(in alloc; "{saving:?}")?),
+        Rules::Set(name) => text_of(alloc, name.octets()),
+    }
+}
+
+fn format_text(alloc: Global, format: &Format) -> Result<String, Fail> {
+    let (word, before, after) = match format {
+        Format::Plain(text) => return text_of(alloc, text.octets()),
+        Format::Letter(before, after) => ("%s", before, after),
+        Format::Offset(before, after) => ("%z", before, after),
+        Format::Pair(standard, daylight) => ("/", standard, daylight),
     };
-    assert_eq!(rt; rule.place, PLACE);
-    assert_eq!(rt; rule.name.octets(), b"US".as_slice());
-    assert_eq!(rt; (rule.first, rule.last), (1967, Some(2006)));
-    assert_eq!(rt; (rule.moment.month, rule.moment.on), (10, On::Last(0)));
-    assert_eq!(rt;
-        (rule.moment.at.seconds, rule.moment.at.form),
-        (7200, ClockForm::Standard)
-    );
-    assert_eq!(rt; (rule.saving.seconds, rule.saving.daylight), (0, false));
-    assert_eq!(rt; rule.letter.octets(), b"S".as_slice());
+    let before = text_of(alloc, before.octets())?;
+    let after = text_of(alloc, after.octets())?;
+    Ok(format!(in alloc; "[{before}]{word}[{after}]")?)
+}
+
+/// What a Zone or continuation line says, but a Zone line's name.
+fn zone_text(alloc: Global, zone: &ZoneLine) -> Result<String, Fail> {
+    let Place { text, line } = zone.place;
+    let (offset, until) = (zone.offset, zone.until);
+    let rules = rules_text(alloc, &zone.rules)?;
+    let format = format_text(alloc, &zone.format)?;
+    Ok(format!(in alloc; "{text}:{line} {offset} {rules} {format} {until:?}")?)
+}
+
+fn said(alloc: Global, entry: &Entry) -> Result<String, Fail> {
+    match entry {
+        Entry::Rule(rule) => rule_text(alloc, rule),
+        Entry::Zone(name, zone) => {
+            let name = text_of(alloc, name.octets())?;
+            let zone = zone_text(alloc, zone)?;
+            Ok(format!(in alloc; "zone {name} {zone}")?)
+        }
+        Entry::Continuation(zone) => {
+            let zone = zone_text(alloc, zone)?;
+            Ok(format!(in alloc; "continuation {zone}")?)
+        }
+        Entry::Link(link) => {
+            let target = text_of(alloc, link.target.octets())?;
+            let name = text_of(alloc, link.name.octets())?;
+            Ok(format!(in alloc; "link {target} {name}")?)
+        }
+    }
+}
+
+/// What this line says where a continuation line is awaited or not, or the kind of its fault.
+fn line_text(alloc: Global, awaited: bool, line: &[u8]) -> Result<String, Fail> {
+    match read(alloc, awaited, line) {
+        Ok(Some(entry)) => said(alloc, &entry),
+        Ok(None) => Ok(String::from_str(alloc, "nothing")?),
+        Err(Stop::Fault(fault)) if fault.place == PLACE => {
+            let kind = fault.kind;
+            Ok(format!(in alloc; "{kind:?}")?)
+        }
+        Err(Stop::Fault(_)) => Err(Fail::from("the line's place")),
+        Err(Stop::Memory) => Err(Fail::from("out of memory")),
+    }
+}
+
+fn assert_line(
+    rt: &impl Abort,
+    alloc: Global,
+    awaited: bool,
+    line: &[u8],
+    want: &str,
+) -> Result<(), Fail> {
+    let got = line_text(alloc, awaited, line)?;
+    assert_eq!(rt; got.as_str(), want, "{line:?}");
     Ok(())
 }
 
+/// Lines where no continuation line is awaited.
+const LINES: &[(&[u8], &str)] = &[
+    (
+        b"Rule US 1967 2006 - Oct lastSun 2:00s 0 S # as zic(8) has it",
+        "rule 1:7 US 1967 Some(2006) Moment { month: 10, on: Last(0), at: ClockTime { seconds: 7200, form: Standard } } Saving { seconds: 0, daylight: false } S",
+    ),
+    (
+        b"Zone America/New_York -4:56:02 - LMT 1883 Nov 18 17:00u",
+        "zone America/New_York 1:7 -17762 standard LMT Some(Until { year: 1883, moment: Moment { month: 11, on: Day(18), at: ClockTime { seconds: 61200, form: Universal } } })",
+    ),
+    (
+        b"Link \"Europe/Istanbul\"\tAs\"ia/Is\"tanbul",
+        "link Europe/Istanbul Asia/Istanbul",
+    ),
+    (b" \t # nothing", "nothing"),
+    (b"Zone \x80 \"A", "NotAscii"),
+    (b"Zone \"A 0 - UTC", "Quote"),
+    (b"Zonk A 0 - UTC", "Keyword"),
+    (b"Link A", "FieldCount"),
+    (b"Link // A", "Name"),
+    (b"Rule A 2000 only x Nox 1 0 0 -", "Reserved"),
+];
+
 #[test]
-fn zone_line(rt: HostRuntime) -> Result<(), Fail> {
-    let line = b"Zone America/New_York -4:56:02 - LMT 1883 Nov 18 17:00u";
-    let Ok(Some(Entry::Zone(name, zone))) = entry(rt.alloc(), false, line)? else {
-        return Err(Fail::from("a zone"));
-    };
-    assert_eq!(rt; name.octets(), b"America/New_York".as_slice());
-    assert_eq!(rt; (zone.place, zone.offset), (PLACE, -17_762));
-    assert!(rt; matches!(zone.rules, Rules::Standard));
-    assert!(rt; matches!(&zone.format, Format::Plain(text) if text.octets() == b"LMT".as_slice()));
-    let moment = Moment {
-        month: 11,
-        on: On::Day(18),
-        at: ClockTime {
-            seconds: 61_200,
-            form: ClockForm::Universal,
-        },
-    };
-    let until = Until { year: 1883, moment };
-    assert_eq!(rt; zone.until, Some(until));
+fn lines(rt: HostRuntime) -> Result<(), Fail> {
+    for (line, want) in LINES {
+        assert_line(&rt, rt.alloc(), false, *line, *want)?;
+    }
     Ok(())
 }
 
-#[test]
-fn continuation_line(rt: HostRuntime) -> Result<(), Fail> {
-    let Ok(Some(Entry::Continuation(line))) = entry(rt.alloc(), true, b"-5:00 US E%sT")? else {
-        return Err(Fail::from("a continuation"));
-    };
-    assert_eq!(rt; line.offset, -18_000);
-    assert!(rt; matches!(&line.rules, Rules::Set(name) if name.octets() == b"US".as_slice()));
-    let is_letter = match &line.format {
-        Format::Letter(before, after) => before.octets() == b"E".as_slice()
-            && after.octets() == b"T".as_slice(),
-        _ => false,
-    };
-    assert!(rt; is_letter);
-    Ok(())
-}
+/// Lines where a continuation line is awaited.
+const CONTINUATIONS: &[(&[u8], &str)] = &[
+    (b"-5:00 US E%sT", "continuation 1:7 -18000 US [E]%s[T] None"),
+    (
+        b"0 - UTC 2000 Mar 1 2:00",
+        "continuation 1:7 0 standard UTC Some(Until { year: 2000, moment: Moment { month: 3, on: Day(1), at: ClockTime { seconds: 7200, form: Wall } } })",
+    ),
+    (b"0 - UTC 2000 Mar 1 2:00 x", "FieldCount"),
+];
 
 #[test]
-fn link_line(rt: HostRuntime) -> Result<(), Fail> {
-    let line = b"Link \"Europe/Istanbul\"\tAs\"ia/Is\"tanbul";
-    let Ok(Some(Entry::Link(link))) = entry(rt.alloc(), false, line)? else {
-        return Err(Fail::from("a link"));
-    };
-    assert_eq!(rt; link.target.octets(), b"Europe/Istanbul".as_slice());
-    assert_eq!(rt; link.name.octets(), b"Asia/Istanbul".as_slice());
-    Ok(())
-}
-
-#[test]
-fn blank_lines_and_faults(rt: HostRuntime) -> Result<(), Fail> {
-    assert!(rt; matches!(entry(rt.alloc(), false, b" \t # nothing")?, Ok(None)));
-    let rows: [(&[u8], Kind); 6] = [
-        (b"Zone \x80 \"A", Kind::NotAscii),
-        (b"Zone \"A 0 - UTC", Kind::Quote),
-        (b"Zonk A 0 - UTC", Kind::Keyword),
-        (b"Link A", Kind::FieldCount),
-        (b"Link // A", Kind::Name),
-        (b"Rule A 2000 only x Nox 1 0 0 -", Kind::Reserved),
-    ];
-    for (line, kind) in rows {
-        let found = entry(rt.alloc(), false, line)?.err();
-        assert_eq!(rt; found, Some(kind), "{line:?}");
+fn continuation_lines(rt: HostRuntime) -> Result<(), Fail> {
+    for (line, want) in CONTINUATIONS {
+        assert_line(&rt, rt.alloc(), true, *line, *want)?;
     }
     Ok(())
 }
 
 #[test]
-fn most_bytes_and_fields(rt: HostRuntime) -> Result<(), Fail> {
+fn most_bytes(rt: HostRuntime) -> Result<(), Fail> {
     let mut line = vec![in rt.alloc(); b' '; 2048]?;
-    assert!(rt; matches!(entry(rt.alloc(), false, &line)?, Ok(None)));
+    assert_line(&rt, rt.alloc(), false, &line, "nothing")?;
     line.push(b' ')?;
-    assert_eq!(rt;
-        entry(rt.alloc(), false, &line)?.err(),
-        Some(Kind::LineTooLong)
-    );
-    let seven = entry(rt.alloc(), true, b"0 - UTC 2000 Mar 1 2:00")?;
-    assert!(rt; matches!(seven, Ok(Some(Entry::Continuation(_)))));
-    let eight = entry(rt.alloc(), true, b"0 - UTC 2000 Mar 1 2:00 x")?;
-    assert_eq!(rt; eight.err(), Some(Kind::FieldCount));
-    Ok(())
+    assert_line(&rt, rt.alloc(), false, &line, "LineTooLong")
 }

@@ -1,11 +1,14 @@
 -- The files of a source.
-use Rattle.std.specs.Prelude.{◌≡◌, ◌<◌, ℕ, ℤ, true, ◌↔◌, List, [], ◌∷◌, length, slice_get, Some, ◌⊎◌, IsSomeAnd}
+use Rattle.std.specs.Prelude.{◌≡◌, ◌<◌, ℕ, ℤ, ◌↔◌, List, [], length, slice_get, Some, ◌⊎◌, IsSomeAnd}
+use Rattle.zic_base.specs.Fault.{fault_at}
+use Rattle.zic_base.specs.State.{Shown}
 use Rattle.zic_base.specs.declared.fault.Fault.{Fault}
 use Rattle.zic_base.specs.declared.fault.Kind.TheVariants.{NoFooter}
-use Rattle.zic_source.specs.Source.{SourceLines, ZoneLines, zone_at}
-use Rattle.zic_rules.specs.Fault.{IsFaultOfStates, IsSound}
-use Rattle.zic_rules.specs.State.{Shown}
-use Rattle.zic_rules.specs.Zone.{Zone, Shows, lines_of, is_plain}
+use Rattle.zic_base.specs.declared.place.Place.{Place}
+use Rattle.zic_source.specs.Source.{SourceLines, zone_at}
+use Rattle.zic_states.specs.Change.{IsChange}
+use Rattle.zic_states.specs.Fault.{IsFaultOfStates, HasOffsetOutOfRange, IsSound}
+use Rattle.zic_states.specs.Zone.{Zone, Shows, lines_of}
 use Rattle.zic_footer.specs.Footer.{TzString}
 use Rattle.zic_footer.specs.Making.{IsMade, IsFaultOfFooter}
 use Rattle.zic_table.specs.Content.{Content}
@@ -49,9 +52,9 @@ pub record IsFileOf (zone : Zone) (file : File) : Type 0 where
 abbrev pub nth_zone : SourceLines → ℕ → Zone
 nth_zone source n = record { source = source; number = n }
 
--- A source that the program compiles for now: one without a zone, or with one zone, of one plain line, and no link.
+-- A source that the program compiles for now: one without a zone or without a link.
 abbrev pub IsPlainSource : SourceLines → Type 0
-IsPlainSource source = (source.zones ≡ []) ⊎ ((zone : ZoneLines) × (source.zones ≡ zone ∷ []) × (is_plain zone.first ≡ true) × (source.links ≡ []))
+IsPlainSource source = (source.zones ≡ []) ⊎ (source.links ≡ [])
 
 -- one file for each zone, in line order
 pub record AreFilesOf (source : SourceLines) (files : List File) : Type 0 where
@@ -59,16 +62,18 @@ pub record AreFilesOf (source : SourceLines) (files : List File) : Type 0 where
   pub count : length files ≡ length source.zones
   pub each : (n : ℕ) (file : File) → slice_get files n ≡ Some file → IsFileOf (nth_zone source n) file
 
--- Neither the zone's states nor its footer have a fault.
-pub record IsFaultless (zone : Zone) : Type 0 where
-  pub sound : IsSound zone
-  pub footer : (f : TzString) × IsMade zone f
+-- Why a zone whose states have no fault, and whose Zone line stands at this place, has no image: the fault of its footer, or, for
+-- now, NoFooter where it changes before its explicit end.
+abbrev pub IsFaultOfImage : Zone → Place → Fault → Type 0
+IsFaultOfImage zone place fault =
+    IsFaultOfFooter zone place fault
+    ⊎ ((fault ≡ fault_at place NoFooter) × ((t : ℤ) × IsChange zone t))
 
--- the fault of one zone: of its states, or else of its footer
+-- the fault of one zone: of its states, or else of its image
 abbrev pub IsFaultOfZone : Zone → Fault → Type 0
 IsFaultOfZone zone fault =
     IsFaultOfStates zone fault
-    ⊎ (IsSound zone × IsSomeAnd (lines_of zone) (λ lines. IsFaultOfFooter zone lines.first.place fault))
+    ⊎ (IsSound zone × IsSomeAnd (lines_of zone) (λ lines. IsFaultOfImage zone lines.first.place fault))
 
 -- each zone before the one of this number has a file
 abbrev pub HaveFilesBefore : SourceLines → ℕ → Type 0
@@ -89,10 +94,11 @@ pub record IsRefusedForNow (source : SourceLines) (fault : Fault) : Type 0 where
 abbrev pub IsFaultOfFiles : SourceLines → Fault → Type 0
 IsFaultOfFiles source fault = IsRefusedForNow source fault ⊎ IsFaultOfFirst source fault
 
--- Where memory may be wanting: at a zone without a fault, before which each zone has a file, of a source that is compiled for now.
+-- Where memory may be wanting: at a zone with each offset in its range, before which each zone has a file, of a source that is
+-- compiled for now. The further faults of a zone are found by what takes memory.
 pub record MayWantMemory (source : SourceLines) : Type 0 where
   pub plain : IsPlainSource source
   pub number : ℕ
   pub is_zone : number < length source.zones
-  pub faultless : IsFaultless (nth_zone source number)
+  pub in_range : HasOffsetOutOfRange (nth_zone source number) → ⊥
   pub before : HaveFilesBefore source number

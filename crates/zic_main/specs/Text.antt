@@ -4,7 +4,7 @@ use Rattle.std.specs.Fmt.{decimal}
 use Rattle.std.specs.List.{flat_map}
 use Rattle.zic_source.specs.Grammar.{IsSource}
 use Rattle.zic_source.specs.Source.{SourceLines}
-use Rattle.zic_rules.specs.State.{Shown, shown}
+use Rattle.zic_base.specs.State.{Shown, shown}
 use Rattle.zic_table.specs.Content.{Content}
 use Rattle.zic_tzif.specs.Answer.{Answers}
 use Rattle.zic_tzif.specs.Reading.{IsFile}

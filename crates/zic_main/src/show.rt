@@ -2,7 +2,7 @@
 
 ghost use Rattle.std.specs.Prelude.{◌≡◌, ℕ, List, ◌++◌, take, IfOk, IfSome, OnOk};
 ghost use Rattle.std.specs.Io.KnownBytes.{Appends};
-ghost use Rattle.zic_rules.specs.State.{shown};
+ghost use Rattle.zic_base.specs.State.{shown};
 ghost use Rattle.zic_main.specs.Text.{answer_line, state_line, offset_text, two_digits, IsShowing};
 
 use crate::check::write_all;
@@ -10,8 +10,7 @@ use crate::failure::{Failure, cannot_read};
 use crate::input::{InputStop, read_up_to};
 use std::alloc::{AllocError, Global};
 use std::io::{Read, Write};
-use zic_base::LONGEST_FILE;
-use zic_rules::State;
+use zic_base::{LONGEST_FILE, State};
 use zic_tzif::{Answer, ReadStop, read};
 
 /// One octet more than a file may have.

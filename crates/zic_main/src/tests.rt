@@ -76,15 +76,31 @@ fn check_lists_files_or_tells_the_fault(rt: HostRuntime) -> Result<(), Fail> {
         ("Zone \"A 0 - UTC", "line 1: Quote, status 1"),
         ("Rule A 2000 max - Jan 1 0 0 -", ""),
         ("Link X Y", "line 1: UnknownTarget, status 1"),
-        // Accepted, and not compiled for now.
         (
             "\nZone A 0 - UTC\nZone B 0 - UTC\n",
-            "line 2: NoFooter, status 1",
+            "A 111 UTC0\nB 111 UTC0\n",
         ),
+        ("Zone A 5:30 - %z", "A 121 <+0530>-5:30\n"),
+        ("Zone A 0 0 UTC", "A 111 UTC0\n"),
+        ("Zone A 0 - UTC 2000\n0 0 UTC", "A 111 UTC0\n"),
+        (
+            "Rule R 2000 max - Jan 1 0 0 T\nZone A 0 R U%sC",
+            "A 111 UTC0\n",
+        ),
+        ("Zone A 0 1:00 BST", "line 1: PermanentDaylight, status 1"),
+        ("Zone A 24 1:00 ABC", "line 1: OffsetRange, status 1"),
+        ("Zone A 0 - X%sT", "line 1: NoLetter, status 1"),
+        (
+            "Zone A 0 - UTC\nZone B 0 - AB",
+            "line 2: BadAbbreviation, status 1",
+        ),
+        // Accepted, and not compiled for now.
         ("Link A B\nZone A 0 - UTC\n", "line 2: NoFooter, status 1"),
-        ("Zone A 5:30 - %z", "line 1: NoFooter, status 1"),
-        ("Zone A 0 0 UTC", "line 1: NoFooter, status 1"),
         ("Zone A 0 - AAA 2000\n0 - BBB", "line 1: NoFooter, status 1"),
+        (
+            "Rule R 2000 max - Mar 1 0 0 -\nRule R 2000 max - Oct 1 0 0 -\nZone A 0 R UTC",
+            "line 3: NoFooter, status 1",
+        ),
         (
             "Zone A 0 - UTC\nZone A 0 - UTC\n",
             "line 2: DuplicateName, status 1",

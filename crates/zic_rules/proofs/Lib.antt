@@ -1,2 +1,13 @@
-pub mod AbbreviationLemmas
-pub mod ZoneLemmas
+pub mod TimelineBefore
+pub mod TimelineChanges
+pub mod TimelineStates
+pub mod TimelineFaults
+pub mod TimelineKept
+pub mod TimelineOffsets
+pub mod TailHeld
+pub mod TailRules
+pub mod TailYear
+pub mod TailLines
+pub mod TailTurns
+pub mod TailConstant
+pub mod Limits

@@ -1,6 +1,7 @@
-pub mod Change
-pub mod Fault
-pub mod State
+pub mod code
+pub mod Laws
 pub mod Tail
-pub mod Zone
-pub use Rattle.zic_source.specs.Source
+pub mod Timeline
+pub use Rattle.zic_states.specs.Change
+pub use Rattle.zic_states.specs.Fault
+pub use Rattle.zic_states.specs.Zone

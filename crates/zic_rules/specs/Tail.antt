@@ -1,15 +1,96 @@
--- What a zone shows for ever.
-use Rattle.std.specs.Prelude.{ℤ}
-use Rattle.zic_rules.specs.declared.states.Tail.{Tail}
-use Rattle.zic_rules.specs.declared.states.Tail.TheVariants.{Constant}
-use Rattle.zic_rules.specs.Fault.{IsLimited}
-use Rattle.zic_rules.specs.State.{shown}
-use Rattle.zic_rules.specs.Zone.{Zone, IsAfterChanges, Shows}
+-- What a timeline says of the time from the explicit end on.
+use Rattle.std.specs.Prelude.{◌≡◌, ◌≢◌, ◌≤◌, ◌<◌, ℕ, ℤ, pos, ◌+ℤ◌, ◌-ℤ◌, ◌≤ℤ◌, ◌⊎◌, List, [], ◌∷◌, length, All, AllPairs, Contains, Some, slice_get}
+use Rattle.zic_base.specs.State.{Shown, shown}
+use Rattle.zic_lines.specs.declared.rule.Rule.{Rule}
+use Rattle.zic_lines.specs.declared.zone_line.ZoneLine.{ZoneLine}
+use Rattle.zic_occurrences.specs.Laws.{IsLastNotAfter}
+use Rattle.zic_occurrences.specs.Occurrence.{RuleSet, IsMember, Occurrence}
+use Rattle.zic_states.specs.Abbreviation.{abbreviation}
+use Rattle.zic_states.specs.Change.{IsAfterChanges}
+use Rattle.zic_states.specs.End.{IsLastLine, IsEnd}
+use Rattle.zic_states.specs.Tail.{IsContinuing, HasNoSet, HasLastSet, Alternate}
+use Rattle.zic_states.specs.Until.{set_of}
+use Rattle.zic_states.specs.Zone.{Zone, Shows}
+use Rattle.zic_rules.specs.declared.tail.Tail.{Tail}
+use Rattle.zic_rules.specs.declared.tail.Tail.TheVariants.{Constant, Rules}
+use Rattle.zic_rules.specs.declared.tail.TailRule.{TailRule}
 
--- from the last change before the explicit end on, or at every instant if there is none, the zone shows this
+-- the numbers of all rules of the set that go on for ever, in line order
+pub record AreContinuing (set : RuleSet) (numbers : List ℕ) : Type 0 where
+  pub in_order : AllPairs (λ m n. m < n) numbers
+  pub each : All (λ n. (rule : Rule) × IsMember set n rule × IsContinuing rule) numbers
+  pub all : (n : ℕ) (rule : Rule) → IsMember set n rule → IsContinuing rule → Contains numbers n
+
+-- a rule's moment and saving, and the abbreviation by the line's FORMAT once it has occurred
+pub record IsTailRule (line : ZoneLine) (rule : Rule) (tail : TailRule) : Type 0 where
+  pub moment : tail.moment ≡ rule.moment
+  pub saving : tail.saving ≡ rule.saving
+  pub name : abbreviation line.format (line.offset +ℤ rule.saving.seconds) rule.saving.daylight (Some rule.letter) ≡ Some tail.name
+
+-- what is shown once such a rule has occurred, on this standard offset
+abbrev pub tail_state : ℤ → TailRule → Shown
+tail_state standard tail = record { offset = standard +ℤ tail.saving.seconds; daylight = tail.saving.daylight; name = tail.name }
+
+-- one after another, these are the rules of these numbers
+pub record AreTailRules (rules : List Rule) (line : ZoneLine) (numbers : List ℕ) (tails : List TailRule) : Type 0 where
+  pub as_many : length tails ≡ length numbers
+  pub each : (k n : ℕ) (rule : Rule) (tail : TailRule) → slice_get numbers k ≡ Some n → slice_get rules n ≡ Some rule
+      → slice_get tails k ≡ Some tail → IsTailRule line rule tail
+
+-- Two or more rules of the last line's set go on for ever: their numbers, the line's standard offset, and the first year after the
+-- last that is named.
+pub record IsTailBy (zone : Zone) (standard year : ℤ) (tails : List TailRule) : Type 0 where
+  pub number : ℕ
+  pub line : ZoneLine
+  pub name : List ℕ
+  pub last : ℤ
+  pub last_set : HasLastSet zone number line name last
+  pub of_line : standard ≡ line.offset
+  pub after_last : year ≡ last +ℤ pos 1
+  pub numbers : List ℕ
+  pub continuing : AreContinuing (set_of zone.source.rules name) numbers
+  pub rules : AreTailRules zone.source.rules line numbers tails
+  pub several : 2 ≤ length numbers
+
+-- At t the zone shows what the last occurrence not after t begins, and this is of such a rule and of such a year.
+pub record ShowsByTail (zone : Zone) (standard year : ℤ) (tails : List TailRule) (by : IsTailBy zone standard year tails) (t : ℤ) : Type 0 where
+  pub occurrence : Occurrence
+  pub instant : ℤ
+  pub current : IsLastNotAfter (set_of zone.source.rules by.name) standard t occurrence instant
+  pub in_years : year ≤ℤ occurrence.year
+  pub place : ℕ
+  pub number : slice_get by.numbers place ≡ Some occurrence.number
+  pub tail : TailRule
+  pub is_tail : slice_get tails place ≡ Some tail
+  pub shows : Shows zone t (tail_state standard tail)
+
+-- two rules, one of daylight saving time and one of standard time
+abbrev pub AreOfBothFlags : List TailRule → Type 0
+AreOfBothFlags tails = (a b : TailRule) × (tails ≡ a ∷ b ∷ []) × (a.saving.daylight ≢ b.saving.daylight)
+
+-- what a tail of rules says: from one second before the end on what the zone shows, and the same from the last change on where
+-- there are two rules, of both flags, that alternate
+pub record IsRulesTail (zone : Zone) (standard year : ℤ) (tails : List TailRule) : Type 0 where
+  pub by : IsTailBy zone standard year tails
+  pub from_end : (end t : ℤ) → IsEnd zone end → (end -ℤ pos 1) ≤ℤ t → ShowsByTail zone standard year tails by t
+  pub from_change : AreOfBothFlags tails → Alternate (set_of zone.source.rules by.name) by.last
+      → (t : ℤ) → IsAfterChanges zone t → ShowsByTail zone standard year tails by t
+
+-- Fewer than two rules of the last line's set go on for ever, or it has none.
+pub record HasConstantTail (zone : Zone) : Type 0 where
+  pub number : ℕ
+  pub line : ZoneLine
+  pub last : IsLastLine zone number line
+  pub few : HasNoSet line.rules ⊎ ((name : List ℕ) × (year : ℤ) × (numbers : List ℕ)
+      × HasLastSet zone number line name year × AreContinuing (set_of zone.source.rules name) numbers × (length numbers ≤ 1))
+
+-- What a constant tail says: from one second before the end on, and from the last change on, the zone shows this.
+pub record IsConstantTail (zone : Zone) (state : Shown) : Type 0 where
+  pub few : HasConstantTail zone
+  pub from_end : (end t : ℤ) → IsEnd zone end → (end -ℤ pos 1) ≤ℤ t → Shows zone t state
+  pub from_change : (t : ℤ) → IsAfterChanges zone t → Shows zone t state
+
+-- what a tail says
 abbrev pub IsTail : Zone → Tail → Type 0
-IsTail zone (Constant state) = (t : ℤ) → IsAfterChanges zone t → Shows zone t (shown state)
-
--- each state of a tail is within the limits of offsets and abbreviations
-abbrev pub HasLimits : Tail → Type 0
-HasLimits (Constant state) = IsLimited (shown state)
+IsTail zone (Constant state) = IsConstantTail zone (shown state)
+IsTail zone (Rules standard year rules) = IsRulesTail zone standard year rules.now

@@ -1,10 +1,21 @@
-//! What a zone shows at an instant: its UT offset, daylight flag and abbreviation.
+//! What a zone shows at every instant: its first state, its changes, and what it shows after them.
 #![tactic(auto)]
 
-mod abbreviation;
+mod changes;
+mod compile;
+pub mod laws;
+mod offsets;
 mod state;
-mod states;
+mod tail;
+mod tail_rules;
+mod timelines;
+mod year;
+mod zone_state;
 
-pub use state::State;
-pub use states::checks::timeline;
-pub use states::{Tail, Timeline, is_plain};
+pub use compile::timeline;
+pub use state::Change;
+pub use tail::{Tail, TailRule};
+pub use timelines::Timeline;
+
+#[cfg(test)]
+mod tests;

@@ -1,10 +1,12 @@
-/// What a zone shows at an instant.
+//! Changes of a zone, as a caller sees them.
+
+use zic_base::State;
+
+/// A change of what a zone shows.
 #[derive(Clone, Copy, Debug, PartialEq, Eq)]
-pub struct State<'a> {
-    /// The total UT offset, in seconds, positive east.
-    pub offset: i32,
-    /// Whether daylight saving time is in force.
-    pub daylight: bool,
-    /// The abbreviation of local time.
-    pub name: &'a [u8],
+pub struct Change<'a> {
+    /// Seconds from 1970-01-01T00:00:00 UT, without leap seconds.
+    pub instant: i64,
+    /// What the zone shows from then on.
+    pub state: State<'a>,
 }

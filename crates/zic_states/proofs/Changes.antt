@@ -8,7 +8,7 @@ use Rattle.zic_source.proofs.Elements.{cons_cases, first_contained}
 use Rattle.zic_states.specs.Change.{Change, IsChange, AreChanges, IsBeforeChanges, IsFirstState}
 use Rattle.zic_states.specs.End.{IsEnd}
 use Rattle.zic_states.specs.Laws.{IsOrderly, HasBeginning}
-use Rattle.zic_states.specs.State.{Shown}
+use Rattle.zic_base.specs.State.{Shown}
 use Rattle.zic_states.specs.Zone.{Zone, Shows}
 use Rattle.zic_states.proofs.States.{one_state}
 

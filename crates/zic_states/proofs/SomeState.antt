@@ -7,7 +7,7 @@ use Rattle.zic_source.proofs.Elements.{got}
 use Rattle.zic_states.specs.Abbreviation.{abbreviation}
 use Rattle.zic_states.specs.Fault.{HasNoLetter, IsSound}
 use Rattle.zic_states.specs.Laws.{HasSetsInOrder}
-use Rattle.zic_states.specs.State.{Shown}
+use Rattle.zic_base.specs.State.{Shown}
 use Rattle.zic_states.specs.Zone.{Zone, ZoneKeeps, Shows}
 use Rattle.zic_states.proofs.Governing.{some_line}
 use Rattle.zic_states.proofs.Lines.{orderly}

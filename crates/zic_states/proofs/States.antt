@@ -5,7 +5,7 @@ use Rattle.std.proofs.lemmas.Option.{same_Some}
 use Rattle.zic_lines.specs.declared.zone_line.ZoneLine.{ZoneLine}
 use Rattle.zic_states.specs.Abbreviation.{abbreviation}
 use Rattle.zic_states.specs.Laws.{IsOrderly}
-use Rattle.zic_states.specs.State.{Shown}
+use Rattle.zic_base.specs.State.{Shown}
 use Rattle.zic_states.specs.Zone.{Zone, Keeps, Shows}
 use Rattle.zic_states.proofs.Kept.{one_kept}
 use Rattle.zic_states.proofs.Governing.{one_line}

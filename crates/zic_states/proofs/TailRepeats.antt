@@ -43,7 +43,7 @@ module _ (set : RuleSet) (offset year : ℤ) (given : IsNamedTo set offset year)
       absurd (omega (arith, ints)))
 
   -- of two occurrences the instant of the one that isn't later isn't later
-  follow : (p q : Occurrence) (u v : ℤ) → IsOccurrence set p → IsOccurrence set q → IsInstant set offset p u → IsInstant set offset q v
+  pub follow : (p q : Occurrence) (u v : ℤ) → IsOccurrence set p → IsOccurrence set q → IsInstant set offset p u → IsInstant set offset q v
       → nominal p ≤ℤ nominal q → u ≤ℤ v
   follow p q u v is_p is_q at_p at_q le =
       by_lt_z (nominal p) (nominal q)

@@ -1,7 +1,7 @@
 -- The changes of a zone before its explicit end.
 use Rattle.std.specs.Prelude.{◌≡◌, ◌≢◌, ℤ, pos, ◌-ℤ◌, ◌<ℤ◌, ◌≤ℤ◌, List, All, Any, AllPairs}
 use Rattle.zic_states.specs.End.{IsEnd}
-use Rattle.zic_states.specs.State.{Shown}
+use Rattle.zic_base.specs.State.{Shown}
 use Rattle.zic_states.specs.Zone.{Zone, Shows}
 
 -- an instant, and what the zone shows from it on

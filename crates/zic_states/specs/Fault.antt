@@ -13,7 +13,7 @@ use Rattle.zic_occurrences.specs.Occurrence.{IsMember}
 use Rattle.zic_occurrences.specs.Order.{IsOutOfOrder}
 use Rattle.zic_states.specs.Abbreviation.{abbreviation, is_abbreviation}
 use Rattle.zic_states.specs.Kept.{Kept}
-use Rattle.zic_states.specs.State.{Shown}
+use Rattle.zic_base.specs.State.{Shown}
 use Rattle.zic_states.specs.Until.{set_of}
 use Rattle.zic_states.specs.Zone.{Zone, lines_of, line_at, Ends, ZoneKeeps, Shows}
 

@@ -10,7 +10,7 @@ use Rattle.zic_states.specs.Change.{Change, AreChanges, IsBeforeChanges, IsFirst
 use Rattle.zic_states.specs.End.{IsEnd}
 use Rattle.zic_states.specs.Fault.{HasRulesOutOfOrder, HasUntilNotRising, HasNoLetter, IsSound}
 use Rattle.zic_states.specs.Kept.{Kept}
-use Rattle.zic_states.specs.State.{Shown}
+use Rattle.zic_base.specs.State.{Shown}
 use Rattle.zic_states.specs.Until.{set_of, IsUntil}
 use Rattle.zic_states.specs.Zone.{Zone, line_at, Governs, Keeps, Shows}
 

@@ -9,7 +9,6 @@ pub mod Kept
 pub mod Laws
 pub mod Occurrences
 pub mod Refusal
-pub mod State
 pub mod Tail
 pub mod TailLaws
 pub mod Until

@@ -9,7 +9,7 @@ use Rattle.zic_occurrences.specs.Occurrence.{RuleSet, IsMember, Occurrence, IsOc
 use Rattle.zic_occurrences.specs.Order.{IsPredecessor}
 use Rattle.zic_states.specs.End.{IsLastLine, IsLastYear}
 use Rattle.zic_states.specs.Kept.{Kept, kept_from}
-use Rattle.zic_states.specs.State.{Shown}
+use Rattle.zic_base.specs.State.{Shown}
 use Rattle.zic_states.specs.Until.{set_of}
 use Rattle.zic_states.specs.Zone.{Zone, ZoneKeeps, Shows}
 

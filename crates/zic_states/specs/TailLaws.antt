@@ -9,7 +9,7 @@ use Rattle.zic_states.specs.End.{IsLastLine, IsEnd}
 use Rattle.zic_states.specs.Fault.{HasNoLetter, HasBadAbbreviation}
 use Rattle.zic_states.specs.Kept.{Kept, kept_of}
 use Rattle.zic_states.specs.Laws.{HasSetsInOrder, IsOrderly}
-use Rattle.zic_states.specs.State.{Shown}
+use Rattle.zic_base.specs.State.{Shown}
 use Rattle.zic_states.specs.Tail.{HasContinuing, IsOnlyContinuing, HasNoSet, HasLastSet, KeepsFrom, KeepsByContinuing, Alternate, FollowsAnother, Repeats}
 use Rattle.zic_states.specs.Until.{set_of}
 use Rattle.zic_states.specs.Zone.{Zone, HasBegun, Governs, ZoneKeeps, Shows}

@@ -8,9 +8,3 @@ pub mod Windows
 pub mod Added
 pub mod Outcomes
 pub mod Walks
-pub mod TimelineBefore
-pub mod TimelineChanges
-pub mod TimelineStates
-pub mod TimelineFaults
-pub mod TimelineKept
-pub mod TimelineOffsets

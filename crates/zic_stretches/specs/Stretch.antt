@@ -1,11 +1,12 @@
 -- The stretches of a zone: which of its lines governs, and what its RULES keep, from an instant on up to the next.
-use Rattle.std.specs.Prelude.{◌≡◌, ◌+◌, ℕ, ℤ, ◌<ℤ◌, ◌≤ℤ◌, ◌⊎◌, List, All, AllPairs, Option, Some, None, IfSome, IsSomeAnd, slice_get}
+use Rattle.std.specs.Prelude.{◌≡◌, ◌+◌, ℕ, ℤ, ◌<ℤ◌, ◌≤ℤ◌, ◌⊎◌, List, [], All, AllPairs, Option, Some, None, IfSome, IsSomeAnd, slice_get}
 use Rattle.zic_base.specs.declared.fault.Fault.{Fault}
 use Rattle.zic_base.specs.declared.fault.Kind.TheVariants as kind
 use Rattle.zic_lines.specs.declared.zone_line.ZoneLine.{ZoneLine}
 use Rattle.zic_source.specs.Source.{SourceLines}
 use Rattle.zic_states.specs.Fault.{HasRulesOutOfOrder, HasUntilNotRising}
 use Rattle.zic_states.specs.Kept.{Kept, IsKeptBy, IsRuleOf}
+use Rattle.zic_states.specs.Tail.{HasNoSet}
 use Rattle.zic_states.specs.Zone.{Zone, lines_of, Governs, Keeps}
 use Rattle.zic_stretches.specs.declared.stretch.Stretch.{Stretch}
 
@@ -27,6 +28,10 @@ pub record AreStretches (zone : Zone) (end : ℤ) (stretches : List Stretch) : T
   pub before : (t : ℤ) → t <ℤ end → All (λ s. t <ℤ s.from) stretches → Holds zone t 0 None
   pub each : (k : ℕ) (s : Stretch) (t : ℤ) → slice_get stretches k ≡ Some s → s.from ≤ℤ t → t <ℤ end
       → IfSome (slice_get stretches (k + 1)) (λ next. t <ℤ next.from) → Holds zone t s.line s.rule
+
+-- The zone has one line, whose RULES name no set.
+abbrev pub IsFixed : Zone → Type 0
+IsFixed zone = IsSomeAnd (lines_of zone) (λ lines. (lines.continuations ≡ []) × HasNoSet lines.first.rules)
 
 -- why a zone has no stretches: a set is out of order, or else an UNTIL doesn't rise
 pub record IsFaultOfStretches (zone : Zone) (fault : Fault) : Type 0 where

@@ -2,5 +2,4 @@
 pub mod End
 pub mod Held
 pub mod Line
-pub mod Shown
 pub mod Walk

@@ -1,6 +1,6 @@
 //! The stretches of one line.
 
-ghost use Rattle.std.specs.Prelude.{◌≡◌, ◌<◌, ◌<ℤ◌, ◌++◌, map, IfOk, IfSome, length};
+ghost use Rattle.std.specs.Prelude.{◌≡◌, ◌<◌, ◌<ℤ◌, ◌++◌, map, IfOk, IfErr, IfSome, None, length, []};
 ghost use Rattle.std.specs.Option.{ForSome};
 ghost use Rattle.zic_source.specs.Source.{zone_at, lines_of_zone};
 ghost use Rattle.zic_source.specs.Sound.{IsSoundSource};
@@ -35,7 +35,8 @@ pub(crate) fn add_stretches(
     requires so_far { AreSoFar (zone_of source.now zone) number start stretches.old.items }
     requires rising { AreRising occurrences.now }
     requires line { IsLineTo (zone_of source.now zone) number start end (before occurrences.now end) }
-    ensures { IfOk result (λ _. HeldTo (zone_of source.now zone) number end stretches.new.items) }
+    ensures held { IfOk result (λ _. HeldTo (zone_of source.now zone) number end stretches.new.items) }
+    ensures memory { IfErr result (λ _. start ≡ None → occurrences.now ≡ [] → ⊥) }
 {
     let line_number = number as u16;
     let mine = before(occurrences, end);
@@ -57,9 +58,11 @@ fn add_occurrences(
     occurrences: &[TimedOccurrence],
     stretches: &mut Vec<Stretch>,
 ) -> Result<(), AllocError>
-    ensures { IfOk result
+    ensures items { IfOk result
         (λ _. stretches.new.items ≡ stretches.old.items ++ map (stretch_at line) occurrences.now) }
+    ensures memory { IfErr result (λ _. occurrences.now ≡ [] → ⊥) }
 {
+    stretches.reserve(occurrences.len())?;
     for occurrence in occurrences {
         stretches.push(Stretch {
             from: occurrence.instant,

@@ -2,8 +2,9 @@
 
 ghost use Rattle.std.specs.Prelude.{◌≡◌, ◌≤◌, IfOk};
 ghost use Rattle.zic_base.specs.Fault.{fault_at, fault_of};
-ghost use Rattle.zic_base.specs.Memory.{IfRefusal};
+ghost use Rattle.zic_base.specs.Memory.{IfRefusal, OnWantOfMemory};
 ghost use Rattle.zic_source.specs.Sound.{IsSoundLine};
+ghost use Rattle.zic_states.specs.Tail.{HasNoSet};
 ghost use Rattle.zic_stretches.specs.code.Line.{IsOrderedOn, IsDisorderedOn, AreOccurrencesOn};
 
 use std::alloc::Global;
@@ -28,6 +29,7 @@ pub(crate) fn line_occurrences(
     ensures err { IfRefusal fault_of result
         (λ fault. (fault ≡ fault_at zone_place Kind.RulesOutOfOrder)
         × IsDisorderedOn source.now.rules line.now.offset line.now.rules) }
+    ensures memory { OnWantOfMemory fault_of result (HasNoSet line.now.rules → ⊥) }
 {
     match &line.rules {
         Rules::Set(name) => occurrences(alloc, zone_place, source, name, line.offset, before),

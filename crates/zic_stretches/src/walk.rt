@@ -3,13 +3,13 @@
 ghost use Rattle.std.specs.Prelude.{◌≡◌, ◌<◌, ◌+◌, ℕ, suc, pos, Some, IfOk, IfSome, IsSomeAnd, length};
 ghost use Rattle.std.specs.Option.{ForSome};
 ghost use Rattle.zic_base.specs.Fault.{fault_of};
-ghost use Rattle.zic_base.specs.Memory.{IfRefusal};
+ghost use Rattle.zic_base.specs.Memory.{IfRefusal, OnWantOfMemory};
 ghost use Rattle.zic_source.specs.Source.{zone_at, lines_of_zone};
 ghost use Rattle.zic_source.specs.Sound.{IsSoundSource};
 ghost use Rattle.zic_states.specs.End.{IsEnd};
 ghost use Rattle.zic_states.specs.Fault.{HasRulesOutOfOrder, HasUntilNotRising};
 ghost use Rattle.zic_states.specs.Zone.{lines_of};
-ghost use Rattle.zic_stretches.specs.Stretch.{zone_of, AreStretches, IsFaultOfStretches};
+ghost use Rattle.zic_stretches.specs.Stretch.{zone_of, AreStretches, IsFaultOfStretches, IsFixed};
 ghost use Rattle.zic_stretches.specs.code.End.{IsInYears};
 ghost use Rattle.zic_stretches.specs.code.Held.{AreSoFar, HeldTo};
 ghost use Rattle.zic_stretches.specs.code.Walk.{AreOrderedTo, DoRiseTo, IsWalkedTo};
@@ -26,7 +26,7 @@ use zic_states::until_instant;
 /// All stretches of a zone before its explicit end, and that end; the zone by its number from 0.
 ///
 /// `RulesOutOfOrder` where the set of one of its lines is out of order in any year, and else `UntilNotRising` where an UNTIL
-/// isn't after that of the line before it, both at the Zone line.
+/// isn't after that of the line before it, both at the Zone line. A zone of one line without a set takes no memory.
 pub fn stretches(alloc: Global, source: &Source, zone: usize) -> Result<Stretches, Stop>
     requires { zone < length source.now.zones }
     ensures order { IfOk result (λ _. HasRulesOutOfOrder (zone_of source.now zone) → ⊥) }
@@ -34,6 +34,7 @@ pub fn stretches(alloc: Global, source: &Source, zone: usize) -> Result<Stretche
     ensures end { IfOk result (λ s. IsEnd (zone_of source.now zone) s.end) }
     ensures all { IfOk result (λ s. AreStretches (zone_of source.now zone) s.end s.list.items) }
     ensures err { IfRefusal fault_of result (IsFaultOfStretches (zone_of source.now zone)) }
+    ensures memory { OnWantOfMemory fault_of result (IsFixed (zone_of source.now zone) → ⊥) }
 {
     prove!(zone < source.zones());
     let last = source.lines(zone) - 1;
@@ -103,6 +104,7 @@ fn add_last(
     ensures years { IfOk result (IsInYears 9900) }
     ensures held { IfOk result (λ end. HeldTo (zone_of source.now zone) number end stretches.new.items) }
     ensures err { IfRefusal fault_of result (IsFaultOfStretches (zone_of source.now zone)) }
+    ensures memory { OnWantOfMemory fault_of result (IsFixed (zone_of source.now zone) → ⊥) }
 {
     let line = source.line(zone, number);
     let end = end_of(source, zone, number, line, start);

@@ -1,1 +1,2 @@
+pub mod AbbreviationLemmas
 pub mod TableLemmas

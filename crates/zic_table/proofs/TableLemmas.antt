@@ -1,6 +1,6 @@
 -- The content of a zone that always has one state.
 use Rattle.std.proofs.Common.{◌≡◌, ℕ, ◌+◌, ◌≤◌, Bool, true, false, cond, not, ◌&&◌, ◌||◌, ◌==◌, List, [], ◌∷◌, ◌++◌, length, inl, refl, ap, ◌∙◌, arith}
-use Rattle.std.specs.Prelude.{nat_le, nat_lt, pos, ◌-ℤ◌, ◌/◌, ◌%◌, int_lt, unsigned_abs}
+use Rattle.std.specs.Prelude.{nat_le, nat_lt, ℤ, pos, ◌-ℤ◌, ◌/◌, ◌%◌, int_lt, unsigned_abs}
 use Rattle.std.specs.List.{list_all, list_any, before_first}
 use Rattle.std.specs.Str.{bytes_eq}
 use Rattle.std.proofs.lemmas.Slice.Eq.{bytes_eq-Decides}
@@ -10,19 +10,25 @@ use Rattle.std.proofs.lemmas.List.Elements.{All-from_recursion}
 use Rattle.std.proofs.lemmas.Bool.{lt-ltb, and_parts, and_from}
 use Rattle.std.proofs.Math.Numerals.{one-add}
 use Rattle.std.proofs.lemmas.Int.{ints}
+use Rattle.zic_base.specs.State.{Shown}
 use Rattle.zic_base.specs.Byte.{is_abbreviation_byte}
 use Rattle.zic_base.specs.declared.limit.TheConstants.{LONGEST_ABBREVIATION}
 use Rattle.zic_footer.specs.Footer.{TzString, version_of}
 use Rattle.zic_footer.specs.Grammar.{Spells, is_letter}
 use Rattle.zic_footer.specs.Making.{IsMade}
 use Rattle.zic_footer.specs.Printing.{printed, printed_name, printed_offset, printed_clock, printed_hours, two_digits}
-use Rattle.zic_rules.specs.Zone.{Zone, IsFirstState, end_of}
-use Rattle.zic_rules.proofs.ZoneLemmas.{no_change, shows_one}
-use Rattle.zic_rules.specs.Fault.{is_abbreviation, IsLimited}
-use Rattle.zic_rules.proofs.AbbreviationLemmas.{abbreviation_bytes, abbreviation_length}
-use Rattle.zic_rules.specs.State.{Shown}
+use Rattle.zic_states.specs.Abbreviation.{is_abbreviation}
+use Rattle.zic_states.specs.Change.{AreChanges, IsFirstState}
+use Rattle.zic_states.specs.End.{IsEnd}
+use Rattle.zic_states.specs.Laws.{IsOrderly}
+use Rattle.zic_states.specs.Zone.{Zone, Shows}
+use Rattle.zic_states.proofs.States.{one_state}
+use Rattle.zic_rules.specs.Laws.{IsWithinLimits}
+use Rattle.zic_rules.specs.Timeline.{IsWhole}
+use Rattle.zic_rules.proofs.Limits.{shows_within_limits}
+use Rattle.zic_table.proofs.AbbreviationLemmas.{abbreviation_bytes, abbreviation_length}
 use Rattle.zic_table.specs.Content.{IsLocalType, IsWritable}
-use Rattle.zic_table.specs.Image.{content_of}
+use Rattle.zic_table.specs.Image.{content_of, NeverChanges}
 use Rattle.zic_table.specs.Designation.{is_designated}
 
 all_weaker : (p q : ℕ → Bool) → ((x : ℕ) → p x ≡ true → q x ≡ true) → (xs : List ℕ) → list_all p xs ≡ true → list_all q xs ≡ true
@@ -65,7 +71,7 @@ pub content_of_one : (first : Shown) (f : TzString) → content_of first [] f �
 content_of_one first f = rw (same_name first.name, append-nil) refl
 
 -- it passes the checks of a reader
-pub writable : (first : Shown) (text : List ℕ) (f : TzString) → IsLimited first → length text ≤ 1024 → Spells 2 text f → IsWritable (record { version = 2; changes = []; types = record { offset = first.offset; daylight = first.daylight; place = 0 } ∷ []; names = first.name ++ 0 ∷ []; text = text })
+pub writable : (first : Shown) (text : List ℕ) (f : TzString) → IsWithinLimits first → length text ≤ 1024 → Spells 2 text f → IsWritable (record { version = 2; changes = []; types = record { offset = first.offset; daylight = first.daylight; place = 0 } ∷ []; names = first.name ++ 0 ∷ []; text = text })
 writable first text f limited short spells = record {
   version = inl refl;
   no_changes = refl;
@@ -100,14 +106,29 @@ printed_length f short =
     (chosen_length (int_lt (pos 0) f.offset) (45 ∷ []) [] 1 (omega arith) (omega arith)) (clock_length (unsigned_abs f.offset / 3600) (unsigned_abs f.offset / 60 % 60) (unsigned_abs f.offset % 60)) in
     omega (arith, length-append (printed_name f.std) (printed_offset f.offset))
 
--- the footer that is made for a zone has its only abbreviation
-pub made_name : (zone : Zone) (f : TzString) (first : Shown) → IsMade zone f → IsFirstState zone first → f.std ≡ first.name
-made_name zone f first made shows =
-    let same = shows_one zone (end_of zone -ℤ pos 1) made.state first made.shows (shows (end_of zone -ℤ pos 1) (omega (arith, ints)) (λ u change. absurd (no_change zone u change))) in
+-- the first state of a zone that never changes is shown one second before the end
+shows_first : (zone : Zone) (end : ℤ) (first : Shown) → IsEnd zone end → NeverChanges zone → IsFirstState zone first → Shows zone (end -ℤ pos 1) first
+shows_first zone end first is_end never is_first =
+    is_first end (end -ℤ pos 1) is_end (omega (arith, ints)) (λ u change. absurd (never u change))
+
+-- the footer that is made for such a zone has its only abbreviation
+made_name : (zone : Zone) (f : TzString) (first : Shown) → IsOrderly zone → NeverChanges zone → IsMade zone f → IsFirstState zone first → f.std ≡ first.name
+made_name zone f first is_orderly never made is_first =
+    let last = made.for_ever.end -ℤ pos 1 in
+    let shows = shows_first zone made.for_ever.end first made.for_ever.is_end never is_first in
+    let same = one_state zone is_orderly last made.state first made.for_ever.shows shows in
     ap (λ (g : TzString). g.std) made.string ∙ ap (λ (s : Shown). s.name) same
 
 -- the content that `table` makes passes the checks of a reader
-pub writable_for : (zone : Zone) (f : TzString) (first : Shown) (text : List ℕ) → IsMade zone f → IsFirstState zone first → IsLimited first → text ≡ printed f → Spells 2 text f → IsWritable (record { version = 2; changes = []; types = record { offset = first.offset; daylight = first.daylight; place = 0 } ∷ []; names = first.name ++ 0 ∷ []; text = text })
-writable_for zone f first text made shows limited is_printed spells =
-    let short : length f.std ≤ LONGEST_ABBREVIATION = rw (made_name zone f first made shows) (abbreviation_length first.name limited.name) in
+pub writable_for : (zone : Zone) (f : TzString) (first : Shown) (text : List ℕ) → IsWhole zone → NeverChanges zone
+    → IsMade zone f → IsFirstState zone first → text ≡ printed f → Spells 2 text f
+    → IsWritable (record { version = 2; changes = []; types = record { offset = first.offset; daylight = first.daylight; place = 0 } ∷ []; names = first.name ++ 0 ∷ []; text = text })
+writable_for zone f first text whole never made is_first is_printed spells =
+    let shows = shows_first zone made.for_ever.end first made.for_ever.is_end never is_first in
+    let limited : IsWithinLimits first = shows_within_limits zone whole.source whole.sound (made.for_ever.end -ℤ pos 1) first shows in
+    let short : length f.std ≤ LONGEST_ABBREVIATION = rw (made_name zone f first whole.orderly never made is_first) (abbreviation_length first.name limited.name) in
     writable first text f limited (rw is_printed (printed_length f short)) spells
+
+-- a zone that never changes has no changes
+pub no_changes : (zone : Zone) → NeverChanges zone → AreChanges zone []
+no_changes zone never = record { rising = λ i j d lt past. absurd (omega arith); each = λ k d past. absurd (omega arith); all = λ t change. absurd (never t change) }

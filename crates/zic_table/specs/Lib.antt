@@ -6,5 +6,6 @@ pub use Rattle.zic_footer.specs.Grammar
 pub use Rattle.zic_footer.specs.Making
 pub use Rattle.zic_footer.specs.Meaning
 pub use Rattle.zic_footer.specs.Printing
-pub use Rattle.zic_rules.specs.State
-pub use Rattle.zic_rules.specs.Zone
+pub use Rattle.zic_base.specs.State
+pub use Rattle.zic_states.specs.Change
+pub use Rattle.zic_states.specs.Zone

@@ -4,7 +4,7 @@ use Rattle.std.specs.Prelude.{IsSomeAnd, slice_get}
 use Rattle.zic_footer.specs.Footer.{TzString}
 use Rattle.zic_footer.specs.Meaning.{Means}
 use Rattle.zic_footer.specs.declared.footer.Footer.{Footer}
-use Rattle.zic_rules.specs.State.{Shown}
+use Rattle.zic_base.specs.State.{Shown}
 use Rattle.zic_table.specs.Content.{Content}
 use Rattle.zic_tzif.specs.Answer.{Gives, type_state}
 use Rattle.zic_tzif.specs.code.Kept.{IsFooterOf}

@@ -3,7 +3,7 @@ use Rattle.std.specs.Prelude.{◌≡◌, ℕ, ℤ, ◌⊎◌, List, [], slice_ge
 use Rattle.zic_footer.specs.Footer.{TzString}
 use Rattle.zic_footer.specs.Grammar.{Spells}
 use Rattle.zic_footer.specs.Meaning.{Means}
-use Rattle.zic_rules.specs.State.{Shown, shown}
+use Rattle.zic_base.specs.State.{Shown, shown}
 use Rattle.zic_table.specs.declared.content.LocalType.{LocalType}
 use Rattle.zic_table.specs.Content.{Content}
 use Rattle.zic_table.specs.Designation.{designation}

@@ -8,6 +8,6 @@ pub mod Writing
 pub use Rattle.zic_footer.specs.Footer
 pub use Rattle.zic_footer.specs.Grammar
 pub use Rattle.zic_footer.specs.Meaning
-pub use Rattle.zic_rules.specs.State
+pub use Rattle.zic_base.specs.State
 pub use Rattle.zic_table.specs.Content
 pub use Rattle.zic_table.specs.Designation

@@ -4,8 +4,8 @@ ghost use Rattle.std.specs.Prelude.{◌≡◌};
 
 use crate::designation::designation;
 use std::marker::Model;
+use zic_base::State;
 use zic_footer::Footer;
-use zic_rules::State;
 use zic_table::LocalType;
 
 /// A TZif file that was read.
@@ -41,7 +41,7 @@ pub enum Answer<'a> {
 
 impl Zone {
     ghost use Rattle.std.specs.Prelude.{slice_get, IsSomeAnd};
-    ghost use Rattle.zic_rules.specs.State.{shown};
+    ghost use Rattle.zic_base.specs.State.{shown};
     ghost use Rattle.zic_tzif.specs.Answer.{Answers, type_state};
     ghost use Rattle.zic_tzif.specs.code.Kept.{IsKept, plain};
 

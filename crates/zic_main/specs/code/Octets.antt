@@ -1,7 +1,7 @@
 -- The octets of a zone's file, before they have a name.
 use Rattle.std.specs.Prelude.{ℕ, List}
-use Rattle.zic_rules.specs.Fault.{IsSound}
-use Rattle.zic_rules.specs.Zone.{Zone}
+use Rattle.zic_states.specs.Fault.{IsSound}
+use Rattle.zic_states.specs.Zone.{Zone}
 use Rattle.zic_table.specs.Content.{Content}
 use Rattle.zic_main.specs.File.{IsImage, ReadsAs}
 

@@ -16,45 +16,51 @@ Rule A 2002 only - Jan 1 0 0 -
 Link B A/B
 ";
 
-/// The set of each row has these rules.
+/// For each rule of the second source, the numbers of the rules that its set has in the first.
+fn sets_text(alloc: Global, source: &Source, named: &Source) -> Result<String, Fail> {
+    let mut text = String::new(alloc);
+    for rule in 0..named.rules() {
+        let numbers = source.set_rules(&named.rule(rule).name);
+        text.push_str(format!(in alloc; "{numbers:?} ")?.as_str())?;
+    }
+    Ok(text)
+}
+
 #[test]
 fn sets_have_their_rules(rt: HostRuntime) -> Result<(), Fail> {
     let alloc = rt.alloc();
-    let source = read(alloc, &[TEXT])?.ok().ok_or("a source")?;
-    assert_eq!(rt; source.rules(), 5);
-    let rows: [(usize, &[usize]); 5] = [
-        (0, &[0, 2, 4]),
-        (1, &[1, 3]),
-        (2, &[0, 2, 4]),
-        (3, &[1, 3]),
-        (4, &[0, 2, 4]),
-    ];
-    for (rule, numbers) in &rows {
-        if *rule < source.rules() {
-            let name = &source.rule(*rule).name;
-            assert_eq!(rt; source.set_rules(name), *numbers, "rule {rule}");
-        }
-    }
-    let other = read(alloc, &[b"Rule C 2000 only - Jan 1 0 0 -"])?
-        .ok()
-        .ok_or("another source")?;
-    if other.rules() == 1 {
-        assert_eq!(rt; source.set_rules(&other.rule(0).name).len(), 0);
-    }
+    let found = source(alloc, &[TEXT])?;
+    let sets = sets_text(alloc, &found, &found)?;
+    assert_eq!(rt;
+        sets.as_str(),
+        "[0, 2, 4] [1, 3] [0, 2, 4] [1, 3] [0, 2, 4] "
+    );
     Ok(())
 }
 
 #[test]
-fn links_have_their_zones(rt: HostRuntime) -> Result<(), Fail> {
-    let source = read(rt.alloc(), &[TEXT])?.ok().ok_or("a source")?;
-    let zones = [1, 1, 0, 0];
-    assert_eq!(rt; source.links(), zones.len());
+fn unknown_sets_have_no_rules(rt: HostRuntime) -> Result<(), Fail> {
+    let alloc = rt.alloc();
+    let other = source(alloc, &[b"Rule C 2000 only - Jan 1 0 0 -"])?;
+    let sets = sets_text(alloc, &source(alloc, &[TEXT])?, &other)?;
+    assert_eq!(rt; sets.as_str(), "[] ");
+    Ok(())
+}
+
+/// The number of the zone at the end of each link.
+fn link_zones_text(alloc: Global, source: &Source) -> Result<String, Fail> {
+    let mut text = String::new(alloc);
     for link in 0..source.links() {
-        assert_eq!(rt;
-            zones.get(link).copied(),
-            Some(source.link_zone(link)),
-            "link {link}"
-        );
+        let zone = source.link_zone(link);
+        text.push_str(format!(in alloc; "{zone} ")?.as_str())?;
     }
+    Ok(text)
+}
+
+#[test]
+fn links_have_their_zones(rt: HostRuntime) -> Result<(), Fail> {
+    let alloc = rt.alloc();
+    let zones = link_zones_text(alloc, &source(alloc, &[TEXT])?)?;
+    assert_eq!(rt; zones.as_str(), "1 1 0 0 ");
     Ok(())
 }

@@ -2,75 +2,73 @@
 
 use super::*;
 
+const CHAINS: &[&[u8]] = &[
+    b"Link B C\nLink A B\nLink Etc/UTC A\nZone Etc/UTC 0 - UTC",
+    b"Zone A 0 - UTC\nL A B\nlink B C",
+];
+
 #[test]
 fn chains_end_at_zones(rt: HostRuntime) -> Result<(), Fail> {
-    let alloc = rt.alloc();
-    let rows: [(&[u8], Option<(u64, Kind)>); 11] = [
-        (
-            b"Link B C\nLink A B\nLink Etc/UTC A\nZone Etc/UTC 0 - UTC",
-            None,
-        ),
-        (b"Zone A 0 - UTC\nL A B\nlink B C", None),
-        (b"Link A B\nLink B A", Some((1, Kind::LinkCycle))),
-        (b"Link X Y", Some((1, Kind::UnknownTarget))),
-        (b"Link A A", Some((1, Kind::LinkCycle))),
-        (
-            b"Zone Z 0 - UTC\nLink Z A\nLink B C\nLink C B\nLink B D",
-            Some((3, Kind::LinkCycle)),
-        ),
-        (
-            b"Link B A\nLink C B\nLink D B",
-            Some((3, Kind::DuplicateName)),
-        ),
-        (
-            b"Link B A\nLink C B\nLink B D\nLink A C",
-            Some((1, Kind::LinkCycle)),
-        ),
-        (b"Zone A 0 Q UTC\nLink X Y", Some((1, Kind::UnknownRules))),
-        (b"Link X Y\nZone A 0 Q UTC", Some((1, Kind::UnknownTarget))),
-        (b"Link A B\nLink X A\nLink /A C", Some((3, Kind::Name))),
-    ];
-    for (text, want) in &rows {
-        let want = want.map(|(line, kind)| Fault {
-            place: Place { text: 1, line },
-            kind,
-        });
-        assert_eq!(rt; fault(alloc, &[*text])?, want, "{text:?}");
+    for text in CHAINS {
+        assert_answer(&rt, rt.alloc(), &[*text], None)?;
     }
     Ok(())
+}
+
+const CHAIN_FAULTS: &[(&[u8], u64, Kind)] = &[
+    (b"Link A B\nLink B A", 1, Kind::LinkCycle),
+    (b"Link X Y", 1, Kind::UnknownTarget),
+    (b"Link A A", 1, Kind::LinkCycle),
+    (
+        b"Zone Z 0 - UTC\nLink Z A\nLink B C\nLink C B\nLink B D",
+        3,
+        Kind::LinkCycle,
+    ),
+    (b"Link B A\nLink C B\nLink D B", 3, Kind::DuplicateName),
+    (
+        b"Link B A\nLink C B\nLink B D\nLink A C",
+        1,
+        Kind::LinkCycle,
+    ),
+    (b"Zone A 0 Q UTC\nLink X Y", 1, Kind::UnknownRules),
+    (b"Link X Y\nZone A 0 Q UTC", 1, Kind::UnknownTarget),
+    (b"Link A B\nLink X A\nLink /A C", 3, Kind::Name),
+];
+
+#[test]
+fn chains_have_faults(rt: HostRuntime) -> Result<(), Fail> {
+    assert_faults(&rt, rt.alloc(), CHAIN_FAULTS)
+}
+
+/// What the one link of these texts says.
+fn link_text(alloc: Global, texts: &[&[u8]]) -> Result<String, Fail> {
+    let source = source(alloc, texts)?;
+    if source.links() != 1 {
+        return Err(Fail::from("one link"));
+    }
+    let link = source.link(0);
+    let place = link.place;
+    let target = text_of(alloc, link.target.octets())?;
+    let name = text_of(alloc, link.name.octets())?;
+    Ok(format!(in alloc; "{place:?} {target} {name}")?)
 }
 
 #[test]
 fn links_say_their_fields(rt: HostRuntime) -> Result<(), Fail> {
-    let source = read(rt.alloc(), &[b"Link A B/C\n", b"Zone A 0 - UTC\n"])?
-        .ok()
-        .ok_or("a source")?;
-    assert_eq!(rt; source.links(), 1);
-    if source.links() == 1 {
-        let link = source.link(0);
-        assert_eq!(rt; link.place, Place { text: 1, line: 1 });
-        assert_eq!(rt; link.target.octets(), b"A".as_slice());
-        assert_eq!(rt; link.name.octets(), b"B/C".as_slice());
-    }
+    let got = link_text(rt.alloc(), &[b"Link A B/C\n", b"Zone A 0 - UTC\n"])?;
+    assert_eq!(rt; got.as_str(), "Place { text: 1, line: 1 } A B/C");
     Ok(())
 }
 
+const LINE_FAULTS: &[(&[u8], u64, Kind)] = &[
+    (b"Link A", 1, Kind::FieldCount),
+    (b"Link A B C", 1, Kind::FieldCount),
+    (b"Link /A B", 1, Kind::Name),
+    (b"Link A -", 1, Kind::Name),
+    (b"Link A .", 1, Kind::Name),
+];
+
 #[test]
 fn link_lines_have_faults(rt: HostRuntime) -> Result<(), Fail> {
-    let rows: [(&[u8], Kind); 5] = [
-        (b"Link A", Kind::FieldCount),
-        (b"Link A B C", Kind::FieldCount),
-        (b"Link /A B", Kind::Name),
-        (b"Link A -", Kind::Name),
-        (b"Link A .", Kind::Name),
-    ];
-    let place = Place { text: 1, line: 1 };
-    for (text, kind) in &rows {
-        assert_eq!(rt;
-            fault(rt.alloc(), &[*text])?,
-            Some(Fault { place, kind: *kind }),
-            "{text:?}"
-        );
-    }
-    Ok(())
+    assert_faults(&rt, rt.alloc(), LINE_FAULTS)
 }

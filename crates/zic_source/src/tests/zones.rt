@@ -2,15 +2,6 @@
 
 use super::*;
 
-/// Octets as text.
-fn text_of(alloc: Global, octets: &[u8]) -> Result<String, Fail> {
-    Ok(
-        String::from_utf8(Vec::from_slice(alloc, octets)?)
-            .ok()
-            .ok_or("text")?,
-    )
-}
-
 fn rules_text(alloc: Global, rules: &Rules) -> Result<String, Fail> {
     match rules {
         Rules::Standard => Ok(String::from_str(alloc, "standard")?),
@@ -57,108 +48,117 @@ fn line_text(alloc: Global, line: &ZoneLine) -> Result<String, Fail> {
     Ok(format!(in alloc; "{number}: {offset}, {rules}, {format}, {until}")?)
 }
 
+/// What the first line of this text's one zone says, or the text's first fault.
+fn answer_text(alloc: Global, text: &[u8]) -> Result<String, Fail> {
+    match read(alloc, &[text])? {
+        Ok(source) if source.zones() == 1 => line_text(alloc, source.line(0, 0)),
+        Ok(_) => Err(Fail::from("one zone")),
+        Err(fault) => {
+            let (line, kind) = (fault.place.line, fault.kind);
+            Ok(format!(in alloc; "line {line}: {kind:?}")?)
+        }
+    }
+}
+
+const ZONES: &[(&str, &str)] = &[
+    ("Z Z/NY -5 US E%sT", "2: -18000, set US, [E]%s[T], never"),
+    ("Zone A 5:30 - %z", "2: 19800, standard, []%z[], never"),
+    (
+        "Zone A 1 1 IST/GMT",
+        "2: 3600, 3600 true, [IST]/[GMT], never",
+    ),
+    ("Zone A 0 0 AAA", "2: 0, 0 false, AAA, never"),
+    ("Zone A 0 -1:30 AAA", "2: 0, -5400 true, AAA, never"),
+    ("Zone A 0 1s AAA", "2: 0, 3600 false, AAA, never"),
+    ("Zone A 0 0d x%z/", "line 2: Format"),
+    ("Zone A 0 0d /", "2: 0, 0 true, []/[], never"),
+];
+
 #[test]
 fn lines_say_their_fields(rt: HostRuntime) -> Result<(), Fail> {
     let alloc = rt.alloc();
-    let us = "Rule US 2007 max - Mar Sun>=8 2:00 1:00 D\n";
-    let rows = [
-        ("Z Z/NY -5 US E%sT", "2: -18000, set US, [E]%s[T], never"),
-        ("Zone A 5:30 - %z", "2: 19800, standard, []%z[], never"),
-        (
-            "Zone A 1 1 IST/GMT",
-            "2: 3600, 3600 true, [IST]/[GMT], never",
-        ),
-        ("Zone A 0 0 AAA", "2: 0, 0 false, AAA, never"),
-        ("Zone A 0 -1:30 AAA", "2: 0, -5400 true, AAA, never"),
-        ("Zone A 0 1s AAA", "2: 0, 3600 false, AAA, never"),
-        ("Zone A 0 0d x%z/", "line 2: Format"),
-        ("Zone A 0 0d /", "2: 0, 0 true, []/[], never"),
-    ];
-    for (zone, want) in rows {
-        let got = match read(alloc, &[format!(in alloc; "{us}{zone}")?.as_bytes()])? {
-            Ok(source) if source.zones() == 1 => line_text(alloc, source.line(0, 0))?,
-            Ok(_) => return Err(Fail::from("one zone")),
-            Err(fault) => {
-                let (line, kind) = (fault.place.line, fault.kind);
-                format!(in alloc; "line {line}: {kind:?}")?
-            }
-        };
-        assert_eq!(rt; got.as_str(), want, "at {zone:?}");
+    for (zone, want) in ZONES {
+        let text = format!(in alloc; "Rule US 2007 max - Mar Sun>=8 2:00 1:00 D\n{zone}")?;
+        let got = answer_text(alloc, text.as_bytes())?;
+        assert_eq!(rt; got.as_str(), *want, "at {zone:?}");
     }
     Ok(())
 }
 
+/// The UNTIL of the first line of this text's one zone, whose second line is the text's fourth and has none.
+fn first_until(alloc: Global, text: &[u8]) -> Result<String, Fail> {
+    let source = source(alloc, &[text])?;
+    if source.zones() != 1 || source.lines(0) != 2 {
+        return Err(Fail::from("two lines"));
+    }
+    let second = source.line(0, 1);
+    if second.place != (Place { text: 1, line: 4 }) || second.until.is_some() {
+        return Err(Fail::from("line 4, with no UNTIL"));
+    }
+    until_text(alloc, &source.line(0, 0).until)
+}
+
+const UNTILS: &[(&str, &str)] = &[
+    ("2000", "2000 1 Day(1) 0 Wall"),
+    ("2000 Apr", "2000 4 Day(1) 0 Wall"),
+    ("2000 f 29", "2000 2 Day(29) 0 Wall"),
+    ("1973 Apr lastSun 2:00", "1973 4 Last(0) 7200 Wall"),
+    ("2007 Jul 1 0:00s", "2007 7 Day(1) 0 Standard"),
+    ("2007 Jul 1 0:00u", "2007 7 Day(1) 0 Universal"),
+    (
+        "2007 Mar Sun>=8 -",
+        "2007 3 After { weekday: 0, day: 8 } 0 Wall",
+    ),
+    (
+        "2001 Feb Sun<=29 300",
+        "2001 2 Before { weekday: 0, day: 29 } 1080000 Wall",
+    ),
+    ("9000 D 31 -1:00", "9000 12 Day(31) -3600 Wall"),
+];
+
 #[test]
 fn untils_have_their_parts(rt: HostRuntime) -> Result<(), Fail> {
     let alloc = rt.alloc();
-    let rows = [
-        ("2000", "2000 1 Day(1) 0 Wall"),
-        ("2000 Apr", "2000 4 Day(1) 0 Wall"),
-        ("2000 f 29", "2000 2 Day(29) 0 Wall"),
-        ("1973 Apr lastSun 2:00", "1973 4 Last(0) 7200 Wall"),
-        ("2007 Jul 1 0:00s", "2007 7 Day(1) 0 Standard"),
-        ("2007 Jul 1 0:00u", "2007 7 Day(1) 0 Universal"),
-        (
-            "2007 Mar Sun>=8 -",
-            "2007 3 After { weekday: 0, day: 8 } 0 Wall",
-        ),
-        (
-            "2001 Feb Sun<=29 300",
-            "2001 2 Before { weekday: 0, day: 29 } 1080000 Wall",
-        ),
-        ("9000 D 31 -1:00", "9000 12 Day(31) -3600 Wall"),
-    ];
-    for (until, want) in rows {
+    for (until, want) in UNTILS {
         let text = format!(in alloc; "Zone A 0 - AAA {until}\n\n# next\n0 - BBB\n")?;
-        let source = read(alloc, &[text.as_bytes()])?.ok().ok_or("a source")?;
-        if source.zones() != 1 || source.lines(0) != 2 {
-            return Err(Fail::from("two lines"));
-        }
-        let got = until_text(alloc, &source.line(0, 0).until)?;
-        assert_eq!(rt; got.as_str(), want, "at {until:?}");
-        assert_eq!(rt;
-            source.line(0, 1).place,
-            Place { text: 1, line: 4 },
-            "at {until:?}"
-        );
-        assert_eq!(rt; source.line(0, 1).until, None, "at {until:?}");
+        let got = first_until(alloc, text.as_bytes())?;
+        assert_eq!(rt; got.as_str(), *want, "at {until:?}");
     }
     Ok(())
 }
+
+/// A line for each line of each zone of this source: the zone's name, the line's number in its text, and its offset.
+fn offsets_text(alloc: Global, source: &Source) -> Result<String, Fail> {
+    let mut text = String::new(alloc);
+    for zone in 0..source.zones() {
+        let name = text_of(alloc, source.zone_name(zone))?;
+        for line in 0..source.lines(zone) {
+            let line = source.line(zone, line);
+            let (number, offset) = (line.place.line, line.offset);
+            text.push_str(format!(in alloc; "{name} {number} {offset}\n")?.as_str())?;
+        }
+    }
+    Ok(text)
+}
+
+const TEXTS: [&[u8]; 2] = [
+    b"Zone B 1 - B1 2000\n2 - B2 2001\n3 - B3\nRule S 2000 max - Jan 1 0 0 -\nZone A 4 S A1 2000\n5 - A2\n",
+    b"Zone C 6 - C1",
+];
+
+const OFFSETS: &str = "B 1 3600
+B 2 7200
+B 3 10800
+A 5 14400
+A 6 18000
+C 1 21600
+";
 
 /// A continuation line belongs to the zone before it, whatever its first word is, and zones keep their order.
 #[test]
 fn zones_keep_their_lines(rt: HostRuntime) -> Result<(), Fail> {
     let alloc = rt.alloc();
-    let text =
-        "Zone B 1 - B1 2000\n2 - B2 2001\n3 - B3\nRule S 2000 max - Jan 1 0 0 -\nZone A 4 S A1 2000\n5 - A2\n";
-    let more = "Zone C 6 - C1";
-    let source = read(alloc, &[text.as_bytes(), more.as_bytes()])?
-        .ok()
-        .ok_or("a source")?;
-    let want = [
-        "B 1 3600",
-        "B 2 7200",
-        "B 3 10800",
-        "A 5 14400",
-        "A 6 18000",
-        "C 1 21600",
-    ];
-    let mut got = Vec::new(alloc);
-    for zone in 0..source.zones() {
-        let name = text_of(alloc, source.zone_name(zone))?;
-        for line in 0..source.lines(zone) {
-            let (place, offset) = (
-                source.line(zone, line).place,
-                source.line(zone, line).offset,
-            );
-            let number = place.line;
-            got.push(format!(in alloc; "{name} {number} {offset}")?)?;
-        }
-    }
-    assert_eq!(rt; got.len(), want.len());
-    for (got, want) in got.iter().zip(want) {
-        assert_eq!(rt; got.as_str(), want);
-    }
+    let got = offsets_text(alloc, &source(alloc, &TEXTS)?)?;
+    assert_eq!(rt; got.as_str(), OFFSETS);
     Ok(())
 }

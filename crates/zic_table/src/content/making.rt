@@ -6,24 +6,28 @@ ghost use Rattle.zic_base.specs.Memory.{NeverRefuses};
 ghost use Rattle.zic_footer.specs.Grammar.{Spells};
 ghost use Rattle.zic_footer.specs.Making.{IsMade};
 ghost use Rattle.zic_table.specs.Content.{IsWritable};
-ghost use Rattle.zic_table.specs.Image.{IsContentOf};
+ghost use Rattle.zic_table.specs.Image.{IsContentOf, NeverChanges};
 
 use super::{LocalType, Table};
 use std::alloc::{AllocError, Global};
-use zic_base::Stop;
+use zic_base::{State, Stop};
 use zic_footer::{Footer, print};
-use zic_rules::{State, Timeline};
+use zic_rules::Timeline;
 
 /// The table of a zone, with the footer that was made for it.
 ///
-/// While zones have no rules, no limit of a table can be passed, and only want of memory stops it.
+/// For now the zone never changes, so no limit of a table can be passed, and only want of memory stops it.
 pub fn table(alloc: Global, t: &Timeline<'_>, f: &Footer) -> Result<Table, Stop>
-    requires { IsMade t.now f.now }
+    requires made { IsMade t.now f.now }
+    // For now.
+    requires plain { NeverChanges t.now }
     ensures ok { IfOk result (IsContentOf t.now f.now) }
     ensures spells { IfOk result (λ content. Spells content.version content.text f.now) }
     ensures writable { IfOk result IsWritable }
     ensures only { NeverRefuses fault_of result }
 {
+    // `end` also tells that the zone is whole.
+    prove!(t.end() <= i64::MAX);
     let first = t.first();
     let names = ended(alloc, first.name)?;
     let types = only_type(alloc, first)?;

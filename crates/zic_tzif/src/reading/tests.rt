@@ -1,7 +1,7 @@
 use super::*;
 use crate::zone::Answer;
 use std::test::*;
-use zic_rules::State;
+use zic_base::State;
 
 /// The file of `Zone Etc/UTC 0 - UTC`.
 const UTC: &[u8; 111] = b"TZif2\0\0\0\0\0\0\0\0\0\0\0\0\0\0\0\

@@ -22,8 +22,8 @@ overflow_cast-line_number c =
     let few = few_lines zone has.lines c.requires.sound has.are in
     omega (arith, few, has.within)
 
-pub returns-in_default : goal.returns-in_default
-returns-in_default c =
+pub returns-in_default-clause-held : goal.returns-in_default-clause-held
+returns-in_default-clause-held c =
     let zone = zone_of c.args.source.now c.args.zone in
     let number = c.args.number in
     let has = has_line zone number c.requires.zone c.requires.number in
@@ -33,7 +33,7 @@ returns-in_default c =
     if_ok_map c.add_occurrences.result _ _
     (λ _ e. added_first zone number c.args.end has.line _ c.args.stretches.now.items _ has.at so_far is
     (e ∙ ap (λ (xs : List TimedOccurrence). c.args.stretches.now.items ++ map (stretch_at number) xs) mine))
-    c.add_occurrences.ensures
+    c.add_occurrences.ensures.items
 
 pub window_end-window-requires-clause-tells : goal.window_end-window-requires-clause-tells
 window_end-window-requires-clause-tells c =
@@ -59,8 +59,8 @@ after-requires c =
     let mine = before_cast c.args.occurrences.now c.before-mine.result.now c.args.end c.ranges.end c.before-mine.ensures in
     subst AreRising (sym mine) (rising_before c.args.occurrences.now c.args.end c.requires.rising)
 
-pub returns : goal.returns
-returns c =
+pub returns-clause-held : goal.returns-clause-held
+returns-clause-held c =
     let zone = zone_of c.args.source.now c.args.zone in
     let number = c.args.number in
     let s = c.in-Some.start in
@@ -88,4 +88,4 @@ returns c =
     (λ _ e. added_later zone number s c.args.end w has.line xs c.after.result.now one old _ has.at so_far is
     (window_of_line zone number w has c.window_end-window.ensures.window) from to in_years.1 split first
     (e ∙ ap (λ (l : List Stretch). l ++ more) c.in_ok-push.ensures.items))
-    c.add_occurrences-2.ensures
+    c.add_occurrences-2.ensures.items

@@ -136,6 +136,6 @@ returns-clause-walked c =
     let own : IsWalkedTo zone (suc n) (Some end) items = record {
       ordered = ordered;
       rising = more_rise zone n c.args.start end c.requires.sound ordered c.requires.walked.rising is (IfSome_then c.args.start lt (λ s h. h.1)) ends;
-      so_far = (ends, subst (λ (e : ℤ). HeldTo zone n e items) same c.in_ok-add_stretches.ensures);
+      so_far = (ends, subst (λ (e : ℤ). HeldTo zone n e items) same c.in_ok-add_stretches.ensures.held);
     } in
     subst (λ (e : ℤ). IsWalkedTo zone (suc n) (Some e) items) (sym same) own

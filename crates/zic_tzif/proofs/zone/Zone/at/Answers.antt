@@ -1,6 +1,6 @@
 use Rattle.std.proofs.Common.{sym, subst}
-use Rattle.zic_rules.specs.State.{shown}
-use Rattle.zic_rules.specs.declared.state.State.{State}
+use Rattle.zic_base.specs.State.{shown}
+use Rattle.zic_base.specs.declared.state.State.{State}
 use Rattle.zic_table.specs.Content.{Content}
 use Rattle.zic_tzif.specs.Answer.{Gives}
 use Rattle.zic_tzif.specs.code.Kept.{IsFooterOf}

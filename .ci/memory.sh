@@ -1,0 +1,27 @@
+#!/usr/bin/env bash
+# A zone whose set has 1,000 rules from the year 1 to 9000, and which changes at each occurrence but the first, is answered
+# within 512 MiB of address space.
+set -euo pipefail
+cd "$(dirname "${BASH_SOURCE[0]}")/.."
+work=$(mktemp -d)
+trap 'rm -rf "$work"' EXIT
+if ! (cd crates/zone_changes && rt run) <crates/zone_changes/stdin >"$work/log" 2>&1; then
+    cat "$work/log" >&2
+    exit 1
+fi
+# a rule each eight hours, of standard time and of saved time in turn
+awk 'BEGIN {
+    split("Jan Feb Mar Apr May Jun Jul Aug Sep Oct Nov Dec", months)
+    for (i = 0; i < 1000; i++)
+        printf "Rule X 1 9000 - %s %d %d:00 %s\n", months[int(i / 84) + 1], int(i % 84 / 3) + 1, i % 3 * 8, i % 2 ? "1:00 D" : "0 S"
+    print "Zone X 0 X E%sT"
+}' >"$work/rules"
+got=$(
+    ulimit -v 524288
+    crates/zone_changes/out/zone_changes 1 <"$work/rules"
+) || true
+if [ "$got" != "8999999 changes" ]; then
+    echo "1,000 rules from 1 to 9000: got '$got', and not '8999999 changes'" >&2
+    exit 1
+fi
+echo "1,000 rules from 1 to 9000: $got"

@@ -1,0 +1,28 @@
+-- What a timeline gives.
+use Rattle.std.specs.Prelude.{◌≡◌, ◌<◌, ℕ, ℤ, Some, List, length, slice_get}
+use Rattle.zic_states.specs.Change as changes
+use Rattle.zic_states.specs.Change.{AreChanges}
+use Rattle.zic_base.specs.State.{shown}
+use Rattle.zic_source.specs.Sound.{IsSoundSource}
+use Rattle.zic_states.specs.End.{IsEnd}
+use Rattle.zic_states.specs.Fault.{IsSound}
+use Rattle.zic_states.specs.Laws.{IsOrderly}
+use Rattle.zic_states.specs.Zone.{Zone}
+use Rattle.zic_rules.specs.declared.state.Change.{Change}
+
+-- a change without where its state's abbreviation lies
+abbrev pub change_of : Change → changes.Change
+change_of c = record { instant = c.instant; state = shown c.state }
+
+-- the change at this place, from 0, of the zone's changes in the order of time
+abbrev pub IsChangeAt : Zone → ℕ → changes.Change → Type 0
+IsChangeAt zone i change = (all : List changes.Change) × AreChanges zone all × (slice_get all i ≡ Some change)
+
+-- What the laws of zones ask of one: it is a zone of a sound source, no fault applies to it, so that its sets are in order and its
+-- UNTILs rise, and it has an explicit end.
+pub record IsWhole (zone : Zone) : Type 0 where
+  pub source : IsSoundSource zone.source
+  pub is_zone : zone.number < length zone.source.zones
+  pub sound : IsSound zone
+  pub orderly : IsOrderly zone
+  pub has_end : (end : ℤ) × IsEnd zone end

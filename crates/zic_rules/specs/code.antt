@@ -1,0 +1,3 @@
+-- Definitions that the proofs of this crate's code use, and no contract of another crate.
+pub mod Shown
+pub mod Tail

@@ -1,0 +1,63 @@
+//! Timelines, with values of zic 2.36 in its fat form and of zdump.
+
+mod changes;
+mod faults;
+mod tails;
+
+use crate::*;
+use std::alloc::Global;
+use std::test::Fail;
+use zic_base::{State, Stop};
+use zic_source::{Source, read_source};
+
+const NO_RULES: &[u8] = b"";
+
+/// The rules of the United States from 2007 on.
+const UNITED_STATES: &[u8] =
+    b"Rule US 2007 max - Mar Sun>=8 2:00 1:00 D\nRule US 2007 max - Nov Sun>=1 2:00 0 S\n";
+
+/// Standard time in summer, and a negative saving in winter.
+const EIRE: &[u8] =
+    b"Rule Eire 1996 max - Mar lastSun 1:00u 0 -\nRule Eire 1996 max - Oct lastSun 1:00u -1:00 -\n";
+
+/// Rules that end.
+const MENOMINEE: &[u8] =
+    b"Rule US 1967 1973 - Apr lastSun 2:00 1:00 D\nRule US 1967 2006 - Oct lastSun 2:00 0 S\n";
+
+/// What a source text says.
+fn read(alloc: Global, parts: &[&[u8]]) -> Result<Source, Fail> {
+    let mut text = Vec::new(alloc);
+    for part in parts {
+        text.extend_from_slice(part)?;
+    }
+    let mut texts = Vec::new(alloc);
+    texts.push(text)?;
+    match read_source(alloc, &texts) {
+        Ok(source) => Ok(source),
+        Err(Stop::Fault(_)) => Err(Fail::from("a fault")),
+        Err(Stop::Memory) => Err(Fail::from("out of memory")),
+    }
+}
+
+/// The change of this number, or none where there are fewer.
+fn change_at<'a>(found: &'a Timeline<'_>, number: usize) -> Option<Change<'a>> {
+    if number < found.len() {
+        Some(found.change(number))
+    } else {
+        None
+    }
+}
+
+/// The offset, flag and abbreviation of a state.
+fn told(state: State<'_>) -> (i32, bool, &[u8]) {
+    (state.offset, state.daylight, state.name)
+}
+
+/// What is shown at an instant before the explicit end, or none at a later one.
+fn state_at<'a>(found: &'a Timeline<'_>, t: i64) -> Option<State<'a>> {
+    if t < found.end() {
+        Some(found.state(t))
+    } else {
+        None
+    }
+}
