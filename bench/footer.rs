@@ -1,0 +1,149 @@
+//! The sums of `crates/footer_bench` in plain Rust: the same function of the same footer, with the usual algorithm for dates.
+
+const FIRST_NEAR: i64 = 2_366_841_600;
+const NEAR_STEP: i64 = 31;
+const FAR_STEP: i64 = 1_844_674_407_371;
+const CALLS: u32 = 10_000_000;
+const SECONDS_OF_DAY: i64 = 86_400;
+const CYCLE: i64 = 146_097 * SECONDS_OF_DAY;
+const FARTHEST_DAYS: i64 = 10;
+
+struct State<'a> {
+    offset: i32,
+    daylight: bool,
+    name: &'a [u8],
+}
+
+#[derive(Clone, Copy)]
+#[allow(dead_code)]
+enum DayRule {
+    J(u16),
+    N(u16),
+    M { month: u8, week: u8, weekday: u8 },
+}
+
+struct Edge {
+    day: DayRule,
+    time: i32,
+}
+
+struct Dst {
+    name: Vec<u8>,
+    offset: i32,
+    start: Edge,
+    stop: Edge,
+}
+
+struct Footer {
+    std: Vec<u8>,
+    offset: i32,
+    dst: Option<Dst>,
+}
+
+/// Years that begin in March, in eras of 400 years.
+fn year_of(day: i64) -> i64 {
+    let shifted = day + 719_468;
+    let era = shifted.div_euclid(146_097);
+    let day_of_era = shifted.rem_euclid(146_097);
+    let year_of_era =
+        (day_of_era - day_of_era / 1460 + day_of_era / 36_524 - day_of_era / 146_096) / 365;
+    let day_of_year = day_of_era - (365 * year_of_era + year_of_era / 4 - year_of_era / 100);
+    year_of_era + era * 400 + i64::from(day_of_year >= 306)
+}
+
+fn day_number(year: i64, month: u8, day: u8) -> i64 {
+    let year = year - i64::from(month <= 2);
+    let era = year.div_euclid(400);
+    let year_of_era = year.rem_euclid(400);
+    let shifted_month = if month > 2 { month - 3 } else { month + 9 };
+    let day_of_year = (153 * i64::from(shifted_month) + 2) / 5 + i64::from(day) - 1;
+    era * 146_097 + year_of_era * 365 + year_of_era / 4 - year_of_era / 100 + day_of_year - 719_468
+}
+
+fn weekday(day: i64) -> u8 {
+    (day + 4).rem_euclid(7) as u8
+}
+
+fn days_in_month(year: i64, month: u8) -> u8 {
+    match month {
+        2 if year % 4 == 0 && (year % 100 != 0 || year % 400 == 0) => 29,
+        2 => 28,
+        4 | 6 | 9 | 11 => 30,
+        _ => 31,
+    }
+}
+
+fn day_in(year: i64, day: DayRule) -> i64 {
+    match day {
+        DayRule::J(number) if number < 60 => day_number(year, 1, 1) + i64::from(number) - 1,
+        DayRule::J(number) => day_number(year, 3, 1) + i64::from(number) - 60,
+        DayRule::N(number) => day_number(year, 1, 1) + i64::from(number),
+        DayRule::M { month, week: 5, weekday: wanted } => {
+            let last = day_number(year, month, days_in_month(year, month));
+            last - i64::from((weekday(last) + 7 - wanted) % 7)
+        }
+        DayRule::M { month, week, weekday: wanted } => {
+            let first = day_number(year, month, 7 * week - 6);
+            first + i64::from((wanted + 7 - weekday(first)) % 7)
+        }
+    }
+}
+
+fn instant_in(year: i64, edge: &Edge, offset: i32) -> i64 {
+    SECONDS_OF_DAY * day_in(year, edge.day) + i64::from(edge.time) - i64::from(offset)
+}
+
+fn last_not_after(t: i64, year: i64, edge: &Edge, offset: i32) -> i64 {
+    let latest = instant_in(year, edge, offset);
+    if latest <= t {
+        return latest;
+    }
+    let before = instant_in(year - 1, edge, offset);
+    if before <= t {
+        return before;
+    }
+    instant_in(year - 2, edge, offset)
+}
+
+fn is_daylight(standard: i32, dst: &Dst, t: i64) -> bool {
+    let year = year_of(t / SECONDS_OF_DAY + FARTHEST_DAYS);
+    last_not_after(t, year, &dst.stop, dst.offset) <= last_not_after(t, year, &dst.start, standard)
+}
+
+impl Footer {
+    fn state(&self, t: i64) -> State<'_> {
+        let t = t.rem_euclid(CYCLE);
+        match &self.dst {
+            Some(dst) if is_daylight(self.offset, dst, t) => {
+                State { offset: dst.offset, daylight: true, name: &dst.name }
+            }
+            _ => State { offset: self.offset, daylight: false, name: &self.std },
+        }
+    }
+}
+
+fn number(footer: &Footer, t: i64) -> i64 {
+    let state = footer.state(t);
+    let letter = state.name.first().copied().unwrap_or(0);
+    i64::from(state.offset) + i64::from(letter) + i64::from(state.daylight)
+}
+
+fn main() {
+    let word = std::env::args().nth(1);
+    let sunday = |month, week| Edge { day: DayRule::M { month, week, weekday: 0 }, time: 7200 };
+    let eastern = Footer {
+        std: b"EST".to_vec(),
+        offset: -18_000,
+        dst: Some(Dst { name: b"EDT".to_vec(), offset: -14_400, start: sunday(3, 2), stop: sunday(11, 1) }),
+    };
+    let footer = std::hint::black_box(eastern);
+    let sum = |instant: &dyn Fn(u32) -> i64| {
+        (0..CALLS).fold(0i64, |total, call| total.wrapping_add(number(&footer, instant(call))))
+    };
+    if word.as_deref() != Some("far") {
+        println!("near {}", sum(&|call| FIRST_NEAR + NEAR_STEP * i64::from(call)));
+    }
+    if word.as_deref() != Some("near") {
+        println!("far {}", sum(&|call| FAR_STEP.wrapping_mul(i64::from(call))));
+    }
+}

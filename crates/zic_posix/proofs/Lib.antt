@@ -1,0 +1,15 @@
+pub mod Steps
+pub mod FrontLemmas
+pub mod NumberLemmas
+pub mod NameLemmas
+pub mod ClockLemmas
+pub mod SignedLemmas
+pub mod EdgeLemmas
+pub mod StringLemmas
+pub mod WiderLemmas
+pub mod PrintLemmas
+pub mod Days
+pub mod Edges
+pub mod Lasts
+pub mod Meanings
+pub mod Cycles

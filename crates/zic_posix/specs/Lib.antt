@@ -1,0 +1,7 @@
+pub mod Footer
+pub mod Grammar
+pub mod Meaning
+pub mod Laws
+pub mod Parsing
+pub mod Printing
+pub mod code

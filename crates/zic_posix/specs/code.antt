@@ -1,0 +1,4 @@
+-- What only the proofs of this crate's code use. No public contract cites it.
+pub mod Reading
+pub mod Text
+pub mod State

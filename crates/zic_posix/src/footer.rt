@@ -1,0 +1,114 @@
+//! A footer, and what it says.
+
+ghost use Rattle.std.specs.Prelude.{◌≡◌};
+ghost use Rattle.std.specs.Option.{option_copied};
+ghost use Rattle.zic_posix.specs.Footer.{is_of_day, version_of};
+ghost use Rattle.zic_posix.specs.Grammar.{IsTzString};
+
+use std::marker::Model;
+use zic_base::{LONGEST_ABBREVIATION, ShortText};
+
+/// The abbreviation of local time in a footer, without the `<` and `>` of its text; clauses see its octets.
+pub type Abbr = ShortText<LONGEST_ABBREVIATION>;
+
+/// The day of a year on which daylight saving time starts or stops.
+#[derive(Clone, Copy, Debug, PartialEq, Eq)]
+pub enum DayRule {
+    /// From 1 to 365; February 29 is never counted.
+    J(u16),
+    /// From 0 to 365; February 29 is counted.
+    N(u16),
+    /// A weekday of a month: the `week`th, 5 for the last; Sunday is 0.
+    M { month: u8, week: u8, weekday: u8 },
+}
+
+/// A start or stop of daylight saving time in each year.
+#[derive(Clone, Copy, Debug, PartialEq, Eq)]
+pub struct Edge {
+    pub day: DayRule,
+    /// Seconds after the day's midnight: a start's in standard time, a stop's in daylight saving time.
+    pub time: i32,
+}
+
+impl Edge {
+    /// Whether the time is from 00:00:00 to 24:00:00.
+    fn is_of_day(&self) -> bool
+        ensures { result ≡ is_of_day self.now }
+    {
+        0 <= self.time && self.time <= 86_400
+    }
+}
+
+/// Daylight saving time in a footer.
+#[derive(Debug, Drop)]
+pub struct Dst {
+    pub name: Abbr,
+    /// The UT offset in seconds, positive east.
+    pub offset: i32,
+    pub start: Edge,
+    pub stop: Edge,
+}
+
+/// A POSIX TZ string, of TZif version 2 or 3.
+#[derive(Debug, Drop)]
+pub struct Footer {
+    std: Abbr,
+    /// The UT offset of standard time in seconds, positive east.
+    offset: i32,
+    dst: Option<Dst>,
+}
+
+impl Model for Footer {
+    ghost use Rattle.zic_posix.specs.Footer.{TzString};
+
+    ghost Value = { TzString };
+
+    ghost use Rattle.zic_posix.specs.Grammar.{IsTzString};
+
+    ghost view = { λ f. record { std = f.std; offset = f.offset; dst = f.dst } };
+
+    ghost invariant = { λ f. IsTzString (record { std = f.std; offset = f.offset; dst = f.dst }) };
+}
+
+impl Footer {
+    /// The string of these parts, which keep the limits of version 3.
+    pub fn new(std: Abbr, offset: i32, dst: Option<Dst>) -> Footer
+        requires { IsTzString (record { std = std; offset = offset; dst = dst }) }
+        ensures { result ≡ record { std = std; offset = offset; dst = dst } }
+    {
+        Footer { std, offset, dst }
+    }
+
+    /// The abbreviation of standard time.
+    pub fn std(&self) -> &Abbr
+        ensures { result.now ≡ self.now.std }
+    {
+        &self.std
+    }
+
+    /// The UT offset of standard time in seconds, positive east.
+    pub fn offset(&self) -> i32
+        ensures value { result ≡ self.now.offset }
+        ensures limits { IsTzString self.now }
+    {
+        self.offset
+    }
+
+    /// Daylight saving time, if there is one.
+    pub fn dst(&self) -> Option<&Dst>
+        ensures { option_copied result ≡ self.now.dst }
+    {
+        self.dst.as_ref()
+    }
+
+    /// The version of TZif of a file with this string: 2 without a daylight part or with both its times in 0 to
+    /// 24:00:00, else 3.
+    pub fn version(&self) -> u8
+        ensures { result ≡ version_of self.now }
+    {
+        match &self.dst {
+            Some(dst) if !(dst.start.is_of_day() && dst.stop.is_of_day()) => 3,
+            _ => 2,
+        }
+    }
+}

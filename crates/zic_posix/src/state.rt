@@ -1,0 +1,130 @@
+//! What a footer means at an instant.
+
+ghost use Rattle.std.specs.Prelude.{◌≡◌, ◌≤◌, unsigned_abs, MatchBool};
+ghost use Rattle.std.specs.Int.{IsInRange};
+ghost use Rattle.zic_base.specs.declared.limit.TheConstants.{FARTHEST_FILE_OFFSET};
+ghost use Rattle.zic_base.specs.State.{shown};
+ghost use Rattle.zic_calendar.specs.Calendar.{IsSupportedYear};
+ghost use Rattle.zic_calendar.specs.DayForm.{IsNearSupportedDay};
+ghost use Rattle.zic_posix.specs.Grammar.{IsDay, IsEdge, IsOffset, IsDaylight};
+ghost use Rattle.zic_posix.specs.Meaning as meaning;
+ghost use Rattle.zic_posix.specs.Meaning.{IsDaylightAt, IsStandardAt, Means};
+ghost use Rattle.zic_posix.specs.code.State.{IsInCycle, IsLatestYear, IsYearOfCycle, instant_in, IsLastInstant};
+
+use crate::footer::{DayRule, Dst, Edge, Footer};
+use zic_base::State;
+use zic_calendar::{On, civil, day_of};
+
+const SECONDS_OF_DAY: i64 = 86_400;
+
+/// After so many seconds, 400 years, the calendar comes again.
+const CYCLE: i64 = 146_097 * SECONDS_OF_DAY;
+
+/// An edge lies less than so many days outside its year: the time and the offset add up to at most 193:59:58.
+const FARTHEST_DAYS: i64 = 10;
+
+impl Footer {
+    /// What the footer says at an instant, in seconds since 1970-01-01 00:00 UT.
+    pub fn state(&self, t: i64) -> State<'_>
+        ensures { Means self.now t (shown result) }
+    {
+        let t = t.rem_euclid(CYCLE);
+        match self.dst() {
+            Some(dst) if is_daylight(self.offset(), dst, t) => State {
+                offset: dst.offset,
+                daylight: true,
+                name: dst.name.octets(),
+            },
+            _ => State {
+                offset: self.offset(),
+                daylight: false,
+                name: self.std().octets(),
+            },
+        }
+    }
+}
+
+/// Whether daylight saving time holds at an instant of the first 400 years from 1970 on.
+fn is_daylight(standard: i32, dst: &Dst, t: i64) -> bool
+    requires standard { IsOffset standard }
+    requires dst { IsDaylight standard dst.now }
+    requires t { IsInCycle t }
+    ensures { MatchBool result (IsDaylightAt standard dst.now t) (IsStandardAt standard dst.now t) }
+{
+    let year = latest_year(t);
+    let start = last_not_after(t, year, &dst.start, standard);
+    let stop = last_not_after(t, year, &dst.stop, dst.offset);
+    stop <= start
+}
+
+/// The latest year of which an edge may have come at an instant.
+fn latest_year(t: i64) -> i64
+    requires { IsInCycle t }
+    ensures year { IsLatestYear t result }
+    ensures range { IsYearOfCycle result }
+{
+    civil(t / SECONDS_OF_DAY + FARTHEST_DAYS, 0).year
+}
+
+/// The last instant of an edge that isn't after this one, where local time has this UT offset before the edge.
+fn last_not_after(t: i64, year: i64, edge: &Edge, offset: i32) -> i64
+    requires year { IsLatestYear t year }
+    requires range { IsYearOfCycle year }
+    requires edge { IsEdge edge.now }
+    requires offset { unsigned_abs offset ≤ FARTHEST_FILE_OFFSET }
+    ensures { IsLastInstant (instant_in edge.now offset) t result }
+{
+    let latest = instant_in(year, edge, offset);
+    if latest <= t {
+        return latest;
+    }
+    let before = instant_in(year - 1, edge, offset);
+    if before <= t {
+        return before;
+    }
+    instant_in(year - 2, edge, offset)
+}
+
+/// The instant of an edge in a year, where local time has this UT offset before it.
+fn instant_in(year: i64, edge: &Edge, offset: i32) -> i64
+    requires year { IsSupportedYear year }
+    requires edge { IsEdge edge.now }
+    ensures { result ≡ instant_in edge.now offset year }
+{
+    SECONDS_OF_DAY * day_in(year, edge.day) + i64::from(edge.time) - i64::from(offset)
+}
+
+/// The number of the day that a day rule names in a year; day 365 of a common year, counted from 0, is the next January 1.
+fn day_in(year: i64, day: DayRule) -> i64
+    requires year { IsSupportedYear year }
+    requires day { IsDay day }
+    ensures value { result ≡ meaning.day_in year day }
+    ensures range { IsNearSupportedDay result }
+{
+    match day {
+        DayRule::J(number) if number < 60 => day_of(year, 1, On::Day(1)) + i64::from(number) - 1,
+        // Day 60 is March 1 in every year.
+        DayRule::J(number) => day_of(year, 3, On::Day(1)) + i64::from(number) - 60,
+        DayRule::N(number) => day_of(year, 1, On::Day(1)) + i64::from(number),
+        DayRule::M {
+            month,
+            week,
+            weekday,
+        } => day_of(year, month, week_form(week, weekday)),
+    }
+}
+
+/// Week 5 is the last such weekday of the month, and the weeks before it count from its first day.
+fn week_form(week: u8, weekday: u8) -> On
+    requires { IsInRange 1 5 week }
+    ensures { result ≡ meaning.week_form week weekday }
+{
+    if week == 5 {
+        On::Last(weekday)
+    } else {
+        On::After {
+            weekday,
+            day: 7 * week - 6,
+        }
+    }
+}
