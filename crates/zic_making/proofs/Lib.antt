@@ -1,0 +1,11 @@
+pub mod DayForms
+pub mod EdgeInstants
+pub mod TailRules
+pub mod InTurn
+pub mod Pairs
+pub mod ForEver
+pub mod Moments
+pub mod Alternation
+pub mod OneTail
+pub mod Names
+pub mod Outcomes

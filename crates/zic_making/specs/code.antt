@@ -1,0 +1,2 @@
+-- Definitions that the proofs of this crate's code use, and no contract of another crate.
+pub mod Turns

@@ -1,0 +1,12 @@
+//! The footer of a TZif file: a POSIX TZ string that says what a zone shows for ever.
+#![tactic(auto)]
+
+mod edges;
+mod making;
+mod turns;
+
+pub use making::make;
+pub use zic_posix::{Abbr, DayRule, Dst, Edge, Footer, ParseStop, parse, print};
+
+#[cfg(test)]
+mod tests;
