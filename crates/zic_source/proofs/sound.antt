@@ -1,3 +1,4 @@
 pub mod Lines
 pub mod Untils
+pub mod InOrder
 pub mod Sources

@@ -1,6 +1,7 @@
 -- What holds of every source; the layers above cite these names. The limits are own choice.
-use Rattle.std.specs.Prelude.{◌≡◌, ◌≢◌, ◌≤◌, ◌+◌, ℕ, ℤ, pos, ◌≤ℤ◌, Bool, true, false, List, [], ◌∷◌, ◌++◌, length, map, All, AllPairs, IfSome}
+use Rattle.std.specs.Prelude.{◌≡◌, ◌≢◌, ◌≤◌, ◌+◌, ℕ, ℤ, pos, ◌≤ℤ◌, true, false, List, [], ◌∷◌, ◌++◌, length, map, All, AllPairs, IfSome}
 use Rattle.std.specs.Int.{IsInRange}
+use Rattle.zic_base.specs.Place.{IsBefore}
 use Rattle.zic_calendar.specs.DayForm.{FormFits}
 use Rattle.zic_words.specs.declared.clock.TheConstants.{LATEST_TIME}
 use Rattle.zic_words.specs.declared.time.TheConstants.{GREATEST_OFFSET}
@@ -81,7 +82,14 @@ pub record IsSoundLink (source : SourceLines) (link : Link) : Type 0 where
 abbrev pub names_of : SourceLines → List (List ℕ)
 names_of source = map (λ zone. zone.name) source.zones ++ map (λ link. link.name) source.links
 
--- A source is sound: each of its lines is, names differ, and the four counts hold.
+-- The lines stand in the order of the texts and their lines: each Zone line before the next, each Link line before the next, and no
+-- Zone line at the place of a Link line.
+pub record StandInOrder (source : SourceLines) : Type 0 where
+  pub zones : AllPairs (λ zone other. IsBefore zone.first.place other.first.place) source.zones
+  pub links : AllPairs (λ link other. IsBefore link.place other.place) source.links
+  pub apart : All (λ zone. All (λ link. zone.first.place ≢ link.place) source.links) source.zones
+
+-- A source is sound: each of its lines is, names differ, the four counts hold, and its lines stand in order.
 pub record IsSoundSource (source : SourceLines) : Type 0 where
   pub rules : All IsSoundRule source.rules
   pub zones : All (IsSoundZone source.rules) source.zones
@@ -91,3 +99,4 @@ pub record IsSoundSource (source : SourceLines) : Type 0 where
   pub few_rules : length source.rules ≤ MOST_RULES
   pub few_zone_lines : length (zone_lines_of source) ≤ MOST_ZONE_LINES
   pub few_names : length source.zones + length source.links ≤ MOST_NAMES
+  pub in_order : StandInOrder source

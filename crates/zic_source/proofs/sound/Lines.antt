@@ -1,6 +1,6 @@
 -- What a line says is sound.
-use Rattle.std.proofs.Common.{◌≡◌, ◌≤◌, ℕ, Bool, true, false, cond, not, ltb, List, [], ◌∷◌, Option, Some, None, refl, sym, ap, subst, ◌∙◌, arith}
-use Rattle.std.specs.Prelude.{ℤ, pos, ◌≤ℤ◌, ◌&&◌, ◌==◌, unsigned_abs, IfSome, option_map, codes}
+use Rattle.std.proofs.Common.{◌≡◌, ℕ, Bool, true, false, cond, not, List, [], ◌∷◌, Option, Some, None, refl, sym, ap, subst, ◌∙◌, arith}
+use Rattle.std.specs.Prelude.{ℤ, pos, ◌≤ℤ◌, ◌==◌, IfSome, option_map, codes}
 use Rattle.std.specs.Int.{IsInRange}
 use Rattle.std.proofs.lemmas.Bool.{ltb-false, and_parts, eqb-true, not-true, not-false}
 use Rattle.std.proofs.lemmas.Int.{ints}
@@ -13,10 +13,10 @@ use Rattle.zic_words.specs.declared.year.TheConstants.{LAST_YEAR}
 use Rattle.zic_words.specs.Dash.{is_dash}
 use Rattle.zic_words.specs.Letter.{is_letter, without_dash, letter_of}
 use Rattle.zic_words.specs.SetName.{is_set_name}
-use Rattle.zic_words.specs.Time.{IsWithin, offset_of}
+use Rattle.zic_words.specs.Time.{IsWithin}
 use Rattle.zic_words.specs.Clock.{clock_time_of}
 use Rattle.zic_words.specs.Saving.{saving_of}
-use Rattle.zic_words.specs.Year.{IsYear, year_of, last_year_of, ends_before, is_one_leap_year}
+use Rattle.zic_words.specs.Year.{IsYear, year_of, ends_before, is_one_leap_year}
 use Rattle.zic_words.specs.Month.{IsMonth, month_of}
 use Rattle.zic_words.specs.DayForm.{day_form_of}
 use Rattle.zic_lines.specs.declared.rule.Rule.{Rule}
@@ -29,7 +29,7 @@ use Rattle.zic_lines.specs.ZoneLine.{IsContinuationLine}
 use Rattle.zic_lines.specs.RulesField.{rules_of, begins_amount}
 use Rattle.zic_lines.specs.Until.{until_at, until_of}
 use Rattle.zic_lines.proofs.Options.{bound}
-use Rattle.zic_source.specs.Sound.{IsWithinDay, IsSoundMoment, OccursIn, IsSoundRule, IsSoundUntil, AreSoundRules, IsSoundLine}
+use Rattle.zic_source.specs.Sound.{IsWithinDay, IsSoundRule, IsSoundUntil, AreSoundRules, IsSoundLine}
 use Rattle.zic_source.specs.Whole.{is_unknown}
 use Rattle.zic_words.proofs.Ranges.{offset_within, clock_time_within, saving_within, year_within, last_year_within, month_within, day_form_fits}
 

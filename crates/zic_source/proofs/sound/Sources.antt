@@ -1,7 +1,6 @@
 -- A source is sound.
-use Rattle.std.proofs.Common.{◌≡◌, ℕ, ◌+◌, false, cond, List, [], ◌∷◌, get_or, map, refl, sym, ap, subst, ◌∙◌, arith}
-use Rattle.std.specs.Prelude.{Contains, All, flat_map, sum_by, bytes_eq}
-use Rattle.std.proofs.lemmas.List.Elements.{Contains-get_or}
+use Rattle.std.proofs.Common.{◌≡◌, ℕ, ◌+◌, false, cond, List, [], ◌∷◌, map, refl, sym, ap, subst, ◌∙◌, arith}
+use Rattle.std.specs.Prelude.{Contains, flat_map, sum_by, bytes_eq}
 use Rattle.std.proofs.lemmas.List.Sums.{sum_by-append, sum_by-cons}
 use Rattle.zic_lines.specs.declared.rule.Rule.{Rule}
 use Rattle.zic_lines.specs.declared.link.Link.{Link}
@@ -14,17 +13,15 @@ use Rattle.zic_source.specs.Source.{SourceLines, ZoneLines, lines_of_zone, zone_
 use Rattle.zic_source.specs.Grammar.{said, is_open, IsSource}
 use Rattle.zic_source.specs.Whole.{is_unknown}
 use Rattle.zic_source.specs.Sound.{IsSoundRule, IsSoundLine, IsSoundZone, IsSoundLink, names_of, IsSoundSource}
-use Rattle.zic_source.proofs.Elements.{only_one, into_flat_map}
+use Rattle.zic_source.proofs.Elements.{all_if_each, only_one, into_flat_map}
 use Rattle.zic_source.proofs.Counts.{times, once_differ}
 use Rattle.zic_source.proofs.reading.Zones.{lines_in}
 use Rattle.zic_source.proofs.reading.Limits.{OfSet, Rules, Lines, Names, OfName, bearers}
 use Rattle.zic_source.proofs.reading.Read.{entries_of, Read, is_read}
 use Rattle.zic_source.proofs.reading.Said.{IsSaid, is_said, rule_is_said, link_is_said, line_is_said, zone_is_said}
 use Rattle.zic_source.proofs.sound.Lines.{rule_sound, line_sound}
+use Rattle.zic_source.proofs.sound.InOrder.{stand_in_order}
 use Rattle.zic_source.proofs.sound.Untils.{Follow, texts_closed, zones_follow, have_untils}
-
-each : {X : Type 0} (P : X → Type 0) (xs : List X) → ((x : X) → Contains xs x → P x) → All P xs
-each P xs holds k d lt = holds (get_or xs k d) (Contains-get_or xs k d lt)
 
 -- ---- names
 
@@ -74,7 +71,7 @@ module _ (texts : List (List ℕ)) (source : SourceLines) (is : IsSource texts s
       let said = entry_said (entries.Zone zone.name zone.first) (zone_is_said source (entries_of read.statements) read.is zone has) in
       record {
         name = said.2.1.named;
-        lines = each (IsSoundLine source.rules) (lines_of_zone zone) (λ line at. line_is_sound line (into_flat_map lines_of_zone source.zones zone line has at));
+        lines = all_if_each (IsSoundLine source.rules) (lines_of_zone zone) (λ line at. line_is_sound line (into_flat_map lines_of_zone source.zones zone line has at));
         untils = have_untils source.zones zones_in_turn zone has;
       }
 
@@ -85,12 +82,13 @@ module _ (texts : List (List ℕ)) (source : SourceLines) (is : IsSource texts s
 
   pub source_is_sound : IsSoundSource source
   source_is_sound = record {
-    rules = each IsSoundRule source.rules rule_is_sound;
-    zones = each (IsSoundZone source.rules) source.zones zone_is_sound;
-    links = each (IsSoundLink source) source.links link_is_sound;
+    rules = all_if_each IsSoundRule source.rules rule_is_sound;
+    zones = all_if_each (IsSoundZone source.rules) source.zones zone_is_sound;
+    links = all_if_each (IsSoundLink source) source.links link_is_sound;
     names_differ = once_differ (names_of source) (λ name. omega (arith, names_times source name, read.within (OfName name)));
     small_sets = λ name. read.within (OfSet name);
     few_rules = read.within Rules;
     few_zone_lines = read.within Lines;
     few_names = read.within Names;
+    in_order = stand_in_order texts source read;
   }
