@@ -17,11 +17,11 @@ impl Task for AddOne {
 
     type Fault = ();
 
-    ghost use Rattle.std.specs.Prelude.{◌+◌, Ok};
+    ghost use Rattle.std.specs.Prelude.{◌≡◌, ◌+◌, Ok};
 
     ghost count = { λ t. t.pieces };
 
-    ghost outcome = { λ _ i. Ok (i + 1) };
+    ghost outcome = { λ _ i r. r ≡ Ok (i + 1) };
 
     fn pieces(&self) -> u64 {
         self.pieces

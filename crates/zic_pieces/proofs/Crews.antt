@@ -29,7 +29,7 @@ module _ {X F : Type 0} where
   work_parts_snoc (q ∷ qs) w = let r = work_parts_snoc qs w in omega arith
 
   -- each worker did its work, and their passes stand for as many as those that they began with
-  pub all_did : (o : ℕ → Result X F) (claims : Shared) (ps : List Held) (ws : List (Worked X F)) → length ws ≡ length ps
+  pub all_did : (o : ℕ → Result X F → Type 0) (claims : Shared) (ps : List Held) (ws : List (Worked X F)) → length ws ≡ length ps
       → ((i : ℕ) (d : Worked X F) (p : Held) → i < length ps → DidWork o claims (slice_index_or ps i p).known.parts (slice_index_or ws i d))
       → Each (λ w. HasEnded claims w × HasWorked o w) ws × (work_parts ws ≡ parts_of ps)
   all_did o claims [] [] same did = ((λ k x e. absurd (some-ne-none x (sym e))), refl)
@@ -46,7 +46,7 @@ module _ {X F : Type 0} where
       each_more w ws here rest zero x e = subst (λ u. HasEnded claims u × HasWorked o u) (some-injective w x e) here
       each_more w ws here rest (suc k) x e = rest k x e
 
-  pub crew_of : (o : ℕ → Result X F) (claims : Shared) (ps : List Held) (ws new : List (Worked X F)) (last : Worked X F) → ws ≡ new ++ last ∷ [] → length ws ≡ length ps
+  pub crew_of : (o : ℕ → Result X F → Type 0) (claims : Shared) (ps : List Held) (ws new : List (Worked X F)) (last : Worked X F) → ws ≡ new ++ last ∷ [] → length ws ≡ length ps
       → ((i : ℕ) (d : Worked X F) (p : Held) → i < length ps → DidWork o claims (slice_index_or ps i p).known.parts (slice_index_or ws i d))
       → (HasEnded claims last × HasWorked o last) × Each (λ w. HasEnded claims w × HasWorked o w) new × (last.pass.known.parts + work_parts new ≡ parts_of ps)
   crew_of o claims ps ws new last is same did =
@@ -57,7 +57,7 @@ module _ {X F : Type 0} where
       let snoc = work_parts_snoc new last in
       (each_last (λ w. HasEnded claims w × HasWorked o w) new last each, each_front (λ w. HasEnded claims w × HasWorked o w) new last each, omega arith)
 
-  pub finished : {E : Type 0} → (o : ℕ → Result X F) (claims : Shared) (n m : ℕ) (r : Result (Worked X F) E) → IfOk r (HasEnded claims) → IfOk r (λ w. w.pass.known.parts ≡ n) → IfOk r (HasWorked o) → n ≡ m → IfOk r (DidWork o claims m)
+  pub finished : {E : Type 0} → (o : ℕ → Result X F → Type 0) (claims : Shared) (n m : ℕ) (r : Result (Worked X F) E) → IfOk r (HasEnded claims) → IfOk r (λ w. w.pass.known.parts ≡ n) → IfOk r (HasWorked o) → n ≡ m → IfOk r (DidWork o claims m)
   finished o claims n m (Ok w) ended parts work is = (ended, parts ∙ is, work)
   finished o claims n m (Err e) ended parts work is = tt
 

@@ -12,11 +12,11 @@ use Rattle.zic_pieces.specs.Task.{IsReason, HaveValues, AreValues, IsStop}
 use Rattle.zic_pieces.specs.code.Work.{IsKeptAt, IsWork}
 use Rattle.zic_pieces.specs.code.Order.{AllBelow, EachHas, AreInOrder}
 
-pub the_stop_is : {X F : Type 0} → (o : ℕ → Result X F) (n least : ℕ) (r : PieceStop F) → (least < n) × HaveValues o least × IsReason (o least) r → IsStop o n (the_stop least r)
+pub the_stop_is : {X F : Type 0} → (o : ℕ → Result X F → Type 0) (n least : ℕ) (r : PieceStop F) → (least < n) × HaveValues o least × IsReason (o least) r → IsStop o n (the_stop least r)
 the_stop_is o n least (Fault f) h = h
 the_stop_is o n least Memory h = (h.0, h.1)
 
-module _ {X F : Type 0} (o : ℕ → Result X F) (n : ℕ) (es : List Event) (vals : List (ℕ × X)) (least : ℕ) (is_least : IsLeast n es least) (once : (i : ℕ) → i < n → i ≤ least → times i (given n es) ≡ 1) where
+module _ {X F : Type 0} (o : ℕ → Result X F → Type 0) (n : ℕ) (es : List Event) (vals : List (ℕ × X)) (least : ℕ) (is_least : IsLeast n es least) (once : (i : ℕ) → i < n → i ≤ least → times i (given n es) ≡ 1) where
   -- each piece below the least reported one has its value kept
   kept_below : (halt : Option (ℕ × PieceStop F)) → IsWork o n es vals halt → (i : ℕ) → i < least → (x : X) × IsKeptAt vals i x
   kept_below halt work i low =
@@ -51,12 +51,12 @@ module _ {X F : Type 0} (o : ℕ → Result X F) (n : ℕ) (es : List Event) (va
     stops = (subst (λ k. k < n) (sym the_halt) work.halts.0, values_below (Some (h, r)) work, subst (λ k. IsReason (o k) r) (sym the_halt) work.halts.3)
 
 -- in terms of what the answer's callers know: the claims' number of pieces is the task's
-pub record Settles {X F : Type 0} (o : ℕ → Result X F) (n : ℕ) (es : List Event) (vals : List (ℕ × X)) (halt : Option (ℕ × PieceStop F)) (least : ℕ) : Type 0 where
+pub record Settles {X F : Type 0} (o : ℕ → Result X F → Type 0) (n : ℕ) (es : List Event) (vals : List (ℕ × X)) (halt : Option (ℕ × PieceStop F)) (least : ℕ) : Type 0 where
   pub is_least : IsLeast n es least
   pub once : (i : ℕ) → i < n → i ≤ least → times i (given n es) ≡ 1
   pub work : IsWork o n es vals halt
 
-module _ {X F : Type 0} (o : ℕ → Result X F) (n : ℕ) (es : List Event) (vals : List (ℕ × X)) (halt : Option (ℕ × PieceStop F)) (least : ℕ) (s : Settles o n es vals halt least) where
+module _ {X F : Type 0} (o : ℕ → Result X F → Type 0) (n : ℕ) (es : List Event) (vals : List (ℕ × X)) (halt : Option (ℕ × PieceStop F)) (least : ℕ) (s : Settles o n es vals halt least) where
   halted : (h : Option (ℕ × PieceStop F)) → halt ≡ h → IsWork o n es vals h
   halted h is = subst (λ k. IsWork o n es vals k) is s.work
 
@@ -72,7 +72,7 @@ module _ {X F : Type 0} (o : ℕ → Result X F) (n : ℕ) (es : List Event) (va
   pub some_stop : (h : ℕ) (r : PieceStop F) → halt ≡ Some (h, r) → IsStop o n (the_stop least r)
   some_stop h r is = the_stop_is o n least r (stops o n es vals least s.is_least s.once h r (halted (Some (h, r)) is))
 
-pub settled : {X F : Type 0} → (o : ℕ → Result X F) (n : ℕ) (claims : Shared) (pass : Held) (vals : List (ℕ × X)) (halt : Option (ℕ × PieceStop F)) (least : ℕ) → IsOf claims pass → claims.pieces ≡ n
+pub settled : {X F : Type 0} → (o : ℕ → Result X F → Type 0) (n : ℕ) (claims : Shared) (pass : Held) (vals : List (ℕ × X)) (halt : Option (ℕ × PieceStop F)) (least : ℕ) → IsOf claims pass → claims.pieces ≡ n
     → IsWork o pass.known.pieces pass.known.events vals halt → IsLeast claims.pieces pass.known.events least → ((i : ℕ) → i < claims.pieces → i ≤ least → times i (given claims.pieces pass.known.events) ≡ 1)
     → Settles o n pass.known.events vals halt least
 settled o n claims pass vals halt least whose is work is_least once = record {

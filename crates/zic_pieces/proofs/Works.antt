@@ -40,7 +40,7 @@ at_either [] ys a h = inr h
 at_either (x ∷ xs) ys a (zero, is) = inl (0, is)
 at_either (x ∷ xs) ys a (suc k, is) = ⊎_elim (λ r. inl (suc r.0, r.1)) inr (at_either xs ys a (k, is))
 
-module _ {X F : Type 0} (o : ℕ → Result X F) (n : ℕ) where
+module _ {X F : Type 0} (o : ℕ → Result X F → Type 0) (n : ℕ) where
   abbrev Halt : Type 0
   Halt = Option (ℕ × PieceStop F)
 
@@ -113,10 +113,10 @@ module _ {X F : Type 0} (o : ℕ → Result X F) (n : ℕ) where
   one_value i j x y (suc k, is) = absurd (some-ne-none (j, y) (sym is))
 
   -- a claim that gives a piece, whose value is kept
-  pub work_keep : (i s g b : ℕ) (x : X) → i < n → i ≤ g → o i ≡ Ok x → IsWork o n (Drew i s ∷ Glanced g b ∷ []) ((i, x) ∷ []) None
+  pub work_keep : (i s g b : ℕ) (x : X) → i < n → i ≤ g → o i (Ok x) → IsWork o n (Drew i s ∷ Glanced g b ∷ []) ((i, x) ∷ []) None
   work_keep i s g b x low le is = record {
     whole = whole_claim n i s g b [] refl;
-    own = λ j y m. subst (λ (p : ℕ × X). (o p.0 ≡ Ok p.1) × (p.0 < n)) (one_value i j x y m) (is, low);
+    own = λ j y m. subst (λ (p : ℕ × X). o p.0 (Ok p.1) × (p.0 < n)) (one_value i j x y m) (is, low);
     done = λ j more. inl (x, (0, ap (λ k. some (k, x)) (the_given i s g b j low le more)));
     halts = λ j m. no_report_two j i s g b m;
   }
@@ -142,7 +142,7 @@ module _ {X F : Type 0} (o : ℕ → Result X F) (n : ℕ) where
 claim_events : (es : List Event) (i s g b : ℕ) → (es ++ Drew i s ∷ []) ++ Glanced g b ∷ [] ≡ es ++ Drew i s ∷ Glanced g b ∷ []
 claim_events es i s g b = append_assoc es (Drew i s ∷ []) (Glanced g b ∷ [])
 
-module _ {X F : Type 0} (o : ℕ → Result X F) (v : Known) (vals : List (ℕ × X)) (halt : Option (ℕ × PieceStop F)) (so_far : IsWork o v.pieces v.events vals halt) where
+module _ {X F : Type 0} (o : ℕ → Result X F → Type 0) (v : Known) (vals : List (ℕ × X)) (halt : Option (ℕ × PieceStop F)) (so_far : IsWork o v.pieces v.events vals halt) where
   pub step_end : (w : Known) → Answers v End w → IsWork o w.pieces w.events vals halt
   step_end w answer = ⊎_elim
       (λ (same : (v.ended ≡ true) × (w ≡ v)). subst (λ (u : Known). IsWork o u.pieces u.events vals halt) (sym same.1) so_far)
@@ -193,6 +193,6 @@ nearer i g v w draws sound =
 pub report_past : (i : ℕ) (w u : Known) → u ≡ reported i w → u.pieces + 1025 - past u.events ≡ w.pieces + 1025 - past w.events
 report_past i w u is = ap (λ (k : Known). k.pieces + 1025 - past k.events) is ∙ (let a = past_append w.events (Reported i ∷ []) in omega arith)
 
-pub work_as : {X F : Type 0} (o : ℕ → Result X F) (n m : ℕ) (es ds : List Event) (a b : List (ℕ × X)) (h k : Option (ℕ × PieceStop F)) → IsWork o n es a h → m ≡ n → ds ≡ es → b ≡ a → k ≡ h → IsWork o m ds b k
+pub work_as : {X F : Type 0} (o : ℕ → Result X F → Type 0) (n m : ℕ) (es ds : List Event) (a b : List (ℕ × X)) (h k : Option (ℕ × PieceStop F)) → IsWork o n es a h → m ≡ n → ds ≡ es → b ≡ a → k ≡ h → IsWork o m ds b k
 work_as {X} {F} o n m es ds a b h k w p q r s =
     subst (λ (z : ℕ × List Event × List (ℕ × X) × Option (ℕ × PieceStop F)). IsWork o z.0 z.1 z.2 z.3) (λ i. (sym p i, sym q i, sym r i, sym s i)) w

@@ -60,7 +60,7 @@ fn run_workers<R: Threads + Sync, T: Task + Sync, G: Gate + Sync>(
     let Some(last) = others.pop() else {
         unreachable!()
     };
-    merge_all(claims, last, others)
+    merge_all::<T>(claims, last, others)
 }
 
 /// How the task ends where `piece` is the least that stopped.

@@ -14,7 +14,8 @@ pub enum PieceStop<F> {
     Memory,
 }
 
-/// A task of pieces 0, 1, 2, .. Each piece of a given task has one value, or one fault.
+/// A task of pieces 0, 1, 2, .., each of which comes to a value or a fault. Where more than one would be right, the task's relation
+/// tells them all.
 pub trait Task {
     type Out: Send + Drop;
 
@@ -25,8 +26,8 @@ pub trait Task {
     // How many pieces there are.
     ghost count: { Self → ℕ };
 
-    // What each piece comes to.
-    ghost outcome: { Self → ℕ → Result Self.Out Self.Fault };
+    // What each piece may come to: a value, or a fault.
+    ghost outcome: { Self → ℕ → Result Self.Out Self.Fault → Type 0 };
 
     /// How many pieces there are.
     fn pieces(&self) -> u64

@@ -160,11 +160,11 @@ impl Task for Squares {
 
     type Fault = u64;
 
-    ghost use Rattle.std.specs.Prelude.{◌==◌, ◌||◌, ◌*◌, ◌%◌, ◌^◌, Ok, Err, if◌then◌else◌};
+    ghost use Rattle.std.specs.Prelude.{◌≡◌, ◌==◌, ◌||◌, ◌*◌, ◌%◌, ◌^◌, Ok, Err, if◌then◌else◌};
 
     ghost count = { λ s. s.pieces };
 
-    ghost outcome = { λ s i. if (i == s.faults.0) || (i == s.faults.1) then Err i else Ok ((i * i) % 2 ^ 64) };
+    ghost outcome = { λ s i r. r ≡ (if (i == s.faults.0) || (i == s.faults.1) then Err i else Ok ((i * i) % 2 ^ 64)) };
 
     fn pieces(&self) -> u64 {
         self.pieces
@@ -377,11 +377,11 @@ impl Task for Meet {
 
     type Fault = ();
 
-    ghost use Rattle.std.specs.Prelude.{Ok};
+    ghost use Rattle.std.specs.Prelude.{◌≡◌, Ok};
 
     ghost count = { λ _. 2 };
 
-    ghost outcome = { λ _ i. Ok i };
+    ghost outcome = { λ _ i r. r ≡ Ok i };
 
     fn pieces(&self) -> u64 {
         2

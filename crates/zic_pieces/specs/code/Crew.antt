@@ -28,9 +28,9 @@ module _ {X F : Type 0} where
   abbrev pub HasEnded : Shared → Worked X F → Type 0
   HasEnded claims w = IsOf claims w.pass × (w.pass.known.ended ≡ true)
 
-  abbrev pub HasWorked : (ℕ → Result X F) → Worked X F → Type 0
+  abbrev pub HasWorked : (ℕ → Result X F → Type 0) → Worked X F → Type 0
   HasWorked outcome w = IsWork outcome w.pass.known.pieces w.pass.known.events w.values.items w.halt
 
   -- the worker ended, did its work, and its pass stands for so many
-  abbrev pub DidWork : (ℕ → Result X F) → Shared → ℕ → Worked X F → Type 0
+  abbrev pub DidWork : (ℕ → Result X F → Type 0) → Shared → ℕ → Worked X F → Type 0
   DidWork outcome claims parts w = HasEnded claims w × (w.pass.known.parts ≡ parts) × HasWorked outcome w

@@ -21,17 +21,17 @@ IsKeptAt values i x = (k : ℕ) × (get_elem? values k ≡ some (i, x))
 
 module _ {X F : Type 0} where
   -- the piece's value was added, with its number
-  abbrev pub Keeps : Result X F → ℕ → List (ℕ × X) → List (ℕ × X) → Type 0
-  Keeps outcome i old new = (x : X) × (outcome ≡ Ok x) × (new ≡ old ++ (i, x) ∷ [])
+  abbrev pub Keeps : (Result X F → Type 0) → ℕ → List (ℕ × X) → List (ℕ × X) → Type 0
+  Keeps outcome i old new = (x : X) × outcome (Ok x) × (new ≡ old ++ (i, x) ∷ [])
 
   -- the least number reported is that of the halt, if there is one, and its reason is the piece's own
-  abbrev pub IsHalt : (ℕ → Result X F) → ℕ → List Event → Option (ℕ × PieceStop F) → Type 0
+  abbrev pub IsHalt : (ℕ → Result X F → Type 0) → ℕ → List Event → Option (ℕ × PieceStop F) → Type 0
   IsHalt outcome n events None = (i : ℕ) → ¬ Has events (Reported i)
   IsHalt outcome n events (Some h) = (h.0 < n) × Has events (Reported h.0) × ((i : ℕ) → Has events (Reported i) → h.0 ≤ i) × IsReason (outcome h.0) h.1
 
   -- over these events, each number that was given has its value kept, or was reported
-  pub record IsWork (outcome : ℕ → Result X F) (n : ℕ) (events : List Event) (values : List (ℕ × X)) (halt : Option (ℕ × PieceStop F)) : Type 0 where
+  pub record IsWork (outcome : ℕ → Result X F → Type 0) (n : ℕ) (events : List Event) (values : List (ℕ × X)) (halt : Option (ℕ × PieceStop F)) : Type 0 where
     pub whole : is_whole n events ≡ true
-    pub own : (i : ℕ) (x : X) → IsKeptAt values i x → (outcome i ≡ Ok x) × (i < n)
+    pub own : (i : ℕ) (x : X) → IsKeptAt values i x → outcome i (Ok x) × (i < n)
     pub done : (i : ℕ) → 0 < times i (given n events) → ((x : X) × IsKeptAt values i x) ⊎ Has events (Reported i)
     pub halts : IsHalt outcome n events halt
