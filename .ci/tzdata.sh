@@ -1,35 +1,15 @@
 #!/usr/bin/env bash
 # Reads the system's own release of the tz database, sees that it is accepted, and compares the numbers of its Rule,
 # Zone, continuation and Link lines with those that awk counts. Then compares the changes of every zone, up to its explicit
-# end, with the files that the system's zic makes of that release. Debian's packages tzdata and libc-bin, which has zic, are
-# installed where they are missing; `python3` is 3.9 or later.
+# end, with the files that the system's zic makes of that release. `python3` is 3.9 or later.
 set -euo pipefail
 cd "$(dirname "${BASH_SOURCE[0]}")/.."
-PATH=$PATH:/usr/sbin
-release=/usr/share/zoneinfo/tzdata.zi
-work=$(mktemp -d)
-trap 'rm -rf "$work"' EXIT
-
-install() {
-    apt-get update -qq >&2
-    DEBIAN_FRONTEND=noninteractive apt-get install -y -qq "$1" >&2
-}
-
-# builds a program, by its run on its own input
-build() {
-    if ! (cd "crates/$1" && rt run) <"crates/$1/stdin" >"$work/log" 2>&1; then
-        cat "$work/log" >&2
-        exit 1
-    fi
-}
+. .ci/release.sh
 
 fail() {
     echo "tzdata.zi: got '$1', and not '$2'" >&2
     exit 1
 }
-
-[ -f "$release" ] || install tzdata
-command -v zic >"$work/log" || install libc-bin
 
 build source_counts
 got=$(crates/source_counts/out/source_counts <"$release")

@@ -11,6 +11,7 @@ up to 2110. Prints the numbers of zones and instants, and each difference; the s
 import os
 import random
 import sys
+from functools import lru_cache
 
 import definitions as d
 
@@ -136,6 +137,7 @@ def day_in(year, day):
     return d.form_day(year, month, ("last", weekday) if week == 5 else ("after", weekday, week_start(week)))
 
 
+@lru_cache(maxsize=None)
 def edge_in(year, edge, offset):
     return 86400 * day_in(year, edge[0]) + edge[1] - offset
 
@@ -193,4 +195,5 @@ def main():
     sys.exit(1 if differences else 0)
 
 
-main()
+if __name__ == "__main__":
+    main()

@@ -1,273 +1,207 @@
 //! What footers mean. The rows are what glibc 2.36 shows under such a TZ; those at ties, before 1970, past the year 9999, and of
 //! edges in a neighbouring year, which glibc doesn't look at, are reckoned by hand.
 
-ghost use Rattle.std.specs.Prelude.{◌≡◌, ◌≤◌, unsigned_abs, IfOk};
-ghost use Rattle.std.specs.Int.{IsInRange};
-ghost use Rattle.zic_posix.specs.Grammar.{IsName, IsOffset, IsEdge};
-
 use crate::*;
-use std::alloc::Global;
+use std::process::Abort;
 use std::test::Fail;
-use zic_base::{State, are_abbreviation_bytes};
+use zic_base::State;
 
-/// A name, which has to be one.
-fn name(alloc: Global, octets: &[u8]) -> Result<Abbr, Fail>
-    ensures { IfOk result (λ name. IsName name) }
-{
-    if octets.len() < SHORTEST_NAME || !are_abbreviation_bytes(octets) {
-        return Err(Fail::from("no name"));
-    }
-    Ok(Abbr::new(alloc, octets)?)
-}
-
-/// A footer whose standard and daylight saving time show these states, between these edges.
-fn footer(
-    alloc: Global,
-    standard: State<'_>,
-    daylight: State<'_>,
-    start: Edge,
-    stop: Edge,
-) -> Result<Footer, Fail>
-    requires standard { IsOffset standard.offset }
-    requires daylight { IsOffset daylight.offset }
-    requires start { IsEdge start }
-    requires stop { IsEdge stop }
-{
-    let dst = Dst {
-        name: name(alloc, daylight.name)?,
-        offset: daylight.offset,
-        start,
-        stop,
-    };
-    Ok(Footer::new(name(alloc, standard.name)?, standard.offset, Some(dst)))
-}
-
-fn standard(name: &[u8], offset: i32) -> State<'_>
-    ensures { result.offset ≡ offset }
-{
-    State {
-        offset,
-        daylight: false,
-        name,
-    }
-}
-
-fn daylight(name: &[u8], offset: i32) -> State<'_>
-    ensures { result.offset ≡ offset }
-{
-    State {
-        offset,
-        daylight: true,
-        name,
-    }
-}
-
-/// An edge on a weekday of a week of a month, so many hours after midnight.
-fn on_weekday(month: u8, week: u8, weekday: u8, hours: i32) -> Edge
-    requires month { IsInRange 1 12 month }
-    requires week { IsInRange 1 5 week }
-    requires weekday { weekday ≤ 6 }
-    requires hours { unsigned_abs hours ≤ 167 }
-    ensures { IsEdge result }
-{
-    Edge {
-        day: DayRule::M {
-            month,
-            week,
-            weekday,
-        },
-        time: hours * HOUR,
-    }
-}
-
-/// An edge on a day counted from 1 without February 29.
-fn on_julian(number: u16, hours: i32) -> Edge
-    requires number { IsInRange 1 365 number }
-    requires hours { unsigned_abs hours ≤ 167 }
-    ensures { IsEdge result }
-{
-    Edge {
-        day: DayRule::J(number),
-        time: hours * HOUR,
-    }
-}
-
-/// An edge on a day counted from 0.
-fn on_day(number: u16, hours: i32) -> Edge
-    requires number { number ≤ 365 }
-    requires hours { unsigned_abs hours ≤ 167 }
-    ensures { IsEdge result }
-{
-    Edge {
-        day: DayRule::N(number),
-        time: hours * HOUR,
-    }
-}
+/// What a footer shows at an instant.
+type Row = (i64, State<'static>);
 
 const HOUR: i32 = 3600;
 
-#[test]
-fn north(rt: HostRuntime) -> Result<(), Fail> {
-    let (est, edt) = (standard(b"EST", -5 * HOUR), daylight(b"EDT", -4 * HOUR));
-    let start = on_weekday(3, 2, 0, 2);
-    let stop = on_weekday(11, 1, 0, 2);
-    let footer = footer(rt.alloc(), est, edt, start, stop)?;
-    for (t, state) in [
-        (1_173_596_399, est),
-        (1_173_596_400, edt),
-        (1_194_155_999, edt),
-        (1_194_156_000, est),
-        (4_102_444_800, est),
-        (253_402_214_399, est),
-        // The years 2407 and 1607, and both ends, in December and in January.
-        (13_796_377_199, est),
-        (13_796_377_200, edt),
-        (-11_449_184_401, est),
-        (-11_449_184_400, edt),
-        (i64::MAX, est),
-        (i64::MIN, est),
-    ] {
-        assert_eq!(rt; footer.state(t), state, "at {t}");
+const AAA: State<'static> = State {
+    offset: 0,
+    daylight: false,
+    name: b"AAA",
+};
+
+const BBB: State<'static> = State {
+    offset: HOUR,
+    daylight: true,
+    name: b"BBB",
+};
+
+const EST: State<'static> = State {
+    offset: -5 * HOUR,
+    daylight: false,
+    name: b"EST",
+};
+
+const EDT: State<'static> = State {
+    offset: -4 * HOUR,
+    daylight: true,
+    name: b"EDT",
+};
+
+/// Checks what the footer of a text shows at instants.
+fn check(rt: &(impl Abort + AllocGlobal), text: &str, rows: &[Row]) -> Result<(), Fail> {
+    let footer = parse(rt.alloc(), text.as_bytes(), 3)?;
+    for (t, state) in rows {
+        assert!(rt; footer.state(*t) == *state, "{text} at {t}");
     }
     Ok(())
 }
 
-// Rows of New Zealand, of Chile (whose clocks change at 24:00 of Saturday) and of Ireland, whose winter is the exception.
 #[test]
-fn south_and_negative_saving(rt: HostRuntime) -> Result<(), Fail> {
-    let (nzst, nzdt) = (standard(b"NZST", 12 * HOUR), daylight(b"NZDT", 13 * HOUR));
-    let new_zealand = footer(
-        rt.alloc(),
-        nzst,
-        nzdt,
-        on_weekday(9, 5, 0, 2),
-        on_weekday(4, 1, 0, 3),
-    )?;
-    for (t, state) in [
-        (1_712_411_999, nzdt),
-        (1_712_412_000, nzst),
-        (1_727_531_999, nzst),
-        (1_727_532_000, nzdt),
-    ] {
-        assert_eq!(rt; new_zealand.state(t), state, "at {t}");
-    }
-    let (winter, summer) = (standard(b"-04", -4 * HOUR), daylight(b"-03", -3 * HOUR));
-    let chile = footer(
-        rt.alloc(),
-        winter,
-        summer,
-        on_weekday(9, 1, 6, 24),
-        on_weekday(4, 1, 6, 24),
-    )?;
-    for (t, state) in [
-        (1_712_458_799, summer),
-        (1_712_458_800, winter),
-        (1_725_767_999, winter),
-        (1_725_768_000, summer),
-        (i64::MAX, summer),
-    ] {
-        assert_eq!(rt; chile.state(t), state, "at {t}");
-    }
-    let (ist, gmt) = (standard(b"IST", HOUR), daylight(b"GMT", 0));
-    let ireland = footer(
-        rt.alloc(),
-        ist,
-        gmt,
-        on_weekday(10, 5, 0, 2),
-        on_weekday(3, 5, 0, 1),
-    )?;
-    for (t, state) in [
-        (978_307_200, gmt),
-        (1_711_846_799, gmt),
-        (1_711_846_800, ist),
-        (1_729_990_799, ist),
-        (1_729_990_800, gmt),
-        (i64::MAX, gmt),
-        (i64::MIN, gmt),
-    ] {
-        assert_eq!(rt; ireland.state(t), state, "at {t}");
-    }
-    Ok(())
+fn north(rt: HostRuntime) -> Result<(), Fail> {
+    static ROWS: [Row; 12] = [
+        (1_173_596_399, EST),
+        (1_173_596_400, EDT),
+        (1_194_155_999, EDT),
+        (1_194_156_000, EST),
+        (4_102_444_800, EST),
+        (253_402_214_399, EST),
+        // The years 2407 and 1607, and both ends, in December and in January.
+        (13_796_377_199, EST),
+        (13_796_377_200, EDT),
+        (-11_449_184_401, EST),
+        (-11_449_184_400, EDT),
+        (i64::MAX, EST),
+        (i64::MIN, EST),
+    ];
+    check(&rt, "EST5EDT,M3.2.0,M11.1.0", &ROWS)
+}
+
+#[test]
+fn new_zealand(rt: HostRuntime) -> Result<(), Fail> {
+    const NZST: State<'static> = State {
+        offset: 12 * HOUR,
+        daylight: false,
+        name: b"NZST",
+    };
+    const NZDT: State<'static> = State {
+        offset: 13 * HOUR,
+        daylight: true,
+        name: b"NZDT",
+    };
+    static ROWS: [Row; 4] = [
+        (1_712_411_999, NZDT),
+        (1_712_412_000, NZST),
+        (1_727_531_999, NZST),
+        (1_727_532_000, NZDT),
+    ];
+    check(&rt, "NZST-12NZDT,M9.5.0,M4.1.0/3", &ROWS)
+}
+
+// Clocks change at 24:00 of Saturday.
+#[test]
+fn chile(rt: HostRuntime) -> Result<(), Fail> {
+    const WINTER: State<'static> = State {
+        offset: -4 * HOUR,
+        daylight: false,
+        name: b"-04",
+    };
+    const SUMMER: State<'static> = State {
+        offset: -3 * HOUR,
+        daylight: true,
+        name: b"-03",
+    };
+    static ROWS: [Row; 5] = [
+        (1_712_458_799, SUMMER),
+        (1_712_458_800, WINTER),
+        (1_725_767_999, WINTER),
+        (1_725_768_000, SUMMER),
+        (i64::MAX, SUMMER),
+    ];
+    check(&rt, "<-04>4<-03>,M9.1.6/24,M4.1.6/24", &ROWS)
+}
+
+// Winter is the exception.
+#[test]
+fn ireland(rt: HostRuntime) -> Result<(), Fail> {
+    const IST: State<'static> = State {
+        offset: HOUR,
+        daylight: false,
+        name: b"IST",
+    };
+    const GMT: State<'static> = State {
+        offset: 0,
+        daylight: true,
+        name: b"GMT",
+    };
+    static ROWS: [Row; 7] = [
+        (978_307_200, GMT),
+        (1_711_846_799, GMT),
+        (1_711_846_800, IST),
+        (1_729_990_799, IST),
+        (1_729_990_800, GMT),
+        (i64::MAX, GMT),
+        (i64::MIN, GMT),
+    ];
+    check(&rt, "IST-1GMT0,M10.5.0,M3.5.0/1", &ROWS)
 }
 
 // 1999 is a common year, 2000 a leap year.
 #[test]
 fn numbered_days(rt: HostRuntime) -> Result<(), Fail> {
-    let (aaa, bbb) = (standard(b"AAA", 0), daylight(b"BBB", HOUR));
-    let j60 = footer(rt.alloc(), aaa, bbb, on_julian(60, 2), on_julian(300, 2))?;
-    for (t, state) in [
-        (920_253_599, aaa),
-        (920_253_600, bbb),
-        (951_875_999, aaa),
-        (951_876_000, bbb),
-    ] {
-        assert_eq!(rt; j60.state(t), state, "J60 at {t}");
-    }
-    let n59 = footer(rt.alloc(), aaa, bbb, on_day(59, 2), on_julian(300, 2))?;
-    for (t, state) in [
-        (920_253_599, aaa),
-        (920_253_600, bbb),
-        (951_789_599, aaa),
-        (951_789_600, bbb),
-    ] {
-        assert_eq!(rt; n59.state(t), state, "59 at {t}");
-    }
+    static J60: [Row; 4] = [
+        (920_253_599, AAA),
+        (920_253_600, BBB),
+        (951_875_999, AAA),
+        (951_876_000, BBB),
+    ];
+    check(&rt, "AAA0BBB,J60,J300", &J60)?;
+    static N59: [Row; 4] = [
+        (920_253_599, AAA),
+        (920_253_600, BBB),
+        (951_789_599, AAA),
+        (951_789_600, BBB),
+    ];
+    check(&rt, "AAA0BBB,59,J300", &N59)?;
     // Day 365 is December 31 in 2024, and in 2023 the January 1 after it.
-    let n365 = footer(rt.alloc(), aaa, bbb, on_julian(300, 2), on_day(365, 3))?;
-    for (t, state) in [
-        (1_704_074_399, bbb),
-        (1_704_074_400, aaa),
-        (1_735_610_399, bbb),
-        (1_735_610_400, aaa),
-    ] {
-        assert_eq!(rt; n365.state(t), state, "365 at {t}");
-    }
-    Ok(())
+    static N365: [Row; 4] = [
+        (1_704_074_399, BBB),
+        (1_704_074_400, AAA),
+        (1_735_610_399, BBB),
+        (1_735_610_400, AAA),
+    ];
+    check(&rt, "AAA0BBB,J300,365/3", &N365)
 }
 
 #[test]
 fn edges_in_a_neighbouring_year(rt: HostRuntime) -> Result<(), Fail> {
-    let (aaa, bbb) = (standard(b"AAA", 0), daylight(b"BBB", HOUR));
     // It starts on January 6 at 23:00, and stops on January 5 at 22:00, in UT: on January 3 of 2024 both edges of 2023 are
     // still to come.
-    let late = footer(
-        rt.alloc(),
-        aaa,
-        bbb,
-        on_julian(365, 167),
-        on_julian(364, 167),
-    )?;
-    for (t, state) in [
-        (1_704_240_000, bbb),
-        (1_704_491_999, bbb),
-        (1_704_492_000, aaa),
-        (1_704_581_999, aaa),
-        (1_704_582_000, bbb),
-    ] {
-        assert_eq!(rt; late.state(t), state, "at {t}");
-    }
+    static LATE: [Row; 5] = [
+        (1_704_240_000, BBB),
+        (1_704_491_999, BBB),
+        (1_704_492_000, AAA),
+        (1_704_581_999, AAA),
+        (1_704_582_000, BBB),
+    ];
+    check(&rt, "AAA0BBB,J365/167,J364/167", &LATE)?;
     // It starts on December 25 at 01:00 of the year before.
-    let early = footer(rt.alloc(), aaa, bbb, on_day(0, -167), on_julian(100, 2))?;
-    for (t, state) in [
-        (1_703_465_999, aaa),
-        (1_703_466_000, bbb),
-        (1_712_710_799, bbb),
-        (1_712_710_800, aaa),
-    ] {
-        assert_eq!(rt; early.state(t), state, "at {t}");
-    }
-    Ok(())
+    static EARLY: [Row; 4] = [
+        (1_703_465_999, AAA),
+        (1_703_466_000, BBB),
+        (1_712_710_799, BBB),
+        (1_712_710_800, AAA),
+    ];
+    check(&rt, "AAA0BBB,0/-167,J100", &EARLY)
+}
+
+// Where a start and an end fall on one instant the start wins, so daylight saving time never ends.
+#[test]
+fn ties(rt: HostRuntime) -> Result<(), Fail> {
+    static MARCH: [Row; 2] = [(951_875_999, BBB), (951_876_000, BBB)];
+    check(&rt, "AAA0BBB,J60,J60/3", &MARCH)?;
+    static JANUARY: [Row; 4] = [(-1, BBB), (0, BBB), (i64::MAX, BBB), (i64::MIN, BBB)];
+    check(&rt, "AAA0BBB,J1/0,J1/1", &JANUARY)?;
+    // Each end falls on the start of the next year.
+    static NEW_YEAR: [Row; 5] = [
+        (17_999, EDT),
+        (18_000, EDT),
+        (1_173_596_399, EDT),
+        (i64::MAX, EDT),
+        (i64::MIN, EDT),
+    ];
+    check(&rt, "EST5EDT,0/0,J365/25", &NEW_YEAR)
 }
 
 #[test]
-fn ties_and_constants(rt: HostRuntime) -> Result<(), Fail> {
-    let (aaa, bbb) = (standard(b"AAA", 0), daylight(b"BBB", HOUR));
-    // Both edges of each year fall on one instant, where the start wins, so daylight saving time never ends.
-    let tie = footer(rt.alloc(), aaa, bbb, on_julian(60, 2), on_julian(60, 3))?;
-    assert_eq!(rt; tie.state(951_876_000), bbb);
-    assert_eq!(rt; tie.state(951_875_999), bbb);
-    let constant = Footer::new(name(rt.alloc(), b"AAA")?, 0, None);
-    assert_eq!(rt; constant.state(i64::MIN), aaa);
-    assert_eq!(rt; constant.state(i64::MAX), aaa);
-    Ok(())
+fn constant(rt: HostRuntime) -> Result<(), Fail> {
+    static ROWS: [Row; 3] = [(i64::MIN, AAA), (0, AAA), (i64::MAX, AAA)];
+    check(&rt, "AAA0", &ROWS)
 }

@@ -1,9 +1,8 @@
-use Rattle.std.proofs.Common.{◌≡◌, ℕ, ℤ, pos, negsuc, ◌+ℤ◌, ◌≤ℤ◌, refl, to_z, of_z, w64, arith}
+use Rattle.std.proofs.Common.{◌≡◌, ℕ, ℤ, pos, negsuc, ◌+ℤ◌, refl, to_z, of_z, w64, arith}
 use Rattle.std.specs.Int.RustNames.{int_div}
 use Rattle.std.proofs.lemmas.Int.{ints}
 use Rattle.zic_calendar.specs.Calendar.{day_number, IsDate, IsSupportedYear}
-use Rattle.zic_posix.specs.Laws.{IsInYear}
-use Rattle.zic_posix.specs.code.State.{IsInCycle, IsLatestYear, IsYearOfCycle}
+use Rattle.zic_posix.specs.code.State.{IsInCycle, IsLatestYear}
 use Rattle.zic_posix.proofs.Lasts.{IsOnDay, date_in_year, second_in_year, year_of_cycle}
 use Rattle.zic_posix.proofs.state.latest_year.Goals as goal
 
