@@ -1,13 +1,2 @@
-pub mod Footer
-pub mod Grammar
-pub mod Making
-pub mod Meaning
-pub mod Parsing
-pub mod Printing
 pub mod code
-pub use Rattle.zic_base.specs.State
-pub use Rattle.zic_states.specs.Change
-pub use Rattle.zic_states.specs.End
-pub use Rattle.zic_states.specs.Zone
-pub use Rattle.zic_rules.specs.Tail
-pub use Rattle.zic_source.specs.Source
+pub mod Making

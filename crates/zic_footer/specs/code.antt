@@ -1,3 +1,2 @@
--- What only the proofs of this crate's code use. No public contract cites it.
-pub mod Reading
-pub mod Making
+-- Definitions that the proofs of this crate's code use, and no contract of another crate.
+pub mod Turns

@@ -1,17 +1,12 @@
-//! The footer of a TZif file: a POSIX TZ string, which says what a zone shows for ever.
+//! The footer of a TZif file: a POSIX TZ string that says what a zone shows for ever.
 #![tactic(auto)]
 
-mod footer;
-mod laws;
+mod edges;
 mod making;
-mod parsing;
-mod printing;
+mod turns;
 
-pub use footer::{Abbr, DayRule, Dst, Edge, Footer};
-pub use laws::{some_text_spells, spells_at_most_one, spells_within_limits};
 pub use making::make;
-pub use parsing::{ParseStop, parse};
-pub use printing::print;
+pub use zic_posix::{Abbr, DayRule, Dst, Edge, Footer, ParseStop, parse, print};
 
 #[cfg(test)]
 mod tests;

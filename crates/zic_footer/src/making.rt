@@ -1,45 +1,144 @@
 //! The footer that goes on for a zone.
 
-ghost use Rattle.std.specs.Prelude.{◌≡◌, IfOk};
-ghost use Rattle.zic_base.specs.Fault.{fault_of};
+ghost use Rattle.std.specs.Prelude.{◌≡◌, ◌↔◌, false, true, IsOk, IfOk, IsTrue};
+ghost use Rattle.zic_base.specs.Fault.{fault_at, fault_of};
 ghost use Rattle.zic_base.specs.Memory.{IfRefusal, OnWantOfMemory};
-ghost use Rattle.zic_footer.specs.Making.{IsMade, GoesOn, IsFaultOfFooter};
-ghost use Rattle.zic_footer.specs.code.Making.{Makes, IsRefused, HasLimits};
+ghost use Rattle.zic_base.specs.State.{shown};
+ghost use Rattle.zic_posix.specs.Footer as footer;
+ghost use Rattle.zic_posix.specs.Grammar.{IsName};
+ghost use Rattle.zic_rules.specs.Laws.{IsWithinLimits};
+ghost use Rattle.zic_footer.specs.Making as making;
+ghost use Rattle.zic_footer.specs.Making.{IsMade, GoesOn, IsFaultOfFooter, IsWide};
+ghost use Rattle.zic_footer.specs.code.Turns.{AreSoundTails, IsSoundPair, IsPairOf, HasWideEdges, IsMadeOf, NoneTakeTurns};
 
-use crate::footer::{Abbr, Footer};
-use std::alloc::Global;
-use zic_base::{Kind, Place, Stop};
-use zic_rules::{Tail, Timeline};
+use crate::edges::edge_of;
+use crate::turns::follow_in_turn;
+use std::alloc::{AllocError, Global};
+use zic_base::{Kind, Place, State, Stop};
+use zic_posix::{Abbr, Dst, Edge, Footer, MOST_WIDE_HOURS};
+use zic_rules::{Tail, TailRule, Timeline};
 
-/// The footer of a zone, whose Zone line stands at `zone_place`: what the zone shows for ever.
+/// The footer of a zone: the POSIX TZ string of what the zone shows from its last change on, for ever, or at every instant
+/// where it has no change (RFC 9636, 3.3). Its times are within 167:59:59 either way, as far as version 3 of TZif goes.
 ///
-/// `PermanentDaylight` where the zone stays on daylight saving time, and for now, until footers have a daylight part,
-/// `NoFooter` where two or more rules go on for ever. No growth is refused, since a zone's abbreviation is kept inline.
+/// A refusal is a fault at `zone_place`, the place of the zone's Zone line (the faults are own choice): `PermanentDaylight`
+/// where fewer than two rules of the last line's set go on for ever and the zone stays on daylight saving time; `NoFooter` where
+/// two or more rules go on for ever, but not just two, one of each flag, that follow each other in turn in all years to come,
+/// or where the time of an edge would pass 167:59:59 either way. `Stop::Memory` never comes, since abbreviations are kept
+/// inline.
 pub fn make(alloc: Global, zone_place: Place, t: &Timeline<'_>) -> Result<Footer, Stop>
     ensures made { IfOk result (IsMade t.now) }
     ensures goes_on { IfOk result (GoesOn t.now) }
     ensures err { IfRefusal fault_of result (IsFaultOfFooter t.now zone_place) }
     ensures memory { OnWantOfMemory fault_of result ⊥ }
 {
-    // `end` also tells that the zone is whole.
-    prove!(t.end() <= i64::MAX);
-    make_from(alloc, zone_place, t.tail())
+    match t.tail() {
+        Tail::Constant(state) => by_state(alloc, zone_place, state),
+        Tail::Rules {
+            standard,
+            rules,
+            ..
+        } => by_rules(alloc, zone_place, standard, rules),
+    }
 }
 
-fn make_from(alloc: Global, zone_place: Place, tail: Tail<'_>) -> Result<Footer, Stop>
-    requires { HasLimits tail }
-    ensures made { IfOk result (Makes tail.entry) }
+/// The footer of one state.
+fn by_state(alloc: Global, zone_place: Place, state: State<'_>) -> Result<Footer, Stop>
+    requires { IsWithinLimits (shown state) }
+    ensures made { IfOk result
+        (λ f. (state.entry.daylight ≡ false) × (f ≡ footer.constant state.entry.name.now state.entry.offset)) }
     ensures err { IfRefusal fault_of result
-        (λ fault. (fault.place ≡ zone_place) × IsRefused tail.entry fault.kind) }
+        (λ fault. (fault ≡ fault_at zone_place Kind.PermanentDaylight) × (state.entry.daylight ≡ true)) }
     ensures memory { OnWantOfMemory fault_of result ⊥ }
 {
-    let state = match tail {
-        Tail::Constant(state) => state,
-        Tail::Rules { .. } => return Err(Stop::at(zone_place, Kind::NoFooter)),
-    };
     if state.daylight {
         return Err(Stop::at(zone_place, Kind::PermanentDaylight));
     }
     let std = Abbr::new(alloc, state.name)?;
-    Ok(Footer::constant(std, state.offset))
+    Ok(Footer::new(std, state.offset, None))
+}
+
+/// The footer of rules that go on for ever.
+fn by_rules(
+    alloc: Global,
+    zone_place: Place,
+    standard: i32,
+    rules: &[TailRule],
+) -> Result<Footer, Stop>
+    requires { AreSoundTails standard rules.now }
+    ensures made { IfOk result (IsMadeOf standard rules.now) }
+    ensures err { IfRefusal fault_of result
+        (λ fault. (fault ≡ fault_at zone_place Kind.NoFooter) × NoneTakeTurns standard rules.now) }
+    ensures memory { OnWantOfMemory fault_of result ⊥ }
+{
+    match pair_of(rules) {
+        Some(pair) if follow_in_turn(&pair.starting.moment, &pair.ending.moment) => {
+            by_pair(alloc, zone_place, standard, &pair)
+        }
+        _ => Err(Stop::at(zone_place, Kind::NoFooter)),
+    }
+}
+
+/// The rule that starts daylight saving time and the one that ends it.
+#[derive(Clone, Copy)]
+struct Pair<'a> {
+    starting: &'a TailRule,
+    ending: &'a TailRule,
+}
+
+/// The rules of a tail, if there are just two, one of each flag.
+fn pair_of(rules: &[TailRule]) -> Option<Pair<'_>>
+    ensures { IsPairOf rules.now result }
+{
+    match rules {
+        [a, b] if a.saving.daylight && !b.saving.daylight => Some(Pair {
+            starting: a,
+            ending: b,
+        }),
+        [a, b] if b.saving.daylight && !a.saving.daylight => Some(Pair {
+            starting: b,
+            ending: a,
+        }),
+        _ => None,
+    }
+}
+
+/// The footer of two rules that follow each other in turn.
+fn by_pair(alloc: Global, zone_place: Place, standard: i32, pair: &Pair<'_>) -> Result<Footer, Stop>
+    requires { IsSoundPair standard pair.now }
+    ensures made { IfOk result (λ f. f ≡ making.by_rules standard pair.now.starting.now pair.now.ending.now) }
+    ensures wide { IfOk result (λ _. HasWideEdges standard pair.now) }
+    ensures err { IfRefusal fault_of result
+        (λ fault. (fault ≡ fault_at zone_place Kind.NoFooter) × (HasWideEdges standard pair.now → ⊥)) }
+    ensures memory { OnWantOfMemory fault_of result ⊥ }
+{
+    let dst = daylight_part(alloc, standard, pair)?;
+    if !is_wide(&dst.start) || !is_wide(&dst.stop) {
+        return Err(Stop::at(zone_place, Kind::NoFooter));
+    }
+    let std = Abbr::new(alloc, pair.ending.name.octets())?;
+    Ok(Footer::new(std, standard + pair.ending.saving.seconds, Some(dst)))
+}
+
+/// The daylight part by two rules.
+fn daylight_part(alloc: Global, standard: i32, pair: &Pair<'_>) -> Result<Dst, AllocError>
+    requires { IsSoundPair standard pair.now }
+    ensures ok { IfOk result (λ dst. dst ≡ making.daylight_part standard pair.now.starting.now pair.now.ending.now) }
+    ensures name { IfOk result (λ dst. IsName dst.name) }
+    ensures inline { IsOk result }
+{
+    let name = Abbr::new(alloc, pair.starting.name.octets())?;
+    Ok(Dst {
+        name,
+        offset: standard + pair.starting.saving.seconds,
+        start: edge_of(standard, pair.starting, pair.ending.saving.seconds),
+        stop: edge_of(standard, pair.ending, pair.starting.saving.seconds),
+    })
+}
+
+/// Whether the time of an edge is within 167:59:59 either way.
+fn is_wide(edge: &Edge) -> bool
+    ensures { IsTrue result ↔ IsWide edge.now }
+{
+    edge.time.unsigned_abs() < (u32::from(MOST_WIDE_HOURS) + 1) * 3600
 }

@@ -1,78 +1,201 @@
 //! Footers of worked examples.
 
-use super::*;
+use crate::*;
 use std::alloc::Global;
 use std::test::Fail;
+use zic_base::{Kind, Place, Stop};
+use zic_rules::timeline;
+use zic_source::{Source, read_source};
 
-/// The printed text of what a text spells.
-fn canonical(alloc: Global, text: &[u8]) -> Result<Vec<u8>, ParseStop> {
-    let footer = parse(alloc, text)?;
-    Ok(print(alloc, &footer)?)
+const UNITED_STATES: &[u8] =
+    b"Rule US 2007 max - Mar Sun>=8 2:00 1:00 D\nRule US 2007 max - Nov Sun>=1 2:00 0 S\n";
+
+const EIRE: &[u8] =
+    b"Rule Eire 1996 max - Mar lastSun 1:00u 0 -\nRule Eire 1996 max - Oct lastSun 1:00u -1:00 -\n";
+
+/// What a source text says.
+fn read(alloc: Global, parts: &[&[u8]]) -> Result<Source, Fail> {
+    let mut text = Vec::new(alloc);
+    for part in parts {
+        text.extend_from_slice(part)?;
+    }
+    let mut texts = Vec::new(alloc);
+    texts.push(text)?;
+    match read_source(alloc, &texts) {
+        Ok(source) => Ok(source),
+        Err(Stop::Fault(_)) => Err(Fail::from("a fault")),
+        Err(Stop::Memory) => Err(Fail::from("out of memory")),
+    }
+}
+
+/// What `make` answers for the only zone of a source.
+fn footer(alloc: Global, place: Place, parts: &[&[u8]]) -> Result<Result<Footer, Stop>, Fail> {
+    let source = read(alloc, parts)?;
+    if source.zones() != 1 {
+        return Err(Fail::from("zones"));
+    }
+    let Ok(found) = timeline(alloc, &source, 0) else {
+        return Err(Fail::from("timeline"));
+    };
+    Ok(make(alloc, place, &found))
+}
+
+/// The text of the footer.
+fn text(alloc: Global, rules: &[u8], zone: &[u8]) -> Result<Vec<u8>, Fail> {
+    match footer(alloc, Place { text: 1, line: 3 }, &[rules, zone])? {
+        Ok(footer) => Ok(print(alloc, &footer)?),
+        Err(_) => Err(Fail::from("no footer")),
+    }
 }
 
 #[test]
-fn parses_and_prints(rt: HostRuntime) -> Result<(), Fail> {
-    let rows = [
-        ("UTC0", "UTC0"),
-        ("<+0530>-5:30", "<+0530>-5:30"),
-        ("<-03>3", "<-03>3"),
-        ("CST6", "CST6"),
-        ("EST5", "EST5"),
-        ("AAA24:59:59", "AAA24:59:59"),
-        ("LMT-1:07:30", "LMT-1:07:30"),
-        ("EST+5", "EST5"),
-        ("EST05", "EST5"),
-        ("UTC00:00:00", "UTC0"),
-        ("LMT0:0:9", "LMT0:00:09"),
-        ("<EST>5", "EST5"),
-        ("UTC-0", "UTC0"),
-        ("<ABCDEFGHIJKLMNOPQRST>5", "ABCDEFGHIJKLMNOPQRST5"),
+fn one_state(rt: HostRuntime) -> Result<(), Fail> {
+    let menominee: &[u8] =
+        b"Rule US 1967 1973 - Apr lastSun 2:00 1:00 D\nRule US 1967 2006 - Oct lastSun 2:00 0 S\n";
+    let rows: [(&[u8], &[u8], &str); 6] = [
+        (b"", b"Zone Etc/UTC 0 - UTC\n", "UTC0"),
+        (b"", b"Zone Z/I 5:30 - %z\n", "<+0530>-5:30"),
+        (b"", b"Zone Z/A -3:00 - %z\n", "<-03>3"),
+        (
+            menominee,
+            b"Zone Z/M -5:00 - EST 1973 Apr 29 2:00\n -6:00 US C%sT\n",
+            "CST6",
+        ),
+        (
+            UNITED_STATES,
+            b"Zone Z/V -5:00 US E%sT 2007 Jul 1 0:00\n -5:00 - EST\n",
+            "EST5",
+        ),
+        (
+            UNITED_STATES,
+            b"Zone Z/U -5:00 US E%sT 2007 Mar 11 2:00\n -5:00 - EST\n",
+            "EST5",
+        ),
     ];
-    for (text, want) in rows {
-        let printed = canonical(rt.alloc(), text.as_bytes())?;
-        assert_eq!(rt; printed.as_slice(), want.as_bytes(), "{text}");
+    for (rules, zone, want) in rows {
+        let made = text(rt.alloc(), rules, zone)?;
+        assert_eq!(rt; made.as_slice(), want.as_bytes(), "{want}");
     }
     Ok(())
 }
 
 #[test]
-fn refuses_other_texts(rt: HostRuntime) {
-    let rows = [
-        "",
-        "ES5",
-        "<EST5",
-        "<ES>5",
-        "EST25",
-        "EST-25",
-        "EST5EDT",
-        "EST5EDT,M3.2.0,M11.1.0",
-        "EST5:60",
-        "EST5:30:60",
-        "EST5:",
-        "EST",
-        "EST5 ",
-        "EST5\n",
-        "EST+-5",
-        "<E_T>5",
-        "EST005",
-        "E1T5",
+fn two_rules(rt: HostRuntime) -> Result<(), Fail> {
+    let zion: &[u8] =
+        b"Rule Zion 2013 max - Mar Fri>=23 2:00 1:00 D\nRule Zion 2013 max - Oct lastSun 2:00 0 S\n";
+    let rule_a: &[u8] =
+        b"Rule A 2000 max - Mar Sun>=25 2:00 1:00 D\nRule A 2000 max - Oct lastSun 3:00 0 S\n";
+    let chile: &[u8] =
+        b"Rule Chile 2023 max - Apr Sun>=2 3:00u 0 -\nRule Chile 2023 max - Sep Sun>=2 4:00u 1:00 -\n";
+    let europe: &[u8] =
+        b"Rule EU 1996 max - Mar lastSun 1:00u 1:00 -\nRule EU 1996 max - Oct lastSun 1:00u 0 -\n";
+    let rows: [(&[u8], &[u8], &str); 7] = [
+        (
+            UNITED_STATES,
+            b"Zone Z/NY -5:00 US E%sT\n",
+            "EST5EDT,M3.2.0,M11.1.0",
+        ),
+        (
+            UNITED_STATES,
+            b"Zone Z/U -5:00 US E%sT 2007 Mar 11 2:00\n -5:00 US E%sT\n",
+            "EST5EDT,M3.2.0,M11.1.0",
+        ),
+        (
+            EIRE,
+            b"Zone Z/D 1:00 Eire IST/GMT\n",
+            "IST-1GMT0,M10.5.0,M3.5.0/1",
+        ),
+        (
+            zion,
+            b"Zone Z/J 2:00 Zion I%sT\n",
+            "IST-2IDT,M3.4.4/26,M10.5.0",
+        ),
+        (
+            rule_a,
+            b"Zone Z/C 1:00 A C%sT\n",
+            "CST-1CDT,M3.5.0,M10.5.0/3",
+        ),
+        (
+            chile,
+            b"Zone Z/S -4:00 Chile %z\n",
+            "<-04>4<-03>,M9.1.6/24,M4.1.6/24",
+        ),
+        (
+            europe,
+            b"Zone Z/G -2:00 EU %z\n",
+            "<-02>2<-01>,M3.5.0/-1,M10.5.0/0",
+        ),
     ];
-    for text in rows {
-        let refused = canonical(rt.alloc(), text.as_bytes()).err();
-        assert_eq!(rt; refused, Some(ParseStop::BadFooter), "{text:?}");
+    for (rules, zone, want) in rows {
+        let made = text(rt.alloc(), rules, zone)?;
+        assert_eq!(rt; made.as_slice(), want.as_bytes(), "{want}");
     }
+    Ok(())
+}
+
+/// Every form of a day, and rules that follow each other round 1 January.
+#[test]
+fn forms_of_days(rt: HostRuntime) -> Result<(), Fail> {
+    let rows: [(&[u8], &str); 7] = [
+        (
+            b"Rule R 2000 max - Mar 1 0:00s 1:00 D\nRule R 2000 max - Nov Tue<=30 0:00s 0 S\n",
+            "RST0RDT,J60/0,M11.5.2/1",
+        ),
+        (
+            b"Rule R 2000 max - Feb Sun<=29 0:00 1:00 D\nRule R 2000 max - Oct Sat<=7 12:00 0 S\n",
+            "RST0RDT,M2.5.0/0,M10.1.6/12",
+        ),
+        (
+            b"Rule R 2000 max - Feb Sun>=22 0:00 1:00 D\nRule R 2000 max - Oct Sat<=3 12:00 0 S\n",
+            "RST0RDT,M2.4.0/0,M10.1.3/-84",
+        ),
+        (
+            b"Rule R 2000 max - Apr Thu>=10 0:00 1:00 D\nRule R 2000 max - Oct 31 24:00 0 S\n",
+            "RST0RDT,M4.2.2/48,J304/24",
+        ),
+        (
+            b"Rule R 2000 max - Jan Sun>=8 0:00 1:00 D\nRule R 2000 max - Dec Sun>=25 0:00 0 S\n",
+            "RST0RDT,M1.2.0/0,M12.5.0/0",
+        ),
+        (
+            b"Rule R 2000 max - Jan 1 -160:00 1:00 D\nRule R 2000 max - Dec 31 160:00 0 S\n",
+            "RST0RDT,J1/-160,J365/160",
+        ),
+        (
+            b"Rule R 2000 max - Mar 1 167:59:59 1:00 D\nRule R 2000 max - Nov 1 -167:59:59 0 S\n",
+            "RST0RDT,J60/167:59:59,J305/-167:59:59",
+        ),
+    ];
+    for (rules, want) in rows {
+        let made = text(rt.alloc(), rules, b"Zone Z/R 0 R R%sT\n")?;
+        assert_eq!(rt; made.as_slice(), want.as_bytes(), "{want}");
+    }
+    Ok(())
 }
 
 #[test]
-fn shows_one_state(rt: HostRuntime) -> Result<(), Fail> {
-    let rows = [("EST5", -18000, "EST"), ("<+0530>-5:30", 19800, "+0530")];
-    for (text, offset, name) in rows {
-        let footer = parse(rt.alloc(), text.as_bytes())?;
-        assert_eq!(rt; footer.version(), 2, "{text}");
-        let state = footer.state();
-        assert_eq!(rt; state.offset, offset, "{text}");
-        assert!(rt; !state.daylight, "{text}");
-        assert_eq!(rt; state.name, name.as_bytes(), "{text}");
+fn refusals(rt: HostRuntime) -> Result<(), Fail> {
+    let week_29: &[u8] =
+        b"Rule A 2000 max - Mar Sun>=29 2:00 1:00 D\nRule A 2000 max - Oct lastSun 3:00 0 S\n";
+    let three: &[u8] =
+        b"Rule A 2000 max - Mar Sun>=25 2:00 1:00 D\nRule A 2000 max - Oct lastSun 3:00 0 S\nRule A 2000 max - Jun 1 0:00 2:00 M\n";
+    let one_flag: &[u8] =
+        b"Rule A 2000 max - Mar Sun>=25 2:00 1:00 D\nRule A 2000 max - Oct lastSun 3:00 2:00 S\n";
+    let new_year: &[u8] =
+        b"Rule N 2000 max - Jan Sun<=1 0:00u 1:00 D\nRule N 2000 max - Dec lastSun 1:00u 0 S\n";
+    let late: &[u8] = b"Rule R 2000 max - Mar 1 168:00 1:00 D\nRule R 2000 max - Nov 1 2:00 0 S\n";
+    let rows: [(&[u8], &[u8], u64, Kind); 6] = [
+        (week_29, b"Zone Z/C 1:00 A C%sT\n", 3, Kind::NoFooter),
+        (three, b"Zone Z/C 1:00 A C%sT\n", 4, Kind::NoFooter),
+        (one_flag, b"Zone Z/C 1:00 A CST\n", 3, Kind::NoFooter),
+        (new_year, b"Zone Z/N 0 N N%sT\n", 3, Kind::NoFooter),
+        (late, b"Zone Z/R 0 R R%sT\n", 3, Kind::NoFooter),
+        (b"", b"Zone Z/P 1:00 1:00 XXX\n", 1, Kind::PermanentDaylight),
+    ];
+    for (rules, zone, line, kind) in rows {
+        let place = Place { text: 1, line };
+        let stop = footer(rt.alloc(), place, &[rules, zone])?.err();
+        assert_eq!(rt; stop, Some(Stop::at(place, kind)));
     }
     Ok(())
 }

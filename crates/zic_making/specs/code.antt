@@ -1,2 +1,0 @@
--- Definitions that the proofs of this crate's code use, and no contract of another crate.
-pub mod Turns
