@@ -1,2 +1,9 @@
-pub mod AbbreviationLemmas
-pub mod TableLemmas
+pub mod Firsts
+pub mod States
+pub mod Numbers
+pub mod Lists
+pub mod NumberedChanges
+pub mod Designated
+pub mod Texts
+pub mod Designations
+pub mod Tables

@@ -1,11 +1,12 @@
+pub mod code
 pub mod Content
 pub mod Designation
 pub mod Image
-pub use Rattle.zic_footer.specs.Footer
-pub use Rattle.zic_footer.specs.Grammar
 pub use Rattle.zic_footer.specs.Making
-pub use Rattle.zic_footer.specs.Meaning
-pub use Rattle.zic_footer.specs.Printing
+pub use Rattle.zic_posix.specs.Footer
+pub use Rattle.zic_posix.specs.Grammar
+pub use Rattle.zic_posix.specs.Meaning
+pub use Rattle.zic_posix.specs.Printing
 pub use Rattle.zic_base.specs.State
 pub use Rattle.zic_states.specs.Change
 pub use Rattle.zic_states.specs.Zone

@@ -2,6 +2,14 @@
 #![tactic(auto)]
 
 mod content;
+mod limit;
+mod local_types;
+mod numbering;
+mod transitions;
 
 pub use content::making::table;
 pub use content::{Change, LocalType, Table};
+pub use limit::{LONGEST_FOOTER, MOST_CHARACTERS, MOST_TRANSITIONS, MOST_TYPES};
+
+#[cfg(test)]
+mod tests;

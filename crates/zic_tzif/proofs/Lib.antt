@@ -1,8 +1,16 @@
 pub mod AnswerLemmas
+pub mod Passed
+pub mod ReadAgree
 pub mod ReadChecks
+pub mod ReadDesignations
 pub mod ReadFiles
+pub mod ReadKept
 pub mod ReadParts
-pub mod ReadRecords
+pub mod ReadPieces
+pub mod ReadTransitions
+pub mod Search
+pub mod Transitions
+pub mod Windows
 pub mod WriteBlock
 pub mod WriteFile
 pub mod WriteLists

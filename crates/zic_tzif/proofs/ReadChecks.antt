@@ -49,8 +49,7 @@ some_type c e =
     let a = and_parts _ _ e in
     let b = and_parts _ _ a.0 in
     let d = and_parts _ _ b.0 in
-    let f = and_parts _ _ d.0 in
-    ltb-true 0 c.types f.0
+    ltb-true 0 c.types d.0
 
 abbrev of_footer : Bool → Bool → Bool → Option Reason
 of_footer a b c = cond a (cond b (cond c None (Some reason.Short)) (Some reason.Footer)) (Some reason.Short)

@@ -1,14 +1,24 @@
 -- The parts of the second data block, cut one after the other.
-use Rattle.std.proofs.Common.{◌≡◌, ℕ, ◌+◌, ◌*◌, List, take, drop, ap, ◌∙◌}
+use Rattle.std.proofs.Common.{◌≡◌, ℕ, ◌+◌, ◌*◌, List, take, drop, map, ap, ◌∙◌, arith}
 use Rattle.std.proofs.lemmas.List.{drop-drop}
-use Rattle.zic_tzif.specs.Header.{Counts, second_block, second_counts, types_place, names_place, indicators_place}
-use Rattle.zic_tzif.specs.Block.{sixes, type_records, names_in, indicators_in}
-use Rattle.zic_tzif.proofs.ReadRecords.{sixes-take}
+use Rattle.zic_tzif.specs.Header.{Counts, second_block, second_counts, numbers_place, types_place, names_place, indicators_place}
+use Rattle.zic_tzif.specs.Block.{pieces, time_in, times_in, numbers_in, type_records, names_in, indicators_in}
+use Rattle.zic_tzif.proofs.ReadPieces.{pieces-take}
 
--- what is left behind the times and types of transitions, behind the records, and behind the designations
-pub at_types : (o : List ℕ) (place : ℕ) (c : Counts) (rest : List ℕ) → place ≡ second_block o → c ≡ second_counts o → rest ≡ drop (place + c.transitions * 9) o → rest ≡ drop (types_place o) o
-at_types o place c rest p-is c-is e =
-    e ∙ ap (λ n. drop (n + c.transitions * 9) o) p-is ∙ ap (λ (d : Counts). drop (second_block o + d.transitions * 9) o) c-is
+-- what is left from the times on, behind the times, behind the numbers of types, behind the records, and behind the designations
+pub at_times : (o : List ℕ) (place : ℕ) (rest : List ℕ) → place ≡ second_block o → rest ≡ drop place o → rest ≡ drop (second_block o) o
+at_times o place rest p-is e = e ∙ ap (λ n. drop n o) p-is
+
+pub at_numbers : (o : List ℕ) (c : Counts) (rest behind : List ℕ) → c ≡ second_counts o → rest ≡ drop (second_block o) o → behind ≡ drop (c.transitions * 8) rest → behind ≡ drop (numbers_place o) o
+at_numbers o c rest behind c-is r-is e =
+    e ∙ ap (λ (d : Counts). drop (d.transitions * 8) rest) c-is ∙ ap (drop ((second_counts o).transitions * 8)) r-is
+    ∙ drop-drop ((second_counts o).transitions * 8) (second_block o) o
+
+pub at_types : (o : List ℕ) (c : Counts) (rest behind : List ℕ) → c ≡ second_counts o → rest ≡ drop (numbers_place o) o → behind ≡ drop c.transitions rest → behind ≡ drop (types_place o) o
+at_types o c rest behind c-is r-is e =
+    let place : numbers_place o + (second_counts o).transitions ≡ types_place o = omega arith in
+    e ∙ ap (λ (d : Counts). drop d.transitions rest) c-is ∙ ap (drop (second_counts o).transitions) r-is
+    ∙ drop-drop (second_counts o).transitions (numbers_place o) o ∙ ap (λ n. drop n o) place
 
 pub at_names : (o : List ℕ) (c : Counts) (rest behind : List ℕ) → c ≡ second_counts o → rest ≡ drop (types_place o) o → behind ≡ drop (c.types * 6) rest → behind ≡ drop (names_place o) o
 at_names o c rest behind c-is r-is e =
@@ -21,9 +31,18 @@ at_indicators o c rest behind c-is r-is e =
     ∙ drop-drop (second_counts o).characters (names_place o) o
 
 -- the parts at those places
-pub records_cut : (o : List ℕ) (c : Counts) (rest records : List ℕ) → c ≡ second_counts o → rest ≡ drop (types_place o) o → records ≡ take (c.types * 6) rest → sixes c.types records ≡ type_records o
+pub times_cut : (o : List ℕ) (c : Counts) (rest times : List ℕ) → c ≡ second_counts o → rest ≡ drop (second_block o) o → times ≡ take (c.transitions * 8) rest → map time_in (pieces 8 c.transitions times) ≡ times_in o
+times_cut o c rest times c-is r-is e =
+    ap (map time_in)
+    (ap (pieces 8 c.transitions) e ∙ pieces-take 8 c.transitions rest ∙ ap (λ (d : Counts). pieces 8 d.transitions rest) c-is ∙ ap (pieces 8 (second_counts o).transitions) r-is)
+
+pub numbers_cut : (o : List ℕ) (c : Counts) (rest numbers : List ℕ) → c ≡ second_counts o → rest ≡ drop (numbers_place o) o → numbers ≡ take c.transitions rest → numbers ≡ numbers_in o
+numbers_cut o c rest numbers c-is r-is e =
+    e ∙ ap (λ (d : Counts). take d.transitions rest) c-is ∙ ap (take (second_counts o).transitions) r-is
+
+pub records_cut : (o : List ℕ) (c : Counts) (rest records : List ℕ) → c ≡ second_counts o → rest ≡ drop (types_place o) o → records ≡ take (c.types * 6) rest → pieces 6 c.types records ≡ type_records o
 records_cut o c rest records c-is r-is e =
-    ap (sixes c.types) e ∙ sixes-take c.types rest ∙ ap (λ (d : Counts). sixes d.types rest) c-is ∙ ap (sixes (second_counts o).types) r-is
+    ap (pieces 6 c.types) e ∙ pieces-take 6 c.types rest ∙ ap (λ (d : Counts). pieces 6 d.types rest) c-is ∙ ap (pieces 6 (second_counts o).types) r-is
 
 pub names_cut : (o : List ℕ) (c : Counts) (rest names : List ℕ) → c ≡ second_counts o → rest ≡ drop (names_place o) o → names ≡ take c.characters rest → names ≡ names_in o
 names_cut o c rest names c-is r-is e =

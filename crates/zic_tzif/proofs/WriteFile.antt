@@ -16,12 +16,13 @@ use Rattle.zic_table.specs.Designation.{designation, is_designated}
 use Rattle.zic_tzif.specs.declared.reason.Reason.{Reason}
 use Rattle.zic_tzif.specs.declared.reason.Reason.TheVariants as reason
 use Rattle.zic_tzif.specs.Header.{Counts, counts_at, second_header, second_block, second_counts, footer_place}
-use Rattle.zic_tzif.specs.Block.{type_in, type_records, names_in, indicators_in, behind_newline, footer_text, is_type_record}
-use Rattle.zic_tzif.specs.Reading.{checks, content_in, IsWhole, IsFile}
+use Rattle.zic_tzif.specs.Block.{type_in, times_in, do_rise, numbers_in, changes_at, type_records, names_in, indicators_in, behind_newline, footer_text, is_type_record}
+use Rattle.zic_tzif.specs.Reading.{are_counts, checks, content_in, IsWhole, IsFile}
 use Rattle.zic_tzif.specs.Writing.{type_octets, written, WrittenIsFile}
+use Rattle.zic_tzif.proofs.Transitions.{do_rise_again, numbers_again, changes_again}
 use Rattle.zic_tzif.proofs.WriteText.{IsOneLine, one_line}
 use Rattle.zic_tzif.proofs.WriteBlock.{offset_again, type_again}
-use Rattle.zic_tzif.proofs.WriteParts.{IsLaid, is_laid, second_counts_are, footer_at, type_records_are, names_are, no_indicators, newline_stands, behind_newline_is}
+use Rattle.zic_tzif.proofs.WriteParts.{IsLaid, is_laid, second_counts_are, number_of_types, footer_at, times_are, numbers_are, type_records_are, names_are, no_indicators, newline_stands, behind_newline_is}
 
 -- ---- the footer's text
 
@@ -89,16 +90,16 @@ on : {passes : Bool} (r : Reason) {rest : Option Reason} → passes ≡ true →
 on {passes} r {rest} pass others = cond-true passes rest (Some r) pass ∙ others
 
 -- a content is known by its parts
-from_parts : (content : Content) (version : ℕ) (types : List LocalType) (names text : List ℕ) → content.version ≡ version → content.changes ≡ [] → content.types ≡ types → content.names ≡ names → content.text ≡ text
-    → content ≡ record { version = version; changes = []; types = types; names = names; text = text }
-from_parts content version types names text v c t n x =
+from_parts : (content : Content) (version : ℕ) (changes : List Change) (types : List LocalType) (names text : List ℕ) → content.version ≡ version → content.changes ≡ changes → content.types ≡ types → content.names ≡ names → content.text ≡ text
+    → content ≡ record { version = version; changes = changes; types = types; names = names; text = text }
+from_parts content version changes types names text v c t n x =
     ap₂ (λ (a : ℕ) (b : List Change). record { version = a; changes = b; types = content.types; names = content.names; text = content.text }) v c
-    ∙ ap₂ (λ (a : List LocalType) (b : List ℕ). record { version = version; changes = []; types = a; names = b; text = content.text }) t n
-    ∙ ap (λ (a : List ℕ). record { version = version; changes = []; types = types; names = names; text = a }) x
+    ∙ ap₂ (λ (a : List LocalType) (b : List ℕ). record { version = version; changes = changes; types = a; names = b; text = content.text }) t n
+    ∙ ap (λ (a : List ℕ). record { version = version; changes = changes; types = types; names = names; text = a }) x
 
 module _ (octets : List ℕ) (content : Content) (laid : IsLaid octets content) (fits : IsWritable content) where
   small : nat_le (length octets) LONGEST_FILE ≡ true
-  small = le-leb (length octets) LONGEST_FILE (omega (arith, laid.size, fits.types_fit, fits.names_fit, fits.text_fits))
+  small = le-leb (length octets) LONGEST_FILE (omega (arith, laid.size, fits.transitions_fit, fits.types_fit, fits.names_fit, fits.text_fits))
 
   header_there : nat_le 44 (length octets) ≡ true
   header_there = le-leb 44 (length octets) (omega (arith, laid.size))
@@ -124,20 +125,25 @@ module _ (octets : List ℕ) (content : Content) (laid : IsLaid octets content) 
       ap (λ (n : ℕ). bytes_eq (take 5 (drop n octets)) (take 5 octets)) laid.second
       ∙ ap (λ (bytes : List ℕ). bytes_eq bytes (take 5 octets)) laid.same_start ∙ bytes_same (take 5 octets)
 
-  abbrev counts_pass : Counts → Bool
-  counts_pass c = nat_lt 0 c.types && nat_lt 0 c.characters && ((c.standard_indicators == 0) || (c.standard_indicators == c.types)) && ((c.ut_indicators == 0) || (c.ut_indicators == c.types)) && (c.transitions == 0)
-
-  counts : counts_pass (second_counts octets) ≡ true
+  counts : are_counts (second_counts octets) ≡ true
   counts =
       let characters : nat_lt 0 (length content.names) ≡ true = lt-ltb 0 (length content.names) (some_names content.names content.types fits.some_type fits.types) in
-      ap counts_pass (second_counts_are octets content laid)
-      ∙ ap₂ (λ (t c : Bool). t && c && true && true && true) (lt-ltb 0 (length content.types) fits.some_type) characters
+      ap are_counts (second_counts_are octets content laid)
+      ∙ ap₂ (λ (t c : Bool). t && c && true && true) (lt-ltb 0 (length content.types) fits.some_type) characters
 
   second_leap_seconds : ((second_counts octets).leap_seconds == 0) ≡ true
   second_leap_seconds = ap (λ (c : Counts). c.leap_seconds == 0) (second_counts_are octets content laid)
 
   block_there : nat_le (footer_place octets) (length octets) ≡ true
-  block_there = ap (λ (n : ℕ). nat_le n (length octets)) (footer_at octets content laid) ∙ le-leb (95 + length content.types * 6 + length content.names) (length octets) (omega (arith, laid.size))
+  block_there = ap (λ (n : ℕ). nat_le n (length octets)) (footer_at octets content laid) ∙ le-leb (95 + length content.changes * 9 + length content.types * 6 + length content.names) (length octets) (omega (arith, laid.size))
+
+  times : do_rise (times_in octets) ≡ true
+  times = ap do_rise (times_are octets content laid fits.instants) ∙ do_rise_again content.changes fits.rising
+
+  numbers : list_all (λ number. nat_lt number (second_counts octets).types) (numbers_in octets) ≡ true
+  numbers =
+      ap₂ (λ (n : ℕ) (numbers : List ℕ). list_all (λ number. nat_lt number n) numbers) (number_of_types octets content laid) (numbers_are octets content laid)
+      ∙ numbers_again (length content.types) content.changes fits.have_types
 
   designations : list_all (λ r. is_designated (names_in octets) (type_in r).place) (type_records octets) ≡ true
   designations =
@@ -151,7 +157,7 @@ module _ (octets : List ℕ) (content : Content) (laid : IsLaid octets content) 
   indicators = ap (list_all (λ b. nat_le b 1)) (no_indicators octets content laid)
 
   footer_there : nat_lt (footer_place octets) (length octets) ≡ true
-  footer_there = ap (λ (n : ℕ). nat_lt n (length octets)) (footer_at octets content laid) ∙ lt-ltb (95 + length content.types * 6 + length content.names) (length octets) (omega (arith, laid.size))
+  footer_there = ap (λ (n : ℕ). nat_lt n (length octets)) (footer_at octets content laid) ∙ lt-ltb (95 + length content.changes * 9 + length content.types * 6 + length content.names) (length octets) (omega (arith, laid.size))
 
   newline : (slice_index octets (footer_place octets) == 10) ≡ true
   newline = ap (λ (b : ℕ). b == 10) (newline_stands octets content laid)
@@ -163,11 +169,11 @@ module _ (octets : List ℕ) (content : Content) (laid : IsLaid octets content) 
   all_pass =
       on reason.TooLarge small (on reason.Short header_there (on reason.Magic magic (on reason.Version version (on reason.LeapSeconds first_leap_seconds
       (on reason.Short second_there (on reason.HeadersDiffer headers_agree (on reason.Counts counts (on reason.LeapSeconds second_leap_seconds
-      (on reason.Short block_there (on reason.Designation designations (on reason.TypeRecord records (on reason.Indicators indicators
-      (on reason.Short footer_there (on reason.Footer newline (on reason.Short ended refl)))))))))))))))
+      (on reason.Short block_there (on reason.TimesNotRising times (on reason.TypeIndex numbers (on reason.Designation designations (on reason.TypeRecord records (on reason.Indicators indicators
+      (on reason.Short footer_there (on reason.Footer newline (on reason.Short ended refl)))))))))))))))))
 
   text_is : footer_text octets ≡ content.text
-  text_is = ap (before_first (λ b. b == 10)) (behind_newline_is octets content laid) ∙ up_to_newline content.text (one_line content.version content.text fits.footer.0 fits.footer.1)
+  text_is = ap (before_first (λ b. b == 10)) (behind_newline_is octets content laid) ∙ up_to_newline content.text (one_line content.version content.text fits.footer.0 fits.footer.1.spells)
 
   whole : IsWhole octets
   whole = omega (arith, laid.size, footer_at octets content laid, ap length text_is)
@@ -175,11 +181,13 @@ module _ (octets : List ℕ) (content : Content) (laid : IsLaid octets content) 
   says : content ≡ content_in octets
   says =
       let version : content.version ≡ slice_index octets 4 - 48 = omega (arith, laid.version) in
+      let changes : changes_at (times_in octets) (numbers_in octets) ≡ content.changes =
+      ap₂ changes_at (times_are octets content laid fits.instants) (numbers_are octets content laid) ∙ changes_again content.changes in
       let types : map type_in (type_records octets) ≡ content.types = ap (map type_in) (type_records_are octets content laid) ∙ types_again content.names content.types fits.types in
-      from_parts content (slice_index octets 4 - 48) (map type_in (type_records octets)) (names_in octets) (footer_text octets) version fits.no_changes (sym types) (sym (names_are octets content laid)) (sym text_is)
+      from_parts content (slice_index octets 4 - 48) (changes_at (times_in octets) (numbers_in octets)) (map type_in (type_records octets)) (names_in octets) (footer_text octets) version (sym changes) (sym types) (sym (names_are octets content laid)) (sym text_is)
 
   pub is_file : IsFile octets content
   is_file = record { passes = all_pass; footer = inr fits.footer; whole = whole; says = says }
 
 pub written_is_file : WrittenIsFile
-written_is_file content fits = is_file (written content) content (is_laid content fits.no_changes fits.types_fit fits.names_fit) fits
+written_is_file content fits = is_file (written content) content (is_laid content fits.transitions_fit fits.types_fit fits.names_fit) fits

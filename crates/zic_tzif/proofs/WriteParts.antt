@@ -1,13 +1,15 @@
--- What stands where in a written file without transitions.
-use Rattle.std.proofs.Common.{◌≡◌, ℕ, ◌+◌, ◌*◌, ◌≤◌, List, [], ◌∷◌, ◌++◌, map, length, take, drop, slice_index, refl, ap, ap₂, sym, subst, ◌∙◌, arith, length-append, append_assoc, take_at, drop_at, drop-drop, get_or-drop}
+-- What stands where in a written file.
+use Rattle.std.proofs.Common.{◌≡◌, ℕ, ◌+◌, ◌*◌, ◌≤◌, List, [], ◌∷◌, ◌++◌, map, length, take, drop, slice_index, refl, ap, ap₂, sym, ◌∙◌, arith, length-append, append_assoc, take_at, drop_at, drop-drop, get_or-drop, All, FitsSigned, w64}
 use Rattle.std.proofs.lemmas.List.{length-map}
 use Rattle.std.specs.List.{flat_map}
+use Rattle.byteorder.specs.Endian.{big_bytes, big_number}
 use Rattle.zic_table.specs.declared.content.Change.{Change}
+use Rattle.zic_table.specs.declared.limit.TheConstants.{MOST_TRANSITIONS, MOST_TYPES, MOST_CHARACTERS}
 use Rattle.zic_table.specs.Content.{Content}
-use Rattle.zic_tzif.specs.Header.{Counts, counts_at, second_header, second_counts, types_place, names_place, indicators_place, footer_place, block_length}
-use Rattle.zic_tzif.specs.Block.{sixes, type_records, names_in, indicators_in, behind_newline}
+use Rattle.zic_tzif.specs.Header.{Counts, counts_at, second_header, second_block, second_counts, numbers_place, types_place, names_place, indicators_place, footer_place, block_length}
+use Rattle.zic_tzif.specs.Block.{time_in, pieces, times_in, numbers_in, type_records, names_in, indicators_in, behind_newline}
 use Rattle.zic_tzif.specs.Writing.{time_octets, type_octets, written}
-use Rattle.zic_tzif.proofs.WriteBlock.{number_again, sixes_again, types_length, times_length}
+use Rattle.zic_tzif.proofs.WriteBlock.{number_again, times_again, types_again, types_length, times_length}
 
 -- the number of octets that are written
 pub length_written : (content : Content) → length (written content) ≡ 95 + (length content.changes * 9 + length content.types * 6 + length content.names) + 1 + length content.text + 1
@@ -28,106 +30,162 @@ length_written content =
       length-append content.text (10 ∷ []),
     )
 
--- ---- the written form of a content without transitions
+-- ---- the written form of a content
 
--- what stands behind the local time types
+abbrev numbers_of : List Change → List ℕ
+numbers_of changes = map (λ c. c.number) changes
+
+-- what stands behind the designations, the local time types, the numbers of types and the times
+abbrev behind_names : Content → List ℕ
+behind_names content = 10 ∷ (content.text ++ 10 ∷ [])
+
 abbrev behind_types : Content → List ℕ
-behind_types content = content.names ++ (10 ∷ (content.text ++ 10 ∷ []))
+behind_types content = content.names ++ behind_names content
+
+abbrev behind_numbers : Content → List ℕ
+behind_numbers content = flat_map type_octets content.types ++ behind_types content
+
+abbrev behind_times : Content → List ℕ
+behind_times content = numbers_of content.changes ++ behind_numbers content
 
 -- the second header's counts
 abbrev pub counts_of : Content → Counts
-counts_of content = record { ut_indicators = 0; standard_indicators = 0; leap_seconds = 0; transitions = 0; types = length content.types; characters = length content.names }
+counts_of content = record {
+  ut_indicators = 0;
+  standard_indicators = 0;
+  leap_seconds = 0;
+  transitions = length content.changes;
+  types = length content.types;
+  characters = length content.names;
+}
 
 -- the octets are the written form of the content, part by part
 pub record IsLaid (octets : List ℕ) (content : Content) : Type 0 where
-  pub size : length octets ≡ 95 + (length content.types * 6 + (length content.names + (length content.text + 2)))
+  pub size : length octets ≡ 95 + (length content.changes * 9 + length content.types * 6 + length content.names) + 1 + length content.text + 1
   pub magic : take 4 octets ≡ 84 ∷ 90 ∷ 105 ∷ 102 ∷ []
   pub version : slice_index octets 4 ≡ 48 + content.version
   pub no_leap_seconds : (counts_at octets 0).leap_seconds ≡ 0
   pub second : second_header octets ≡ 51
   pub same_start : take 5 (drop 51 octets) ≡ take 5 octets
   pub counts : counts_at octets 51 ≡ counts_of content
-  pub block : drop 95 octets ≡ flat_map type_octets content.types ++ behind_types content
+  pub block : drop 95 octets ≡ flat_map time_octets content.changes ++ behind_times content
 
--- the content with no transitions in place of its own
-abbrev settled : Content → Content
-settled content = record content { changes = [] }
+counts_are : (content : Content) → length content.changes ≤ MOST_TRANSITIONS → length content.types ≤ MOST_TYPES → length content.names ≤ MOST_CHARACTERS → counts_at (written content) 51 ≡ counts_of content
+counts_are content few_changes few short =
+    ap₂ (λ (n t : ℕ). record { ut_indicators = 0; standard_indicators = 0; leap_seconds = 0; transitions = n; types = t; characters = big_number 4 (big_bytes 4 (length content.names)) })
+    (number_again (length content.changes) [] (omega arith)) (number_again (length content.types) [] (omega arith))
+    ∙ ap (λ (c : ℕ). record { ut_indicators = 0; standard_indicators = 0; leap_seconds = 0; transitions = length content.changes; types = length content.types; characters = c })
+    (number_again (length content.names) [] (omega arith))
 
-counts_are : (content : Content) → length content.types ≤ 256 → length content.names ≤ 256 → counts_at (written (settled content)) 51 ≡ counts_of content
-counts_are content few short =
-    ap₂ (λ (t c : ℕ). record { ut_indicators = 0; standard_indicators = 0; leap_seconds = 0; transitions = 0; types = t; characters = c })
-    (number_again (length content.types) [] (omega arith)) (number_again (length content.names) [] (omega arith))
+four_parts : (times numbers types names rest : List ℕ) → (((times ++ numbers) ++ types) ++ names) ++ rest ≡ times ++ (numbers ++ (types ++ (names ++ rest)))
+four_parts times numbers types names rest = simp append_assoc
 
-settled_is_laid : (content : Content) → length content.types ≤ 256 → length content.names ≤ 256 → IsLaid (written (settled content)) (settled content)
-settled_is_laid content few short = record {
-  size = omega (arith, length_written (settled content));
+pub is_laid : (content : Content) → length content.changes ≤ MOST_TRANSITIONS → length content.types ≤ MOST_TYPES → length content.names ≤ MOST_CHARACTERS → IsLaid (written content) content
+is_laid content few_changes few short = record {
+  size = length_written content;
   magic = refl;
   version = refl;
   no_leap_seconds = refl;
   second = refl;
   same_start = refl;
-  counts = counts_are content few short;
-  block = append_assoc (flat_map type_octets content.types) content.names (10 ∷ (content.text ++ 10 ∷ []));
+  counts = counts_are content few_changes few short;
+  block = four_parts (flat_map time_octets content.changes) (numbers_of content.changes) (flat_map type_octets content.types) content.names (behind_names content);
 }
 
-pub is_laid : (content : Content) → content.changes ≡ [] → length content.types ≤ 256 → length content.names ≤ 256 → IsLaid (written content) content
-is_laid content none few short =
-    let same : settled content ≡ content = ap (λ (changes : List Change). record content { changes = changes }) (sym none) in
-    subst (λ (c : Content). IsLaid (written c) c) same (settled_is_laid content few short)
+-- what stands behind a part
+further : (octets front rest : List ℕ) (place size next : ℕ) → drop place octets ≡ front ++ rest → length front ≡ size → place + size ≡ next → drop next octets ≡ rest
+further octets front rest place size next from long is =
+    ap (λ (n : ℕ). drop n octets) (sym is) ∙ sym (drop-drop size place octets) ∙ ap (drop size) from ∙ drop_at front rest size long
+
+-- a part
+piece_at : (octets front rest : List ℕ) (place at size : ℕ) → drop place octets ≡ front ++ rest → length front ≡ size → at ≡ place → take size (drop at octets) ≡ front
+piece_at octets front rest place at size from long is =
+    ap (λ (n : ℕ). take size (drop n octets)) is ∙ ap (take size) from ∙ take_at front rest size long
 
 module _ (octets : List ℕ) (content : Content) (laid : IsLaid octets content) where
-  -- ---- where the parts stand
+  abbrev n : ℕ
+  n = length content.changes
+
+  abbrev k : ℕ
+  k = length content.types
+
+  -- ---- what stands from each place on
+
+  from_numbers : drop (95 + n * 8) octets ≡ behind_times content
+  from_numbers = further octets (flat_map time_octets content.changes) (behind_times content) 95 (n * 8) (95 + n * 8) laid.block (times_length content.changes) refl
+
+  from_types : drop (95 + n * 9) octets ≡ behind_numbers content
+  from_types =
+      further octets (numbers_of content.changes) (behind_numbers content) (95 + n * 8) n (95 + n * 9) from_numbers (length-map content.changes (λ (c : Change). c.number)) (omega arith)
+
+  from_names : drop (95 + n * 9 + k * 6) octets ≡ behind_types content
+  from_names = further octets (flat_map type_octets content.types) (behind_types content) (95 + n * 9) (k * 6) (95 + n * 9 + k * 6) from_types (types_length content.types) refl
+
+  from_newline : drop (95 + n * 9 + k * 6 + length content.names) octets ≡ behind_names content
+  from_newline =
+      further octets content.names (behind_names content) (95 + n * 9 + k * 6) (length content.names) (95 + n * 9 + k * 6 + length content.names) from_names refl refl
+
+  -- ---- the places
 
   pub second_counts_are : second_counts octets ≡ counts_of content
   second_counts_are = ap (counts_at octets) laid.second ∙ laid.counts
 
-  types_at : types_place octets ≡ 95
-  types_at =
-      let transitions : (second_counts octets).transitions ≡ 0 = ap (λ (c : Counts). c.transitions) second_counts_are in
-      ap (λ (n : ℕ). n + 44 + (second_counts octets).transitions * 9) laid.second ∙ ap (λ (n : ℕ). 95 + n * 9) transitions
+  number_of_changes : (second_counts octets).transitions ≡ n
+  number_of_changes = ap (λ (c : Counts). c.transitions) second_counts_are
 
-  number_of_types : (second_counts octets).types ≡ length content.types
+  pub number_of_types : (second_counts octets).types ≡ k
   number_of_types = ap (λ (c : Counts). c.types) second_counts_are
 
-  names_at : names_place octets ≡ 95 + length content.types * 6
-  names_at = ap (λ (n : ℕ). n + (second_counts octets).types * 6) types_at ∙ ap (λ (n : ℕ). 95 + n * 6) number_of_types
+  number_of_characters : (second_counts octets).characters ≡ length content.names
+  number_of_characters = ap (λ (c : Counts). c.characters) second_counts_are
 
-  pub footer_at : footer_place octets ≡ 95 + length content.types * 6 + length content.names
+  block_at : second_block octets ≡ 95
+  block_at = ap (λ (m : ℕ). m + 44) laid.second
+
+  numbers_at : numbers_place octets ≡ 95 + n * 8
+  numbers_at = ap₂ (λ (place count : ℕ). place + count * 8) block_at number_of_changes
+
+  types_at : types_place octets ≡ 95 + n * 9
+  types_at = ap₂ (λ (place count : ℕ). place + count * 9) block_at number_of_changes
+
+  names_at : names_place octets ≡ 95 + n * 9 + k * 6
+  names_at = ap₂ (λ (place count : ℕ). place + count * 6) types_at number_of_types
+
+  pub footer_at : footer_place octets ≡ 95 + n * 9 + k * 6 + length content.names
   footer_at =
-      let whole : 95 + block_length (counts_of content) 8 ≡ 95 + length content.types * 6 + length content.names = omega arith in
-      ap (λ (n : ℕ). n + 44 + block_length (second_counts octets) 8) laid.second ∙ ap (λ (c : Counts). 95 + block_length c 8) second_counts_are ∙ whole
+      let whole : 95 + block_length (counts_of content) 8 ≡ 95 + n * 9 + k * 6 + length content.names = omega arith in
+      ap₂ (λ (place : ℕ) (c : Counts). place + block_length c 8) block_at second_counts_are ∙ whole
 
   -- ---- what stands there
 
+  pub times_are : All (λ (c : Change). FitsSigned w64 c.instant) content.changes → times_in octets ≡ map (λ c. c.instant) content.changes
+  times_are fit =
+      ap₂ (λ (count place : ℕ). map time_in (pieces 8 count (drop place octets))) number_of_changes block_at
+      ∙ ap (λ (rest : List ℕ). map time_in (pieces 8 n rest)) laid.block
+      ∙ times_again content.changes (behind_times content) fit
+
+  pub numbers_are : numbers_in octets ≡ numbers_of content.changes
+  numbers_are =
+      ap (λ (count : ℕ). take count (drop (numbers_place octets) octets)) number_of_changes
+      ∙ piece_at octets (numbers_of content.changes) (behind_numbers content) (95 + n * 8) (numbers_place octets) n from_numbers
+      (length-map content.changes (λ (c : Change). c.number)) numbers_at
+
   pub type_records_are : type_records octets ≡ map type_octets content.types
   type_records_are =
-      ap (λ (n : ℕ). sixes n (drop (types_place octets) octets)) number_of_types
-      ∙ ap (λ (place : ℕ). sixes (length content.types) (drop place octets)) types_at
-      ∙ ap (sixes (length content.types)) laid.block
-      ∙ sixes_again content.types (behind_types content)
-
-  from_names : drop (95 + length content.types * 6) octets ≡ behind_types content
-  from_names =
-      sym (drop-drop (length content.types * 6) 95 octets) ∙ ap (drop (length content.types * 6)) laid.block
-      ∙ drop_at (flat_map type_octets content.types) (behind_types content) (length content.types * 6) (types_length content.types)
+      ap₂ (λ (count place : ℕ). pieces 6 count (drop place octets)) number_of_types types_at
+      ∙ ap (pieces 6 k) from_types
+      ∙ types_again content.types (behind_types content)
 
   pub names_are : names_in octets ≡ content.names
   names_are =
-      let number : (second_counts octets).characters ≡ length content.names = ap (λ (c : Counts). c.characters) second_counts_are in
-      ap (λ (n : ℕ). take n (drop (names_place octets) octets)) number
-      ∙ ap (λ (place : ℕ). take (length content.names) (drop place octets)) names_at
-      ∙ ap (take (length content.names)) from_names
-      ∙ take_at content.names (10 ∷ (content.text ++ 10 ∷ [])) (length content.names) refl
+      ap (λ (count : ℕ). take count (drop (names_place octets) octets)) number_of_characters
+      ∙ piece_at octets content.names (behind_names content) (95 + n * 9 + k * 6) (names_place octets) (length content.names) from_names refl names_at
 
   pub no_indicators : indicators_in octets ≡ []
   no_indicators = ap (λ (c : Counts). take (c.standard_indicators + c.ut_indicators) (drop (indicators_place octets) octets)) second_counts_are
 
-  from_footer : drop (footer_place octets) octets ≡ 10 ∷ (content.text ++ 10 ∷ [])
-  from_footer =
-      ap (λ (n : ℕ). drop n octets) footer_at
-      ∙ sym (drop-drop (length content.names) (95 + length content.types * 6) octets)
-      ∙ ap (drop (length content.names)) from_names
-      ∙ drop_at content.names (10 ∷ (content.text ++ 10 ∷ [])) (length content.names) refl
+  from_footer : drop (footer_place octets) octets ≡ behind_names content
+  from_footer = ap (λ (place : ℕ). drop place octets) footer_at ∙ from_newline
 
   pub newline_stands : slice_index octets (footer_place octets) ≡ 10
   newline_stands =

@@ -1,9 +1,15 @@
 -- A POSIX TZ string has no newline.
-use Rattle.std.proofs.Common.{◌≡◌, ◌≢◌, ℕ, ℤ, inl, inr, true, Bool, List, [], ◌∷◌, ◌++◌, IsTrue, All, sym, subst}
+use Rattle.std.proofs.Common.{◌≡◌, ◌≢◌, ℕ, ℤ, inl, inr, true, Bool, Option, Some, None, List, [], ◌∷◌, ◌++◌, IsTrue, All, sym, subst}
 use Rattle.std.proofs.lemmas.List.Elements.{All-append, All-cons, All-nil, All-weaker}
-use Rattle.zic_footer.specs.Footer.{TzString}
+use Rattle.std.specs.Option.{MatchOption}
 use Rattle.zic_base.specs.Byte.{is_abbreviation_byte}
-use Rattle.zic_footer.specs.Grammar.{is_letter, is_digit, SpellsName, SpellsNumber, SpellsClock, SpellsOffset, Spells}
+use Rattle.zic_posix.specs.declared.footer.DayRule.{DayRule}
+use Rattle.zic_posix.specs.declared.footer.DayRule.TheVariants.{J, N, M}
+use Rattle.zic_posix.specs.declared.footer.Dst.{Dst}
+use Rattle.zic_posix.specs.declared.footer.Edge.{Edge}
+use Rattle.zic_posix.specs.declared.limit.TheConstants.{MOST_HOURS, MOST_WIDE_HOURS, MOST_MINUTES_OR_SECONDS, LAST_DAY}
+use Rattle.zic_posix.specs.Footer.{TzString}
+use Rattle.zic_posix.specs.Grammar.{is_letter, is_digit, SpellsName, SpellsNumber, SpellsPart, SpellsClock, SpellsSigned, SpellsOffset, SpellsTime, SpellsDay, SpellsEdge, SpellsDaylight, Spells}
 
 -- no byte of a text is a newline
 abbrev pub IsOneLine : List ℕ → Type 0
@@ -35,36 +41,78 @@ one_line_name text name spelled =
           (beside 60 (λ e. cc) (name ++ 62 ∷ []) (joined name (62 ∷ []) (not_newline is_abbreviation_byte (λ e. cc) name quoted.1) (beside 62 (λ e. cc) [] none)))
     ]
 
-one_line_number : (most : ℕ) (text : List ℕ) (n : ℕ) → SpellsNumber most text n → IsOneLine text
-one_line_number most text n spelled = not_newline is_digit (λ e. cc) text spelled.digits
+one_line_number : (longest least most : ℕ) (text : List ℕ) (n : ℕ) → SpellsNumber longest least most text n → IsOneLine text
+one_line_number longest least most text n spelled = not_newline is_digit (λ e. cc) text spelled.digits
 
-behind_colon : (front back : List ℕ) → IsOneLine front → IsOneLine back → IsOneLine (front ++ 58 ∷ back)
-behind_colon front back p q = joined front (58 ∷ back) p (beside 58 (λ e. cc) back q)
+-- two texts round a mark
+round_mark : (mark : ℕ) → (mark ≢ 10) → (front back : List ℕ) → IsOneLine front → IsOneLine back → IsOneLine (front ++ mark ∷ back)
+round_mark mark here front back p q = joined front (mark ∷ back) p (beside mark here back q)
 
-one_line_clock : (text : List ℕ) (seconds : ℕ) → SpellsClock text seconds → IsOneLine text
-one_line_clock text seconds spelled =
-    let hours = one_line_number 24 spelled.hours spelled.h spelled.spells_hours in
+one_line_clock : (longest most : ℕ) (text : List ℕ) (seconds : ℕ) → SpellsClock longest most text seconds → IsOneLine text
+one_line_clock longest most text seconds spelled =
+    let hours = one_line_number longest 0 most spelled.hours spelled.h spelled.spells_hours in
+    let part = λ (text : List ℕ) (n : ℕ) (spells : SpellsPart text n). one_line_number 2 0 MOST_MINUTES_OR_SECONDS text n spells in
     elim spelled.form [
       | inl whole ↦ moved text spelled.hours whole.0 hours
-      | inr (inl more) ↦
-          moved text (spelled.hours ++ 58 ∷ more.0) more.1 (behind_colon spelled.hours more.0 hours (one_line_number 59 more.0 spelled.m more.2))
+      | inr (inl more) ↦ moved text (spelled.hours ++ 58 ∷ more.0) more.1 (round_mark 58 (λ e. cc) spelled.hours more.0 hours (part more.0 spelled.m more.2))
       | inr (inr more) ↦
           moved text (spelled.hours ++ 58 ∷ (more.0 ++ 58 ∷ more.1)) more.2
-          (behind_colon spelled.hours (more.0 ++ 58 ∷ more.1) hours
-          (behind_colon more.0 more.1 (one_line_number 59 more.0 spelled.m more.3) (one_line_number 59 more.1 spelled.s more.4)))
+          (round_mark 58 (λ e. cc) spelled.hours (more.0 ++ 58 ∷ more.1) hours
+          (round_mark 58 (λ e. cc) more.0 more.1 (part more.0 spelled.m more.3) (part more.1 spelled.s more.4)))
     ]
 
-one_line_offset : (text : List ℕ) (offset : ℤ) → SpellsOffset text offset → IsOneLine text
-one_line_offset text offset spelled =
-    let clock = one_line_clock spelled.clock spelled.seconds spelled.spells_clock in
+one_line_signed : (longest most : ℕ) (text : List ℕ) (seconds : ℤ) → SpellsSigned longest most text seconds → IsOneLine text
+one_line_signed longest most text seconds spelled =
+    let clock = one_line_clock longest most spelled.clock spelled.size spelled.spells_clock in
     elim spelled.form [
       | inl bare ↦ moved text spelled.clock bare.0 clock
       | inr (inl plus) ↦ moved text (43 ∷ spelled.clock) plus.0 (beside 43 (λ e. cc) spelled.clock clock)
       | inr (inr minus) ↦ moved text (45 ∷ spelled.clock) minus.0 (beside 45 (λ e. cc) spelled.clock clock)
     ]
 
+one_line_offset : (text : List ℕ) (offset : ℤ) → SpellsOffset text offset → IsOneLine text
+one_line_offset text offset spelled = one_line_signed 2 MOST_HOURS text spelled.0 spelled.1
+
+one_line_time : (version : ℕ) (text : List ℕ) (time : ℤ) → SpellsTime version text time → IsOneLine text
+one_line_time version text time (inl plain) = one_line_clock 2 MOST_HOURS text plain.1.0 plain.1.1
+one_line_time version text time (inr signed) = one_line_signed 3 MOST_WIDE_HOURS text time signed.1
+
+one_line_day : (text : List ℕ) (day : DayRule) → SpellsDay text day → IsOneLine text
+one_line_day text (J day) spelled = moved text (74 ∷ spelled.0) spelled.1 (beside 74 (λ e. cc) spelled.0 (one_line_number 3 1 LAST_DAY spelled.0 day spelled.2))
+one_line_day text (N day) spelled = one_line_number 3 0 LAST_DAY text day spelled
+one_line_day text (M month week weekday) spelled =
+    let weeks = round_mark 46 (λ e. cc) spelled.1 spelled.2 (one_line_number 1 1 5 spelled.1 week spelled.5) (one_line_number 1 0 6 spelled.2 weekday spelled.6) in
+    moved text (77 ∷ (spelled.0 ++ 46 ∷ (spelled.1 ++ 46 ∷ spelled.2))) spelled.3
+    (beside 77 (λ e. cc) (spelled.0 ++ 46 ∷ (spelled.1 ++ 46 ∷ spelled.2))
+    (round_mark 46 (λ e. cc) spelled.0 (spelled.1 ++ 46 ∷ spelled.2) (one_line_number 2 1 12 spelled.0 month spelled.4) weeks))
+
+one_line_edge : (version : ℕ) (text : List ℕ) (edge : Edge) → SpellsEdge version text edge → IsOneLine text
+one_line_edge version text edge spelled =
+    let day = one_line_day spelled.day edge.day spelled.spells_day in
+    elim spelled.form [
+      | inl bare ↦ moved text spelled.day bare.0 day
+      | inr timed ↦ moved text (spelled.day ++ 47 ∷ timed.0) timed.1 (round_mark 47 (λ e. cc) spelled.day timed.0 day (one_line_time version timed.0 edge.time timed.2))
+    ]
+
+one_line_daylight : (version : ℕ) (standard : ℤ) (text : List ℕ) (dst : Dst) → SpellsDaylight version standard text dst → IsOneLine text
+one_line_daylight version standard text dst spelled =
+    let offset : IsOneLine spelled.offset = elim spelled.spells_offset [
+      | inl usual ↦ moved spelled.offset [] usual.0 none
+      | inr own ↦ one_line_offset spelled.offset dst.offset own
+    ] in
+    let edges = round_mark 44 (λ e. cc) spelled.start spelled.stop (one_line_edge version spelled.start dst.start spelled.spells_start) (one_line_edge version spelled.stop dst.stop spelled.spells_stop) in
+    moved text (spelled.name ++ (spelled.offset ++ 44 ∷ (spelled.start ++ 44 ∷ spelled.stop))) spelled.parts
+    (joined spelled.name (spelled.offset ++ 44 ∷ (spelled.start ++ 44 ∷ spelled.stop)) (one_line_name spelled.name dst.name spelled.spells_name)
+    (round_mark 44 (λ e. cc) spelled.offset (spelled.start ++ 44 ∷ spelled.stop) offset edges))
+
+one_line_rest : (version : ℕ) (standard : ℤ) (rest : List ℕ) (dst : Option Dst) → MatchOption dst (rest ≡ []) (SpellsDaylight version standard rest) → IsOneLine rest
+one_line_rest version standard rest None empty = moved rest [] empty none
+one_line_rest version standard rest (Some dst) spelled = one_line_daylight version standard rest dst spelled
+
 -- the text of a footer has no newline
 pub one_line : (version : ℕ) (text : List ℕ) (f : TzString) → Spells version text f → IsOneLine text
 one_line version text f spelled =
-    moved text (spelled.name ++ spelled.offset) spelled.parts
-    (joined spelled.name spelled.offset (one_line_name spelled.name f.std spelled.spells_name) (one_line_offset spelled.offset f.offset spelled.spells_offset))
+    let rest = one_line_rest version f.offset spelled.rest f.dst spelled.spells_rest in
+    moved text (spelled.name ++ (spelled.offset ++ spelled.rest)) spelled.parts
+    (joined spelled.name (spelled.offset ++ spelled.rest) (one_line_name spelled.name f.std spelled.spells_name)
+    (joined spelled.offset spelled.rest (one_line_offset spelled.offset f.offset spelled.spells_offset) rest))

@@ -1,26 +1,57 @@
 -- What a file answers at an instant: RFC 9636, 3.2 and 3.3.
-use Rattle.std.specs.Prelude.{◌≡◌, ℕ, ℤ, ◌⊎◌, List, [], slice_get, IsSomeAnd}
-use Rattle.zic_footer.specs.Footer.{TzString}
-use Rattle.zic_footer.specs.Grammar.{Spells}
-use Rattle.zic_footer.specs.Meaning.{Means}
+use Rattle.std.specs.Prelude.{◌≡◌, ◌≢◌, ℕ, ℤ, ◌<ℤ◌, ◌≤ℤ◌, ◌⊎◌, List, [], ◌∷◌, ◌++◌, All, Any, Option, Some, None}
 use Rattle.zic_base.specs.State.{Shown, shown}
-use Rattle.zic_table.specs.declared.content.LocalType.{LocalType}
-use Rattle.zic_table.specs.Content.{Content}
-use Rattle.zic_table.specs.Designation.{designation}
+use Rattle.zic_posix.specs.Footer.{TzString}
+use Rattle.zic_posix.specs.Grammar.{Spells}
+use Rattle.zic_posix.specs.Meaning.{Means}
+use Rattle.zic_table.specs.declared.content.Change.{Change}
+use Rattle.zic_table.specs.Content.{Content, IsStateOfType}
 use Rattle.zic_tzif.specs.declared.zone.Answer.{Answer}
-use Rattle.zic_tzif.specs.declared.zone.Answer.TheVariants.{Known, Unspecified}
+use Rattle.zic_tzif.specs.declared.zone.Answer.TheVariants as answer
 
--- what local time of this type is
-abbrev pub type_state : List ℕ → LocalType → Shown
-type_state names t = record { offset = t.offset; daylight = t.daylight; name = designation names t.place }
+-- the last transition that isn't after t
+pub record IsLastNotAfter (content : Content) (t : ℤ) (c : Change) : Type 0 where
+  pub earlier : List Change
+  pub later : List Change
+  pub is : content.changes ≡ earlier ++ c ∷ later
+  pub not_after : c.instant ≤ℤ t
+  pub last : All (λ other. t <ℤ other.instant) later
 
--- The content gives this state at the instant. Without transitions: the footer's, or the first type's where there is no footer.
+-- every transition comes after t
+abbrev pub IsBeforeAll : Content → ℤ → Type 0
+IsBeforeAll content t = All (λ c. t <ℤ c.instant) content.changes
+
+-- some transition comes after t, so that the footer doesn't speak of t
+abbrev pub IsBeforeLast : Content → ℤ → Type 0
+IsBeforeLast content t = Any (λ c. t <ℤ c.instant) content.changes
+
+-- the number of the type in force by the transitions: type 0 before all of them, and then that of the last one not after t
+abbrev pub IsTypeAt : Content → ℤ → ℕ → Type 0
+IsTypeAt content t number = (IsBeforeAll content t × (number ≡ 0)) ⊎ ((c : Change) × IsLastNotAfter content t c × (number ≡ c.number))
+
+-- no transition and no footer
+abbrev pub HasNeither : Content → Type 0
+HasNeither content = (content.changes ≡ []) × (content.text ≡ [])
+
+-- The content gives this state at the instant: before the last transition, and where there is neither a transition nor a footer, that of
+-- the type in force; else what the footer means.
 abbrev pub Gives : Content → ℤ → Shown → Type 0
 Gives content t state =
-    ((f : TzString) × Spells content.version content.text f × Means f t state)
-    ⊎ ((content.text ≡ []) × IsSomeAnd (slice_get content.types 0) (λ first. state ≡ type_state content.names first))
+    ((IsBeforeLast content t ⊎ HasNeither content) × ((number : ℕ) × IsTypeAt content t number × IsStateOfType content number state))
+    ⊎ ((IsBeforeLast content t → ⊥) × ((f : TzString) × Spells content.version content.text f × Means f t state))
 
--- the answer at an instant; without transitions it is never left open
-abbrev pub Answers : Content → ℤ → Answer → Type 0
-Answers content t (Known state) = Gives content t (shown state)
-Answers content t Unspecified = ⊥
+-- Local time is unspecified: the last transition isn't after t, and there is no footer.
+pub record IsUnspecified (content : Content) (t : ℤ) : Type 0 where
+  pub some : content.changes ≢ []
+  pub after : IsBeforeLast content t → ⊥
+  pub no_footer : content.text ≡ []
+
+-- the state of an answer, and nothing where local time is left open
+abbrev pub answered : Answer → Option Shown
+answered (answer.Known state) = Some (shown state)
+answered answer.Unspecified = None
+
+-- what a content answers at an instant
+abbrev pub Answers : Content → ℤ → Option Shown → Type 0
+Answers content t (Some state) = Gives content t state
+Answers content t None = IsUnspecified content t

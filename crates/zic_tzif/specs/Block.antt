@@ -1,10 +1,11 @@
 -- The second data block of a TZif file, and the footer: RFC 9636, 3.2 and 3.3.
-use Rattle.std.specs.Prelude.{ℕ, zero, suc, ◌+◌, Bool, ◌&&◌, nat_le, ◌==◌, List, [], ◌∷◌, take, drop, slice_index, unsigned_abs}
+use Rattle.std.specs.Prelude.{ℕ, zero, suc, ◌+◌, Bool, true, ◌&&◌, nat_le, ◌==◌, ℤ, int_lt, List, [], ◌∷◌, map, take, drop, slice_index, unsigned_abs}
 use Rattle.std.specs.List.{before_first}
 use Rattle.byteorder.specs.Endian.{big_number, twos_complement}
 use Rattle.zic_base.specs.declared.limit.TheConstants.{FARTHEST_FILE_OFFSET}
+use Rattle.zic_table.specs.declared.content.Change.{Change}
 use Rattle.zic_table.specs.declared.content.LocalType.{LocalType}
-use Rattle.zic_tzif.specs.Header.{second_counts, types_place, names_place, indicators_place, footer_place}
+use Rattle.zic_tzif.specs.Header.{second_counts, second_block, numbers_place, types_place, names_place, indicators_place, footer_place}
 
 -- six octets of a local time type: its offset, its flag, and the place of its designation
 abbrev pub type_in : List ℕ → LocalType
@@ -14,14 +15,37 @@ type_in octets = record {
   place = slice_index octets 5;
 }
 
--- the pieces of six octets that stand at the front, so many
-abbrev pub sixes : ℕ → List ℕ → List (List ℕ)
-sixes zero octets = []
-sixes (suc n) octets = take 6 octets ∷ sixes n (drop 6 octets)
+-- the pieces of this width that stand at the front, so many
+abbrev pub pieces : ℕ → ℕ → List ℕ → List (List ℕ)
+pieces width zero octets = []
+pieces width (suc n) octets = take width octets ∷ pieces width n (drop width octets)
+
+-- the time in eight octets
+abbrev pub time_in : List ℕ → ℤ
+time_in octets = twos_complement 8 (big_number 8 octets)
+
+-- the times of the transitions, and the numbers of the types that begin at them
+abbrev pub times_in : List ℕ → List ℤ
+times_in octets = map time_in (pieces 8 (second_counts octets).transitions (drop (second_block octets) octets))
+
+abbrev pub numbers_in : List ℕ → List ℕ
+numbers_in octets = take (second_counts octets).transitions (drop (numbers_place octets) octets)
+
+-- transitions at these times to the types of these numbers
+abbrev pub changes_at : List ℤ → List ℕ → List Change
+changes_at [] numbers = []
+changes_at (time ∷ times) [] = []
+changes_at (time ∷ times) (number ∷ numbers) = record { instant = time; number = number } ∷ changes_at times numbers
+
+-- each of the times comes before the next
+abbrev pub do_rise : List ℤ → Bool
+do_rise [] = true
+do_rise (time ∷ []) = true
+do_rise (time ∷ next ∷ times) = int_lt time next && do_rise (next ∷ times)
 
 -- the types' octets, and the designations'
 abbrev pub type_records : List ℕ → List (List ℕ)
-type_records octets = sixes (second_counts octets).types (drop (types_place octets) octets)
+type_records octets = pieces 6 (second_counts octets).types (drop (types_place octets) octets)
 
 abbrev pub names_in : List ℕ → List ℕ
 names_in octets = take (second_counts octets).characters (drop (names_place octets) octets)

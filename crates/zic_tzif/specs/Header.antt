@@ -33,7 +33,11 @@ second_block octets = second_header octets + 44
 abbrev pub second_counts : List ℕ → Counts
 second_counts octets = counts_at octets (second_header octets)
 
--- where the types of the second block begin, its designations, its indicators, and the footer behind it
+-- where the numbers of the types at the transitions of the second block begin, behind their times of eight octets; its types, its
+-- designations, its indicators, and the footer behind it
+abbrev pub numbers_place : List ℕ → ℕ
+numbers_place octets = second_block octets + (second_counts octets).transitions * 8
+
 abbrev pub types_place : List ℕ → ℕ
 types_place octets = second_block octets + (second_counts octets).transitions * 9
 

@@ -1,6 +1,8 @@
 -- Laws about what octets are a file.
-use Rattle.std.specs.Prelude.{◌≡◌, ℕ, List}
+use Rattle.std.specs.Prelude.{◌≡◌, ℕ, ℤ, List, Option}
+use Rattle.zic_base.specs.State.{Shown}
 use Rattle.zic_table.specs.Content.{Content}
+use Rattle.zic_tzif.specs.Answer.{Answers}
 use Rattle.zic_tzif.specs.declared.reason.Reason.{Reason}
 use Rattle.zic_tzif.specs.Reading.{IsFile, IsFault}
 
@@ -15,3 +17,9 @@ FilesSayOne = (octets : List ℕ) (a b : Content) → IsFile octets a → IsFile
 -- faulty octets have one reason
 abbrev pub FaultsAreOne : Type 0
 FaultsAreOne = (octets : List ℕ) (a b : Reason) → IsFault octets a → IsFault octets b → a ≡ b
+
+-- a file answers exactly one thing at every instant
+pub record FilesAnswerOnce : Type 0 where
+  pub some : (octets : List ℕ) (content : Content) → IsFile octets content → (t : ℤ) → (answer : Option Shown) × Answers content t answer
+  pub only : (octets : List ℕ) (content : Content) → IsFile octets content → (t : ℤ) (a b : Option Shown)
+      → Answers content t a → Answers content t b → a ≡ b

@@ -5,9 +5,9 @@ pub mod Header
 pub mod Laws
 pub mod Reading
 pub mod Writing
-pub use Rattle.zic_footer.specs.Footer
-pub use Rattle.zic_footer.specs.Grammar
-pub use Rattle.zic_footer.specs.Meaning
+pub use Rattle.zic_posix.specs.Footer
+pub use Rattle.zic_posix.specs.Grammar
+pub use Rattle.zic_posix.specs.Meaning
 pub use Rattle.zic_base.specs.State
 pub use Rattle.zic_table.specs.Content
 pub use Rattle.zic_table.specs.Designation

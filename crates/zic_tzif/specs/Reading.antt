@@ -1,21 +1,22 @@
--- Which octets are a TZif file, and what it says: RFC 9636, 3. The order of the checks is an own choice.
+-- Which octets are a TZif file, and what it says: RFC 9636, 3. Own choices: versions 2 and 3 alone, no leap seconds, at most 1,048,576
+-- octets, indicators looked at one by one, and the order of the checks.
 use Rattle.std.specs.Prelude.{◌≡◌, ℕ, ◌+◌, ◌-◌, Bool, ◌&&◌, ◌||◌, nat_lt, nat_le, ◌==◌, List, [], ◌∷◌, ◌++◌, map, length, take, drop, slice_index, Option, Some, None, MatchOption, ◌⊎◌}
 use Rattle.std.specs.List.{list_all, list_any}
 use Rattle.std.specs.Str.{bytes_eq}
 use Rattle.zic_base.specs.Check.{Check, check, first_failed}
 use Rattle.zic_base.specs.declared.limit.TheConstants.{LONGEST_FILE}
-use Rattle.zic_footer.specs.Footer.{TzString}
-use Rattle.zic_footer.specs.Grammar.{Spells}
-use Rattle.zic_table.specs.Content.{Content}
+use Rattle.zic_posix.specs.Footer.{TzString}
+use Rattle.zic_posix.specs.Parsing.{NeedsMemory}
+use Rattle.zic_table.specs.Content.{Content, IsFooter}
 use Rattle.zic_table.specs.Designation.{is_designated}
 use Rattle.zic_tzif.specs.declared.reason.ReadStop.{ReadStop}
 use Rattle.zic_tzif.specs.declared.reason.ReadStop.TheVariants as stop
 use Rattle.zic_tzif.specs.declared.reason.Reason.{Reason}
 use Rattle.zic_tzif.specs.declared.reason.Reason.TheVariants as reason
 use Rattle.zic_tzif.specs.Header.{Counts, counts_at, second_header, second_block, second_counts, footer_place}
-use Rattle.zic_tzif.specs.Block.{type_in, type_records, names_in, indicators_in, behind_newline, footer_text, is_type_record}
+use Rattle.zic_tzif.specs.Block.{type_in, times_in, do_rise, numbers_in, changes_at, type_records, names_in, indicators_in, behind_newline, footer_text, is_type_record}
 
--- the checks of the first header, and that its data block, which isn't looked at, and a second header are there
+-- the checks of the size and of the first header, and that its data block, which isn't looked at, and a second header are there
 abbrev pub first_checks : List ℕ → List (Check Reason)
 first_checks octets =
     check (nat_le (length octets) LONGEST_FILE) reason.TooLarge
@@ -26,11 +27,11 @@ first_checks octets =
     ∷ check (nat_le (second_block octets) (length octets)) reason.Short
     ∷ []
 
--- There is a type and a designation, and an indicator for no type or for each. While no transitions are read, their number is 0.
+-- There is a type and an octet of designations; standard indicators are none or one for each type, and so are UT indicators.
 abbrev pub are_counts : Counts → Bool
 are_counts c =
     nat_lt 0 c.types && nat_lt 0 c.characters && ((c.standard_indicators == 0) || (c.standard_indicators == c.types))
-    && ((c.ut_indicators == 0) || (c.ut_indicators == c.types)) && (c.transitions == 0)
+    && ((c.ut_indicators == 0) || (c.ut_indicators == c.types))
 
 -- the checks of the second header, and that its data block is there
 abbrev pub second_checks : List ℕ → List (Check Reason)
@@ -41,12 +42,14 @@ second_checks octets =
     ∷ check (nat_le (footer_place octets) (length octets)) reason.Short
     ∷ []
 
--- the checks of the second data block, by its designations, the octets of each type, and its indicators
-abbrev pub block_checks : List ℕ → List (List ℕ) → List ℕ → List (Check Reason)
-block_checks names records indicators =
-    check (list_all (λ r. is_designated names (type_in r).place) records) reason.Designation
-    ∷ check (list_all is_type_record records) reason.TypeRecord
-    ∷ check (list_all (λ b. nat_le b 1) indicators) reason.Indicators
+-- the checks of the second data block: of its times, of the numbers of their types, and of its designations, types and indicators
+abbrev pub block_checks : List ℕ → List (Check Reason)
+block_checks octets =
+    check (do_rise (times_in octets)) reason.TimesNotRising
+    ∷ check (list_all (λ number. nat_lt number (second_counts octets).types) (numbers_in octets)) reason.TypeIndex
+    ∷ check (list_all (λ r. is_designated (names_in octets) (type_in r).place) (type_records octets)) reason.Designation
+    ∷ check (list_all is_type_record (type_records octets)) reason.TypeRecord
+    ∷ check (list_all (λ b. nat_le b 1) (indicators_in octets)) reason.Indicators
     ∷ []
 
 -- the checks of the newlines round the footer's text
@@ -59,23 +62,21 @@ footer_checks octets =
 
 -- the checks up to the second newline, in order
 abbrev pub checks : List ℕ → List (Check Reason)
-checks octets =
-    first_checks octets ++ second_checks octets
-    ++ block_checks (names_in octets) (type_records octets) (indicators_in octets) ++ footer_checks octets
+checks octets = first_checks octets ++ second_checks octets ++ block_checks octets ++ footer_checks octets
 
 -- what the octets say, where they are a file
 abbrev pub content_in : List ℕ → Content
 content_in octets = record {
   version = slice_index octets 4 - 48;
-  changes = [];
+  changes = changes_at (times_in octets) (numbers_in octets);
   types = map type_in (type_records octets);
   names = names_in octets;
   text = footer_text octets;
 }
 
--- the text is empty, or a TZ string of the version
-abbrev pub IsFooterText : ℕ → List ℕ → Type 0
-IsFooterText version text = (text ≡ []) ⊎ ((f : TzString) × Spells version text f)
+-- the footer's text is empty, or spells a TZ string of the version that agrees with the last transition
+abbrev pub HasFooter : Content → Type 0
+HasFooter content = (content.text ≡ []) ⊎ ((f : TzString) × IsFooter content f)
 
 -- nothing follows the second newline
 abbrev pub IsWhole : List ℕ → Type 0
@@ -84,20 +85,27 @@ IsWhole octets = length octets ≡ footer_place octets + length (footer_text oct
 -- the octets are a file, and this is what it says
 pub record IsFile (octets : List ℕ) (content : Content) : Type 0 where
   pub passes : first_failed (checks octets) ≡ None
-  pub footer : IsFooterText content.version content.text
+  pub footer : HasFooter content
   pub whole : IsWhole octets
   pub says : content ≡ content_in octets
 
 -- the first check that the octets fail has this reason
 abbrev pub IsFault : List ℕ → Reason → Type 0
 IsFault octets r = MatchOption (first_failed (checks octets))
-    (((r ≡ reason.Footer) × (IsFooterText (content_in octets).version (footer_text octets) → ⊥))
-    ⊎ ((r ≡ reason.TrailingBytes) × IsFooterText (content_in octets).version (footer_text octets) × (IsWhole octets → ⊥)))
+    (((r ≡ reason.Footer) × (HasFooter (content_in octets) → ⊥))
+    ⊎ ((r ≡ reason.TrailingBytes) × HasFooter (content_in octets) × (IsWhole octets → ⊥)))
     (λ first. r ≡ first)
 
 -- the octets are a file
 abbrev pub IsSomeFile : List ℕ → Type 0
 IsSomeFile octets = (content : Content) × IsFile octets content
+
+-- Where memory may be wanting: with octets that are a file, or that pass all checks up to the second newline, with a footer's text that
+-- spells a TZ string with a long name. Whether such a footer agrees with the last transition is seen by what takes memory.
+abbrev pub MayWantMemory : List ℕ → Type 0
+MayWantMemory octets =
+    IsSomeFile octets
+    ⊎ ((first_failed (checks octets) ≡ None) × NeedsMemory (content_in octets).version (footer_text octets))
 
 -- the reason that a reader tells, and nothing where it is want of memory
 abbrev pub reason_of : ReadStop → Option Reason

@@ -1,4 +1,5 @@
--- The one form in which a file is written. Own choice: an empty first block, no indicators, reserved octets 0.
+-- The one form in which a file is written. Own choice: a first block of one type and one octet of designations, all 0, no
+-- indicators, reserved octets 0.
 use Rattle.std.specs.Prelude.{ℕ, ◌+◌, if◌then◌else◌, List, [], ◌∷◌, ◌++◌, map, length, replicate}
 use Rattle.std.specs.Int.{w32, w64, cast_unsigned}
 use Rattle.std.specs.List.{flat_map}

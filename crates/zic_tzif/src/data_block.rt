@@ -5,11 +5,18 @@ ghost use Rattle.std.specs.List.{list_all};
 
 use crate::header::Counts;
 use crate::reason::Reason;
+use crate::transition::{TIME_LENGTH, do_rise, have_types};
 use crate::type_record::{RECORD_LENGTH, are_designated, are_type_records};
 
 /// A data block without leap seconds, cut into its parts.
 #[derive(Clone, Copy)]
 pub struct DataBlock<'a> {
+    /// How many transitions there are.
+    pub transitions: u32,
+    /// Their times.
+    pub times: &'a [u8],
+    /// The numbers of the types that begin at them.
+    pub numbers: &'a [u8],
     /// How many local time types there are.
     pub types: u32,
     /// Their records.
@@ -20,14 +27,14 @@ pub struct DataBlock<'a> {
     pub indicators: &'a [u8],
     /// The place behind the block.
     pub end: usize,
-    ghost enough: { types * 6 ≤ length records.now },
+    ghost times_are_there: { transitions * 8 ≤ length times.now },
+    ghost numbers_are_there: { length numbers.now ≡ transitions },
+    ghost records_are_there: { types * 6 ≤ length records.now },
 }
 
 impl<'a> DataBlock<'a> {
-    ghost use Rattle.zic_tzif.specs.Block.{sixes};
     ghost use Rattle.zic_tzif.specs.Header.{block_length, second_block, second_counts};
-    ghost use Rattle.zic_tzif.specs.code.Parts.{Checks, HasParts};
-    ghost use Rattle.zic_tzif.specs.Reading.{block_checks};
+    ghost use Rattle.zic_tzif.specs.code.Parts.{Checks, HasParts, checks_of};
 
     /// The second data block, which begins at `place`.
     pub fn second(octets: &'a [u8], place: usize, counts: Counts) -> Self
@@ -36,28 +43,37 @@ impl<'a> DataBlock<'a> {
         requires inside { place + block_length counts 8 ≤ length octets.now }
         ensures { HasParts octets.now result }
     {
-        let types = counts.types;
-        let (_, rest) = octets.split_at(place + counts.transitions as usize * 9);
-        let (records, rest) = rest.split_at(types as usize * RECORD_LENGTH);
+        let transitions = counts.transitions as usize;
+        let (_, rest) = octets.split_at(place);
+        let (times, rest) = rest.split_at(transitions * TIME_LENGTH);
+        let (numbers, rest) = rest.split_at(transitions);
+        let (records, rest) = rest.split_at(counts.types as usize * RECORD_LENGTH);
         let (names, rest) = rest.split_at(counts.characters as usize);
         let number = counts.standard_indicators as usize + counts.ut_indicators as usize;
         let (indicators, _) = rest.split_at(number);
-        let end = place + counts.block_length(8);
         DataBlock {
-            types,
+            transitions: counts.transitions,
+            times,
+            numbers,
+            types: counts.types,
             records,
             names,
             indicators,
-            end,
+            end: place + counts.block_length(8),
         }
     }
 
-    /// Checks the designations, then the other octets of the records, then the indicators.
+    /// Checks the times, the numbers of their types, the designations, the other octets of the records, and the
+    /// indicators, in this order.
     pub fn check(&self) -> Result<(), Reason>
-        ensures { Checks
-            (block_checks self.now.names.now (sixes self.now.types self.now.records.now)
-            self.now.indicators.now) (λ _. Unit {0}) result }
+        ensures { Checks (checks_of self.now) (λ _. Unit {0}) result }
     {
+        if !do_rise(self.transitions, self.times) {
+            return Err(Reason::TimesNotRising);
+        }
+        if !have_types(self.numbers, self.types) {
+            return Err(Reason::TypeIndex);
+        }
         if !are_designated(self.types, self.records, self.names) {
             return Err(Reason::Designation);
         }

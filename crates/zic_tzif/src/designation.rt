@@ -1,8 +1,9 @@
 //! Designations of local time types.
 
-ghost use Rattle.std.specs.Prelude.{◌≡◌, ◌==◌, ◌≤◌, ◌&&◌, nat_le, length, position};
-ghost use Rattle.std.specs.List.{before_first, list_all};
+ghost use Rattle.std.specs.Prelude.{◌≡◌, ℕ, ◌==◌, ◌<◌, ◌≤◌, ◌&&◌, ◌||◌, nat_le, false, length, position, get_or};
+ghost use Rattle.std.specs.List.{before_first};
 ghost use Rattle.zic_table.specs.Designation.{designation, is_designated};
+ghost use Rattle.zic_tzif.specs.declared.designation.TheConstants.{PLACES};
 
 /// Where the first octet stands that equals `mark`.
 pub fn place_of(octets: &[u8], mark: u8) -> Option<usize>
@@ -19,13 +20,6 @@ fn before(octets: &[u8], mark: u8) -> &[u8]
     &octets[..end]
 }
 
-/// Whether all octets are printable ASCII.
-fn is_printable(octets: &[u8]) -> bool
-    ensures { result ≡ list_all (λ b. nat_le 32 b && nat_le b 126) octets.now }
-{
-    octets.iter().all(|b| 32 <= *b && *b <= 126)
-}
-
 /// The designation that begins at a place, without its NUL.
 pub fn designation(names: &[u8], place: u8) -> &[u8]
     requires { place ≤ length names.now }
@@ -34,11 +28,40 @@ pub fn designation(names: &[u8], place: u8) -> &[u8]
     before(&names[place as usize..], 0)
 }
 
-/// Whether a designation of printable ASCII, ended by NUL, begins at the place.
-pub fn is_designated(names: &[u8], place: u8) -> bool
-    ensures { result ≡ is_designated names.now place }
+/// The designation of this length that begins at a place.
+pub fn designation_of(names: &[u8], place: u8, size: usize) -> &[u8]
+    requires place { place ≤ length names.now }
+    requires size { size ≡ length (designation names.now place) }
+    ensures { result.now ≡ designation names.now place }
 {
-    (place as usize) < names.len()
-        && names[place as usize..].contains(&0)
-        && is_printable(designation(names, place))
+    let begun = &names[place as usize..];
+    &begun[..size]
+}
+
+/// Whether a designation of printable ASCII begins at an octet, where one does behind it or not.
+fn begins_at(octet: u8, behind: bool) -> bool
+    ensures { result ≡ ((octet == 0) || (behind && (nat_le 32 octet && nat_le octet 126))) }
+{
+    octet == 0 || behind && 32 <= octet && octet <= 126
+}
+
+/// How many places of designations there are: a place is an octet. RFC 9636, 3.2.
+pub const PLACES: usize = 256;
+
+/// Whether a designation of printable ASCII, ended by NUL, begins at each place.
+///
+/// Takes one pass over the octets, however many types there are.
+pub fn designated_places(names: &[u8]) -> [bool; PLACES]
+    ensures { (place : ℕ) → place < PLACES → get_or result place false ≡ is_designated names.now place }
+{
+    let mut places = [false; PLACES];
+    let mut begins = false;
+    for passed in 0..names.len() {
+        let place = names.len() - 1 - passed;
+        begins = begins_at(names[place], begins);
+        if place < PLACES {
+            places[place] = begins;
+        }
+    }
+    places
 }

@@ -48,7 +48,8 @@ impl Counts {
             + self.ut_indicators as usize
     }
 
-    /// Whether a second data block may have these counts: until transitions are read, it has none.
+    /// Whether a second data block may have these counts: it has a type, designations, and for each type an indicator or
+    /// for none.
     pub fn are_readable(self) -> bool
         ensures { result ≡ are_counts self }
     {
@@ -56,6 +57,5 @@ impl Counts {
             && self.characters > 0
             && (self.standard_indicators == 0 || self.standard_indicators == self.types)
             && (self.ut_indicators == 0 || self.ut_indicators == self.types)
-            && self.transitions == 0
     }
 }

@@ -1,6 +1,6 @@
 //! Laws about the definitions that the contracts cite. These functions do nothing.
 
-ghost use Rattle.zic_tzif.specs.Laws.{FilesHaveNoFault, FilesSayOne, FaultsAreOne};
+ghost use Rattle.zic_tzif.specs.Laws.{FilesHaveNoFault, FilesSayOne, FaultsAreOne, FilesAnswerOnce};
 
 /// No octets are both a file and faulty.
 pub fn files_have_no_fault()
@@ -15,4 +15,9 @@ pub fn files_say_one()
 /// Faulty octets have one reason.
 pub fn faults_are_one()
     ensures { FaultsAreOne }
+{}
+
+/// A file answers exactly one thing at every instant.
+pub fn files_answer_once()
+    ensures { FilesAnswerOnce }
 {}

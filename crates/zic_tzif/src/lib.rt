@@ -7,6 +7,10 @@ mod header;
 pub mod laws;
 mod reading;
 mod reason;
+#[cfg(test)]
+mod samples;
+mod times;
+mod transition;
 mod type_record;
 mod writing;
 mod zone;

@@ -1,21 +1,30 @@
 //! Octets in.
 
-ghost use Rattle.std.specs.Prelude.{◌≡◌, ◌≢◌, ℕ, ◌+◌, ◌≤◌, length, take, drop, IfOk, OnOk, IfErr};
+ghost use Rattle.std.specs.Prelude.{◌≡◌, ◌+◌, ◌≤◌, ◌⊎◌, [], None, length, take, drop, IfOk};
+ghost use Rattle.std.specs.Bool.{Decides};
+ghost use Rattle.std.specs.Option.{MatchOption};
+ghost use Rattle.zic_base.specs.Check.{first_failed};
 ghost use Rattle.zic_base.specs.Memory.{IfRefusal, NeverRefuses, OnWantOfMemory};
+ghost use Rattle.zic_base.specs.State.{shown};
+ghost use Rattle.zic_posix.specs.Parsing.{NeedsMemory};
+ghost use Rattle.zic_table.specs.Content.{IsFooter, type_state};
 ghost use Rattle.zic_tzif.specs.Header.{second_header, footer_place};
-ghost use Rattle.zic_tzif.specs.Reading.{first_checks, second_checks, footer_checks, checks, IsFooterText, IsFile, IsSomeFile, IsFault, reason_of};
-ghost use Rattle.zic_tzif.specs.code.Kept.{IsFooterOf, IsKept};
-ghost use Rattle.zic_tzif.specs.code.Parts.{Checks, IsFirstPart, IsBlock, IsText, AreParts, content_of};
+ghost use Rattle.zic_tzif.specs.Reading.{first_checks, second_checks, footer_checks, checks, HasFooter, IsFile, IsSomeFile, IsFault, MayWantMemory, reason_of};
+ghost use Rattle.zic_tzif.specs.code.Kept.{IsKept};
+ghost use Rattle.zic_tzif.specs.code.Parts.{Checks, IsFirstPart, IsBlock, IsText, AreParts, DoesAgree, checks_of, content_of};
 
 use crate::data_block::DataBlock;
-use crate::designation::place_of;
+use crate::designation::{designation, place_of};
 use crate::header::{HEADER_LENGTH, counts_at};
 use crate::reason::{ReadStop, Reason};
-use crate::type_record::local_types;
+use crate::transition::{last_change, times};
+use crate::type_record::{local_types, type_at};
 use crate::zone::Zone;
 use std::alloc::{AllocError, Global};
-use zic_base::LONGEST_FILE;
-use zic_footer::{Footer, ParseStop, parse};
+use zic_base::{LONGEST_FILE, State};
+use zic_posix::laws::means_one_state;
+use zic_posix::{Footer, ParseStop, parse, spells_at_most_one};
+use zic_table::LocalType;
 
 /// What a header begins with.
 const MAGIC: &[u8] = b"TZif";
@@ -136,69 +145,91 @@ fn parts_of(octets: &[u8]) -> Result<Parts<'_>, Reason>
     })
 }
 
-/// The footer of a text, or `None` for no text.
-fn footer_of(alloc: Global, text: &[u8]) -> Result<Option<Footer>, ReadStop>
-    ensures ok { IfOk result (λ footer. (version : ℕ) → IsFooterOf version text.now footer) }
-    ensures err { IfRefusal reason_of result
-        (λ reason. (reason ≡ Reason.Footer) × ((version : ℕ) → IsFooterText version text.now → ⊥)) }
-    ensures memory { OnWantOfMemory reason_of result ((version : ℕ) → IsFooterText version text.now) }
+/// Whether a state is that of local time of this type.
+fn is_state_of(state: &State<'_>, local_type: LocalType, names: &[u8]) -> bool
+    requires { local_type.place ≤ length names.now }
+    ensures { Decides result (shown state.now ≡ type_state names.now local_type) }
 {
-    if text.is_empty() {
+    state.offset == local_type.offset
+        && state.daylight == local_type.daylight
+        && state.name == designation(names, local_type.place)
+}
+
+/// Whether the footer means, at the last transition, the type that begins there. With no transition it agrees.
+fn does_agree(parts: &Parts<'_>, footer: &Footer) -> bool
+    requires { first_failed (checks_of parts.now.block) ≡ None }
+    ensures { Decides result (DoesAgree (content_of parts.now) footer.now) }
+{
+    let block = &parts.block;
+    let Some(change) = last_change(block.times, block.numbers) else {
+        return true;
+    };
+    let local_type = type_at(block.types, block.records, change.number);
+    // What is not the state that the footer means, it does not mean.
+    means_one_state();
+    is_state_of(&footer.state(change.instant), local_type, block.names)
+}
+
+/// The footer of the text, or `None` for no text.
+fn footer_of(alloc: Global, parts: &Parts<'_>) -> Result<Option<Footer>, ReadStop>
+    requires version { (parts.now.version ≡ 2) ⊎ (parts.now.version ≡ 3) }
+    requires passes { first_failed (checks_of parts.now.block) ≡ None }
+    ensures ok { IfOk result (λ footer. MatchOption footer (parts.now.text.now ≡ []) (IsFooter (content_of parts.now))) }
+    ensures err { IfRefusal reason_of result
+        (λ reason. (reason ≡ Reason.Footer) × (HasFooter (content_of parts.now) → ⊥)) }
+    ensures memory { OnWantOfMemory reason_of result (NeedsMemory parts.now.version parts.now.text.now) }
+{
+    if parts.text.is_empty() {
         return Ok(None);
     }
-    match parse(alloc, text) {
-        Ok(footer) => Ok(Some(footer)),
+    // No other footer of this text may agree.
+    spells_at_most_one();
+    match parse(alloc, parts.text, parts.version) {
+        Ok(footer) => {
+            if does_agree(parts, &footer) {
+                Ok(Some(footer))
+            } else {
+                Err(ReadStop::Bad(Reason::Footer))
+            }
+        }
         Err(ParseStop::BadFooter) => Err(ReadStop::Bad(Reason::Footer)),
         Err(ParseStop::Memory) => Err(ReadStop::Memory),
     }
 }
 
-/// Checks that the octets end here.
-fn check_end(octets: &[u8], end: usize) -> Result<(), Reason>
-    ensures ok { OnOk result (length octets.now ≡ end) }
-    ensures err { IfErr result (λ reason. (reason ≡ Reason.TrailingBytes) × (length octets.now ≢ end)) }
-{
-    if octets.len() != end {
-        return Err(Reason::TrailingBytes);
-    }
-    Ok(())
-}
-
 /// A zone of these parts and the footer of their text.
-fn zone_of(alloc: Global, parts: Parts<'_>, footer: Option<Footer>) -> Result<Zone, AllocError>
-    requires { IsKept (content_of parts) footer }
-    ensures { IfOk result (λ zone. zone ≡ content_of parts.entry) }
+fn zone_of(alloc: Global, parts: &Parts<'_>, footer: Option<Footer>) -> Result<Zone, AllocError>
+    requires { IsKept (content_of parts.now) footer }
+    ensures { IfOk result (λ zone. zone ≡ content_of parts.now) }
 {
-    let types = local_types(alloc, parts.block.types, parts.block.records)?;
-    let names = Vec::from_slice(alloc, parts.block.names)?;
+    let block = &parts.block;
+    let times = times(alloc, block.numbers.len(), block.times)?;
+    let numbers = Vec::from_slice(alloc, block.numbers)?;
+    let types = local_types(alloc, block.types, block.records)?;
+    let names = Vec::from_slice(alloc, block.names)?;
     let text = Vec::from_slice(alloc, parts.text)?;
-    Ok(Zone::new(parts.version, types, names, text, footer))
+    let version = parts.version;
+    Zone::new(alloc, version, times, numbers, types, names, text, footer)
 }
 
 /// Reads a TZif file of version 2 or 3 of at most 1,048,576 octets, or tells the first check that it fails.
 ///
-/// The first data block and the reserved octets aren't looked at. Until transitions are read, a
-/// file with one is `Counts`, and until footers with a daylight part are read, a file with one is
-/// `Footer`. `Memory` only for octets that are a file.
+/// The content of the first data block and the reserved octets aren't looked at. `Memory` only for octets that are a file,
+/// or whose footer's text has a name of more than 16 bytes, once all before it passes. All memory that is asked for lies
+/// within what the octets hold.
 pub fn read(alloc: Global, octets: &[u8]) -> Result<Zone, ReadStop>
     ensures ok { IfOk result (IsFile octets.now) }
     ensures only { IsSomeFile octets.now → NeverRefuses reason_of result }
     ensures err { IfRefusal reason_of result (IsFault octets.now) }
-    ensures memory { OnWantOfMemory reason_of result (IsSomeFile octets.now) }
+    ensures memory { OnWantOfMemory reason_of result (MayWantMemory octets.now) }
 {
     let parts = parts_of(octets)?;
+    let footer = footer_of(alloc, &parts)?;
     let end = parts.block.end + parts.text.len() + 2;
-    match footer_of(alloc, parts.text) {
-        Ok(footer) => {
-            check_end(octets, end)?;
-            Ok(zone_of(alloc, parts, footer)?)
-        }
-        Err(ReadStop::Bad(reason)) => Err(ReadStop::Bad(reason)),
-        Err(ReadStop::Memory) => {
-            check_end(octets, end)?;
-            Err(ReadStop::Memory)
-        }
+    if octets.len() != end {
+        return Err(ReadStop::Bad(Reason::TrailingBytes));
     }
+    Ok(zone_of(alloc, &parts, footer)?)
 }
 
 #[cfg(test)]

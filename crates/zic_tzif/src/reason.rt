@@ -13,8 +13,7 @@ pub enum Reason {
     Version = 3,
     /// The second header's first five octets are not those of the first.
     HeadersDiffer = 4,
-    /// There is no type or no designation, or the number of indicators is neither 0 nor that of the types.
-    /// Until transitions are read, also where there are some.
+    /// There is no type or no designation, or the number of standard or UT indicators is neither 0 nor that of the types.
     Counts = 5,
     /// There are leap seconds.
     LeapSeconds = 6,
@@ -29,7 +28,6 @@ pub enum Reason {
     /// An indicator is neither 0 nor 1.
     Indicators = 11,
     /// No newline and TZ string stand where the footer does, or it disagrees with the last transition.
-    /// Until daylight parts are read, also where the string has one.
     Footer = 12,
     /// Octets follow the footer.
     TrailingBytes = 13,

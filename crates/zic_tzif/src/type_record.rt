@@ -1,11 +1,11 @@
 //! Records of local time types.
 
-ghost use Rattle.std.specs.Prelude.{◌≡◌, ◌*◌, ◌≤◌, length, map, IfOk};
+ghost use Rattle.std.specs.Prelude.{◌≡◌, ◌*◌, ◌<◌, ◌≤◌, length, map, slice_get, Some, IfOk};
 ghost use Rattle.std.specs.List.{list_all};
 ghost use Rattle.zic_table.specs.Designation.{is_designated};
-ghost use Rattle.zic_tzif.specs.Block.{sixes, type_in, is_type_record};
+ghost use Rattle.zic_tzif.specs.Block.{pieces, type_in, is_type_record};
 
-use crate::designation::is_designated;
+use crate::designation::designated_places;
 use byteorder::{BigEndian, ByteOrder};
 use std::alloc::{AllocError, Global};
 use zic_base::FARTHEST_FILE_OFFSET;
@@ -26,6 +26,16 @@ fn local_type(octets: &[u8]) -> LocalType
     }
 }
 
+/// The local time type of this number, of so many.
+pub fn type_at(count: u32, records: &[u8], number: u8) -> LocalType
+    requires enough { count * 6 ≤ length records.now }
+    requires inside { number < count }
+    ensures { slice_get (map type_in (pieces 6 count records.now)) number ≡ Some result }
+{
+    let place = number as usize * RECORD_LENGTH;
+    local_type(&records[place..place + RECORD_LENGTH])
+}
+
 /// Whether a record's flag is 0 or 1, and its offset within 25:59:59 either way.
 fn is_type_record(octets: &[u8]) -> bool
     requires { 6 ≤ length octets.now }
@@ -38,12 +48,13 @@ fn is_type_record(octets: &[u8]) -> bool
 pub fn are_designated(count: u32, records: &[u8], names: &[u8]) -> bool
     requires { count * 6 ≤ length records.now }
     ensures { result
-        ≡ list_all (λ r. is_designated names.now (type_in r).place) (sixes count records.now) }
+        ≡ list_all (λ r. is_designated names.now (type_in r).place) (pieces 6 count records.now) }
 {
+    let places = designated_places(names);
     let mut rest = records;
     for _ in 0..count {
         let (record, after) = rest.split_at(RECORD_LENGTH);
-        if !is_designated(names, record[5]) {
+        if !places[record[5] as usize] {
             return false;
         }
         rest = after;
@@ -54,7 +65,7 @@ pub fn are_designated(count: u32, records: &[u8], names: &[u8]) -> bool
 /// Whether the flags and offsets of so many records are right.
 pub fn are_type_records(count: u32, records: &[u8]) -> bool
     requires { count * 6 ≤ length records.now }
-    ensures { result ≡ list_all is_type_record (sixes count records.now) }
+    ensures { result ≡ list_all is_type_record (pieces 6 count records.now) }
 {
     let mut rest = records;
     for _ in 0..count {
@@ -70,7 +81,7 @@ pub fn are_type_records(count: u32, records: &[u8]) -> bool
 /// The local time types of so many records.
 pub fn local_types(alloc: Global, count: u32, records: &[u8]) -> Result<Vec<LocalType>, AllocError>
     requires { count * 6 ≤ length records.now }
-    ensures { IfOk result (λ v. v.items ≡ map type_in (sixes count records.now)) }
+    ensures { IfOk result (λ v. v.items ≡ map type_in (pieces 6 count records.now)) }
 {
     let mut types = Vec::with_capacity(alloc, count as usize)?;
     let mut rest = records;

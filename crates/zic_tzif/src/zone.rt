@@ -1,18 +1,28 @@
 //! A file that was read, and what it answers.
 
-ghost use Rattle.std.specs.Prelude.{◌≡◌};
+ghost use Rattle.std.specs.Prelude.{◌≡◌, ◌<◌, ◌≤◌, length, map, All, IfOk};
+ghost use Rattle.zic_table.specs.Content.{IsLocalType};
+ghost use Rattle.zic_tzif.specs.code.Kept.{name_length};
 
-use crate::designation::designation;
+use crate::designation::{designation, designation_of};
+use crate::times::Times;
+use std::alloc::{AllocError, Global};
 use std::marker::Model;
 use zic_base::State;
-use zic_footer::Footer;
+use zic_posix::Footer;
 use zic_table::LocalType;
 
 /// A TZif file that was read.
 #[derive(Debug, Drop)]
 pub struct Zone {
     version: u8,
+    /// Of the transitions.
+    times: Times,
+    /// Of the types that begin at the transitions.
+    numbers: Vec<u8>,
     types: Vec<LocalType>,
+    /// Of the types' designations.
+    lengths: Vec<usize>,
     names: Vec<u8>,
     text: Vec<u8>,
     footer: Option<Footer>,
@@ -23,11 +33,24 @@ impl Model for Zone {
 
     ghost Value = { Content };
 
-    ghost use Rattle.zic_tzif.specs.code.Kept.{IsKept, plain};
+    ghost use Rattle.zic_tzif.specs.Block.{changes_at};
+    ghost use Rattle.zic_tzif.specs.code.Kept.{IsStored};
 
-    ghost view = { λ z. plain z.version z.types.items z.names.items z.text.items };
+    ghost view = { λ z. record {
+      version = z.version;
+      changes = changes_at z.times.times.items z.numbers.items;
+      types = z.types.items;
+      names = z.names.items;
+      text = z.text.items;
+    } };
 
-    ghost invariant = { λ z. IsKept (plain z.version z.types.items z.names.items z.text.items) z.footer };
+    ghost invariant = { λ z. IsStored z.times.times.items z.numbers.items z.lengths.items (record {
+      version = z.version;
+      changes = changes_at z.times.times.items z.numbers.items;
+      types = z.types.items;
+      names = z.names.items;
+      text = z.text.items;
+    }) z.footer };
 }
 
 /// What a file says of an instant.
@@ -40,29 +63,40 @@ pub enum Answer<'a> {
 }
 
 impl Zone {
-    ghost use Rattle.std.specs.Prelude.{slice_get, IsSomeAnd};
     ghost use Rattle.zic_base.specs.State.{shown};
-    ghost use Rattle.zic_tzif.specs.Answer.{Answers, type_state};
-    ghost use Rattle.zic_tzif.specs.code.Kept.{IsKept, plain};
+    ghost use Rattle.zic_tzif.specs.Answer.{Answers, answered};
+    ghost use Rattle.zic_tzif.specs.code.After.{IsNumberAfter, IsStateAfter};
+    ghost use Rattle.zic_table.specs.Content.{IsStateOfType};
+    ghost use Rattle.zic_tzif.specs.code.Kept.{IsKept};
+    ghost use Rattle.zic_tzif.specs.Block.{changes_at};
 
-    /// A zone of these parts, with the footer of the text.
+    /// A zone of these parts: the times of its transitions and the numbers of the types that begin at them, the types, the
+    /// octets of designations, and the footer's text and the footer.
     pub(crate) fn new(
+        alloc: Global,
         version: u8,
+        times: Vec<i64>,
+        numbers: Vec<u8>,
         types: Vec<LocalType>,
         names: Vec<u8>,
         text: Vec<u8>,
         footer: Option<Footer>,
-    ) -> Zone
-        requires { IsKept (plain version types.items names.items text.items) footer }
-        ensures { result ≡ plain version types.items names.items text.items }
+    ) -> Result<Zone, AllocError>
+        requires as_many { length times.items ≡ length numbers.items }
+        requires kept { IsKept (record { version = version; changes = changes_at times.items numbers.items; types = types.items; names = names.items; text = text.items }) footer }
+        ensures { IfOk result (λ zone. zone ≡ record { version = version; changes = changes_at times.items numbers.items; types = types.items; names = names.items; text = text.items }) }
     {
-        Zone {
+        let lengths = name_lengths(alloc, &names, &types)?;
+        Ok(Zone {
             version,
+            times: Times::new(times),
+            numbers,
             types,
+            lengths,
             names,
             text,
             footer,
-        }
+        })
     }
 
     /// The footer, without its newlines.
@@ -79,29 +113,72 @@ impl Zone {
         self.version
     }
 
-    /// Local time at an instant, in seconds from 1970-01-01T00:00:00 UT, without leap seconds.
+    /// Local time at an instant, in seconds from 1970-01-01T00:00:00 UT, without leap seconds. RFC 9636, 3.2 and 3.3.
     ///
-    /// While no transitions are read, it is never left open: it is the footer's, or that of the
-    /// first type where there is no footer.
+    /// Before the first transition it is that of the first type, then that of the last transition's type, and from the last
+    /// transition on the footer's. It is left open from the last transition on where there is no footer; with neither it is
+    /// that of the first type. Takes a binary search.
     pub fn at(&self, t: i64) -> Answer<'_>
-        ensures { Answers self.now t result }
+        ensures { Answers self.now t (answered result) }
     {
-        Answer::Known(match &self.footer {
-            Some(footer) => footer.state(),
-            None => self.first_state(),
-        })
+        let count = self.times.count_not_after(t);
+        if count < self.numbers.len() {
+            return Answer::Known(self.state_after(count));
+        }
+        match &self.footer {
+            Some(footer) => Answer::Known(footer.state(t)),
+            None if count == 0 => Answer::Known(self.state_after(0)),
+            None => Answer::Unspecified,
+        }
     }
 
-    /// Local time of the first type.
-    fn first_state(&self) -> State<'_>
-        ensures { IsSomeAnd (slice_get self.now.types 0)
-            (λ first. shown result ≡ type_state self.now.names first) }
+    /// Local time of the type in force after so many transitions.
+    fn state_after(&self, count: usize) -> State<'_>
+        requires { count ≤ length self.now.changes }
+        ensures { IsStateAfter self.now count (shown result) }
     {
-        let first = self.types[0];
+        self.state_of(self.number_after(count))
+    }
+
+    /// The number of the type in force after so many transitions.
+    fn number_after(&self, count: usize) -> u8
+        requires { count ≤ length self.now.changes }
+        ensures number { IsNumberAfter self.now.changes count result }
+        ensures inside { result < length self.now.types }
+    {
+        let numbers = self.numbers.as_slice();
+        if count == 0 {
+            return 0;
+        }
+        numbers[count - 1]
+    }
+
+    /// Local time of the type of a number.
+    fn state_of(&self, number: u8) -> State<'_>
+        requires { number < length self.now.types }
+        ensures { IsStateOfType self.now number (shown result) }
+    {
+        let local_type = self.types[number as usize];
+        let length = self.lengths[number as usize];
         State {
-            offset: first.offset,
-            daylight: first.daylight,
-            name: designation(&self.names, first.place),
+            offset: local_type.offset,
+            daylight: local_type.daylight,
+            name: designation_of(&self.names, local_type.place, length),
         }
     }
 }
+
+/// The lengths of the types' designations.
+fn name_lengths(alloc: Global, names: &[u8], types: &[LocalType]) -> Result<Vec<usize>, AllocError>
+    requires { All (IsLocalType names.now) types.now }
+    ensures { IfOk result (λ v. v.items ≡ map (name_length names.now) types.now) }
+{
+    let mut lengths = Vec::with_capacity(alloc, types.len())?;
+    for local_type in types {
+        lengths.push(designation(names, local_type.place).len())?;
+    }
+    Ok(lengths)
+}
+
+#[cfg(test)]
+mod tests;

@@ -1,65 +1,51 @@
 //! The table of a zone.
 
-ghost use Rattle.std.specs.Prelude.{◌≡◌, ◌∷◌, [], ◌++◌, IfOk};
+ghost use Rattle.std.specs.Prelude.{IfOk};
 ghost use Rattle.zic_base.specs.Fault.{fault_of};
-ghost use Rattle.zic_base.specs.Memory.{NeverRefuses};
-ghost use Rattle.zic_footer.specs.Grammar.{Spells};
-ghost use Rattle.zic_footer.specs.Making.{IsMade};
-ghost use Rattle.zic_table.specs.Content.{IsWritable};
-ghost use Rattle.zic_table.specs.Image.{IsContentOf, NeverChanges};
+ghost use Rattle.zic_base.specs.Memory.{IfRefusal, OnWantOfMemory};
+ghost use Rattle.zic_footer.specs.Making.{IsMade, GoesOn};
+ghost use Rattle.zic_table.specs.Content.{IsFooter, IsWritable};
+ghost use Rattle.zic_table.specs.Image.{IsContentOf, IsFaultOfTable, HasFewChanges};
 
-use super::{LocalType, Table};
-use std::alloc::{AllocError, Global};
-use zic_base::{State, Stop};
+use super::Table;
+use crate::limit::MOST_TRANSITIONS;
+use crate::local_types::local_types;
+use crate::transitions::transitions;
+use std::alloc::Global;
+use zic_base::{Kind, Place, Stop};
 use zic_footer::{Footer, print};
 use zic_rules::Timeline;
 
-/// The table of a zone, with the footer that was made for it.
+/// The table of a zone, whose Zone line stands at `zone_place`, with the footer that was made for it: the state before every
+/// change, all changes before the explicit end, and the footer.
 ///
-/// For now the zone never changes, so no limit of a table can be passed, and only want of memory stops it.
-pub fn table(alloc: Global, t: &Timeline<'_>, f: &Footer) -> Result<Table, Stop>
+/// Local time types and designations stand once each, in the order of their first use. Refuses, at `zone_place`, the first of
+/// these limits that the zone passes: `TooManyChanges` at 100,000 transitions, `TooManyTypes` at 256 local time types,
+/// `TooManyChars` at 256 octets of designations. No memory is wanted where the first is passed.
+pub fn table(alloc: Global, zone_place: Place, t: &Timeline<'_>, f: &Footer) -> Result<Table, Stop>
     requires made { IsMade t.now f.now }
-    // For now.
-    requires plain { NeverChanges t.now }
+    requires goes_on { GoesOn t.now f.now }
     ensures ok { IfOk result (IsContentOf t.now f.now) }
-    ensures spells { IfOk result (λ content. Spells content.version content.text f.now) }
+    ensures footer { IfOk result (λ content. IsFooter content f.now) }
     ensures writable { IfOk result IsWritable }
-    ensures only { NeverRefuses fault_of result }
+    ensures err { IfRefusal fault_of result (IsFaultOfTable t.now zone_place) }
+    ensures memory { OnWantOfMemory fault_of result (HasFewChanges t.now) }
 {
     // `end` also tells that the zone is whole.
     prove!(t.end() <= i64::MAX);
     let first = t.first();
-    let names = ended(alloc, first.name)?;
-    let types = only_type(alloc, first)?;
+    let is_long = t.len() > MOST_TRANSITIONS;
+    if is_long {
+        return Err(Stop::at(zone_place, Kind::TooManyChanges));
+    }
+    let numbered = transitions(alloc, zone_place, t, first)?;
+    let designated = local_types(alloc, zone_place, numbered.numbering.states())?;
     let footer_text = print(alloc, f)?;
     Ok(Table {
         version: f.version(),
-        changes: Vec::new(alloc),
-        types,
-        names,
+        changes: numbered.changes,
+        types: designated.types,
+        names: designated.names,
         footer_text,
     })
-}
-
-/// A designation ended by NUL.
-fn ended(alloc: Global, name: &[u8]) -> Result<Vec<u8>, AllocError>
-    ensures { IfOk result (λ v. v.items ≡ name.now ++ 0 ∷ []) }
-{
-    let mut octets = Vec::with_capacity(alloc, name.len().saturating_add(1))?;
-    octets.extend_from_slice(name)?;
-    octets.push(0)?;
-    Ok(octets)
-}
-
-/// The one local time type of a zone that always has this state; its designation stands first.
-fn only_type(alloc: Global, state: State<'_>) -> Result<Vec<LocalType>, AllocError>
-    ensures { IfOk result (λ v. v.items ≡ record { offset = state.entry.offset; daylight = state.entry.daylight; place = 0 } ∷ []) }
-{
-    let mut types = Vec::new(alloc);
-    types.push(LocalType {
-        offset: state.offset,
-        daylight: state.daylight,
-        place: 0,
-    })?;
-    Ok(types)
 }

@@ -1,21 +1,25 @@
 -- What a file that was read keeps beside its content.
-use Rattle.std.specs.Prelude.{◌≡◌, ℕ, ◌≤◌, ◌⊎◌, Option, Some, None, List, [], length, All}
-use Rattle.zic_footer.specs.declared.footer.Footer.{Footer}
-use Rattle.zic_footer.specs.Grammar.{Spells}
+use Rattle.std.specs.Prelude.{ℕ, ℤ, List, map, ◌≡◌, ◌<◌, ◌≤◌, ◌<ℤ◌, Option, [], length, All, AllPairs}
+use Rattle.std.specs.Option.{MatchOption}
+use Rattle.zic_posix.specs.Footer.{TzString}
 use Rattle.zic_table.specs.declared.content.LocalType.{LocalType}
-use Rattle.zic_table.specs.Content.{Content, IsLocalType}
+use Rattle.zic_table.specs.Content.{Content, IsFooter, IsLocalType}
+use Rattle.zic_table.specs.Designation.{designation}
 
--- what a file without transitions says
-abbrev pub plain : ℕ → List LocalType → List ℕ → List ℕ → Content
-plain version types names text = record { version = version; changes = []; types = types; names = names; text = text }
-
--- the footer that the text spells, or none for no text
-abbrev pub IsFooterOf : ℕ → List ℕ → Option Footer → Type 0
-IsFooterOf version text footer =
-    ((footer ≡ None) × (text ≡ [])) ⊎ ((f : Footer) × (footer ≡ Some f) × Spells version text f)
-
--- the footer is that of the text; there is a type, and each type has a designation
-pub record IsKept (content : Content) (footer : Option Footer) : Type 0 where
-  pub footer_is : IsFooterOf content.version content.text footer
+-- Transitions rise and have types; there is a type, and each type has a designation; the footer is that of the text, or none for no text.
+pub record IsKept (content : Content) (footer : Option TzString) : Type 0 where
+  pub rising : AllPairs (λ a b. a.instant <ℤ b.instant) content.changes
+  pub have_types : All (λ c. c.number < length content.types) content.changes
   pub some_type : 1 ≤ length content.types
   pub types : All (IsLocalType content.names) content.types
+  pub footer_is : MatchOption footer (content.text ≡ []) (IsFooter content)
+
+-- how long a type's designation is
+abbrev pub name_length : List ℕ → LocalType → ℕ
+name_length names t = length (designation names t.place)
+
+-- how a zone stores its content: as many times of transitions as numbers of types, and the length of each type's designation
+pub record IsStored (times : List ℤ) (numbers lengths : List ℕ) (content : Content) (footer : Option TzString) : Type 0 where
+  pub kept : IsKept content footer
+  pub as_many : length times ≡ length numbers
+  pub lengths_are : lengths ≡ map (name_length content.names) content.types

@@ -1,15 +1,8 @@
 use super::*;
+use crate::samples::{NEW_YORK, NEW_YORK_TWICE, UTC, new_york};
 use crate::zone::Answer;
 use std::test::*;
 use zic_base::State;
-
-/// The file of `Zone Etc/UTC 0 - UTC`.
-const UTC: &[u8; 111] = b"TZif2\0\0\0\0\0\0\0\0\0\0\0\0\0\0\0\
-\0\0\0\0\0\0\0\0\0\0\0\0\0\0\0\0\0\0\0\x01\0\0\0\x01\
-\0\0\0\0\0\0\0\
-TZif2\0\0\0\0\0\0\0\0\0\0\0\0\0\0\0\
-\0\0\0\0\0\0\0\0\0\0\0\0\0\0\0\0\0\0\0\x01\0\0\0\x04\
-\0\0\0\0\0\0UTC\0\nUTC0\n";
 
 /// A place, an octet put there, and why it is no file then.
 const FAULTS: [(usize, u8, Reason); 22] = [
@@ -22,8 +15,8 @@ const FAULTS: [(usize, u8, Reason); 22] = [
     (94, 0, Reason::Counts),
     (78, 2, Reason::Counts),
     (74, 2, Reason::Counts),
-    (86, 1, Reason::Counts),
     (82, 1, Reason::LeapSeconds),
+    (86, 1, Reason::Short),
     (91, 0xff, Reason::Short),
     (100, 4, Reason::Designation),
     (104, b'!', Reason::Designation),
@@ -35,6 +28,29 @@ const FAULTS: [(usize, u8, Reason); 22] = [
     (105, b' ', Reason::Footer),
     (108, b'?', Reason::Footer),
     (110, b' ', Reason::Short),
+];
+
+/// The same of a file with transitions. The last octet of its types is that of the last transition, which the footer
+/// disagrees with then.
+const FAULTS_WITH_TRANSITIONS: [(usize, u8, Reason); 12] = [
+    (0, b'X', Reason::Magic),
+    (55, b'3', Reason::HeadersDiffer),
+    (90, 0, Reason::Counts),
+    (86, 0xff, Reason::Short),
+    (99, 0x48, Reason::TimesNotRising),
+    (143, 2, Reason::TypeIndex),
+    (154, 8, Reason::Designation),
+    (168, b'A', Reason::Designation),
+    (153, 2, Reason::TypeRecord),
+    (148, 1, Reason::Footer),
+    (169, b' ', Reason::Footer),
+    (170, b',', Reason::Footer),
+];
+
+/// How often each reason comes, by its number, where each octet of `NEW_YORK` is set to each of 256 values in turn. The
+/// first number is that of files. These are the numbers of another reader, `witness/reader.py`.
+const REASONS: [u32; 15] = [
+    15099, 8040, 1020, 254, 1607, 2040, 2040, 6553, 1527, 1887, 1526, 2, 7811, 2, 0,
 ];
 
 #[test]
@@ -60,6 +76,25 @@ fn faults(rt: HostRuntime) -> Result<(), Fail> {
         let stop = read(rt.alloc(), &octets).err();
         assert_eq!(rt; stop, Some(ReadStop::Bad(reason)), "octet {place}");
     }
+    for (place, octet, reason) in FAULTS_WITH_TRANSITIONS {
+        let mut octets = *NEW_YORK;
+        assert!(rt; place < 193);
+        octets[place] = octet;
+        let stop = read(rt.alloc(), &octets).err();
+        assert_eq!(rt;
+            stop,
+            Some(ReadStop::Bad(reason)),
+            "octet {place}, with transitions"
+        );
+    }
+    let mut octets = *NEW_YORK;
+    octets[83..87].copy_from_slice(&[0xff; 4]);
+    let stop = read(rt.alloc(), &octets).err();
+    assert_eq!(rt;
+        stop,
+        Some(ReadStop::Bad(Reason::Short)),
+        "many transitions"
+    );
     for length in 0..111 {
         let stop = read(rt.alloc(), &UTC[..length]).err();
         assert_eq!(rt; stop, Some(ReadStop::Bad(Reason::Short)), "{length} octets");
@@ -113,5 +148,60 @@ fn no_footer(rt: HostRuntime) -> Result<(), Fail> {
     assert_eq!(rt; zone.version(), 3);
     let stop = read(rt.alloc(), &octets[..108]).err();
     assert_eq!(rt; stop, Some(ReadStop::Bad(Reason::TrailingBytes)));
+    Ok(())
+}
+
+#[test]
+fn filled_first_block_and_indicators(rt: HostRuntime) -> Result<(), Fail> {
+    let zone = read(rt.alloc(), NEW_YORK_TWICE)?;
+    assert_eq!(rt; zone.at(1173596399), new_york(false));
+    assert_eq!(rt; zone.at(1173596400), new_york(true));
+    assert_eq!(rt; zone.at(1257055200), new_york(false));
+    assert_eq!(rt; zone.at(13796377200), new_york(true));
+    let mut octets = *NEW_YORK_TWICE;
+    octets[219] = 2;
+    let stop = read(rt.alloc(), &octets).err();
+    assert_eq!(rt; stop, Some(ReadStop::Bad(Reason::Indicators)));
+    Ok(())
+}
+
+#[test]
+fn reserved_octets(rt: HostRuntime) -> Result<(), Fail> {
+    let mut octets = *NEW_YORK;
+    octets[10] = 7;
+    let zone = read(rt.alloc(), &octets)?;
+    assert_eq!(rt; zone.at(1173596400), new_york(true));
+    Ok(())
+}
+
+#[test]
+fn daylight_name_without_edges(rt: HostRuntime) -> Result<(), Fail> {
+    let mut octets = NEW_YORK[..170].to_vec(rt.alloc())?;
+    octets.extend_from_slice(b"EST5EDT\n")?;
+    let stop = read(rt.alloc(), &octets).err();
+    assert_eq!(rt; stop, Some(ReadStop::Bad(Reason::Footer)));
+    Ok(())
+}
+
+/// The number of a reason, 0 for a file.
+fn number_of(answer: Result<Zone, ReadStop>) -> usize {
+    match answer {
+        Ok(_) => 0,
+        Err(ReadStop::Bad(reason)) => reason as usize,
+        Err(ReadStop::Memory) => REASONS.len(),
+    }
+}
+
+#[test]
+fn each_octet(rt: HostRuntime) -> Result<(), Fail> {
+    let mut numbers = [0u32; 15];
+    for change in 0..193 * 256 {
+        let mut octets = *NEW_YORK;
+        octets[change / 256] = (change % 256) as u8;
+        let number = number_of(read(rt.alloc(), &octets));
+        assert!(rt; number < 15);
+        numbers[number] = numbers[number].wrapping_add(1);
+    }
+    assert_eq!(rt; numbers, REASONS);
     Ok(())
 }

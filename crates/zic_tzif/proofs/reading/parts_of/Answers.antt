@@ -30,5 +30,5 @@ pub returns : goal.returns
 returns c =
     let same = block_same c.args.octets.now c.in_ok-block.block c.in_ok-block.ensures.1.0 in (
       all_pass c.args.octets.now c.in_ok-first.ensures.0 c.in_ok-block.ensures.0 (sym (ap first_failed same) ∙ c.in_ok-check.ensures.0) c.in_ok-text.ensures.0,
-      record { version = c.in_ok-first.ensures.1.version; block = c.in_ok-block.ensures.1; types = c.in_ok-check.ensures.0; text = c.in_ok-text.ensures.1 },
+      record { version = c.in_ok-first.ensures.1.version; known = c.in_ok-first.ensures.1.known; block = c.in_ok-block.ensures.1; passes = c.in_ok-check.ensures.0; text = c.in_ok-text.ensures.1 },
     )

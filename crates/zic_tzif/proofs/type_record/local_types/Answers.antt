@@ -1,18 +1,18 @@
 use Rattle.std.proofs.Common.{◌≡◌, ℕ, List, [], ◌∷◌, ◌++◌, map, take, drop, sym, ap, subst, ◌∙◌, ◌-◌, ◌+◌, ◌*◌, ◌≤◌, length}
 use Rattle.zic_table.specs.declared.content.LocalType.{LocalType}
-use Rattle.zic_tzif.specs.Block.{sixes, type_in}
-use Rattle.zic_tzif.proofs.ReadRecords.{enough_left, types_more}
+use Rattle.zic_tzif.specs.Block.{pieces, type_in}
+use Rattle.zic_tzif.proofs.ReadPieces.{enough_left, made_more}
 use Rattle.zic_tzif.proofs.type_record.local_types.Goals as goal
 
 pub loop-preserved : goal.loop-preserved
 loop-preserved c =
-    let total = map type_in (sixes c.args.count c.args.records.now) in
+    let total = map type_in (pieces 6 c.args.count c.args.records.now) in
     let left = c.args.count - (c.loop.counter + 1) in
     let one : c.push.new.self.items ≡ c.loop.types.items ++ type_in (take 6 c.loop.rest.now) ∷ [] =
     c.in_ok-push.ensures.items ∙ ap (λ (t : LocalType). c.loop.types.items ++ t ∷ []) (c.local_type.ensures ∙ ap type_in c.split_at.ensures.front) in
-    let so_far = types_more c.loop.types.items c.args.count c.loop.counter c.loop.rest.now total c.loop-test.true c.loop.invariant.left in
+    let so_far = made_more type_in c.loop.types.items 6 c.args.count c.loop.counter c.loop.rest.now total c.loop-test.true c.loop.invariant.left in
     record {
-      enough = subst (λ (xs : List ℕ). left * 6 ≤ length xs) (sym c.split_at.ensures.back) (enough_left c.args.count c.loop.counter c.loop.rest.now c.loop-test.true c.loop.invariant.enough);
-      left = subst (λ (xs : List ℕ). c.push.new.self.items ++ map type_in (sixes left xs) ≡ total) (sym c.split_at.ensures.back)
-          (ap (λ (ts : List LocalType). ts ++ map type_in (sixes left (drop 6 c.loop.rest.now))) one ∙ so_far);
+      enough = subst (λ (xs : List ℕ). left * 6 ≤ length xs) (sym c.split_at.ensures.back) (enough_left 6 c.args.count c.loop.counter c.loop.rest.now c.loop-test.true c.loop.invariant.enough);
+      left = subst (λ (xs : List ℕ). c.push.new.self.items ++ map type_in (pieces 6 left xs) ≡ total) (sym c.split_at.ensures.back)
+          (ap (λ (ts : List LocalType). ts ++ map type_in (pieces 6 left (drop 6 c.loop.rest.now))) one ∙ so_far);
     }

@@ -1,21 +1,82 @@
-use Rattle.std.proofs.Common.{sym, subst}
+use Rattle.std.proofs.Common.{ℤ, List, length, FitsSigned, w64, to_z-of_z, ap, subst, arith, rules}
 use Rattle.zic_base.specs.State.{shown}
-use Rattle.zic_base.specs.declared.state.State.{State}
+use Rattle.zic_posix.specs.Meaning.{Means}
+use Rattle.zic_table.specs.declared.content.Change.{Change}
 use Rattle.zic_table.specs.Content.{Content}
-use Rattle.zic_tzif.specs.Answer.{Gives}
-use Rattle.zic_tzif.specs.code.Kept.{IsFooterOf}
-use Rattle.zic_tzif.proofs.AnswerLemmas.{footer_gives, first_gives}
-use Rattle.zic_tzif.proofs.zone.Zone.at.Goals.{in-Some, in-None}
+use Rattle.zic_tzif.specs.code.Kept.{IsKept}
+use Rattle.zic_tzif.specs.code.Window.{IsSplit}
+use Rattle.zic_tzif.proofs.Search.{IsFound, found, times_rise, gives_type, gives_footer, leaves_open, kept_footer, kept_none}
+use Rattle.zic_tzif.proofs.Transitions.{changes_length}
 use Rattle.zic_tzif.proofs.zone.Zone.at.Goals as goal
 
-pub returns : goal.returns
-returns c =
+pub count_not_after-count-requires : goal.count_not_after-count-requires
+count_not_after-count-requires c = times_rise c.self.inside.times.times.items c.self.inside.numbers.items c.self.invariant.as_many c.self.invariant.kept.rising
+
+pub state_after-requires : goal.state_after-requires
+state_after-requires c =
+    let inside = c.count_not_after-count.ensures.inside in
+    let number = changes_length c.self.inside.times.times.items c.self.inside.numbers.items c.self.invariant.as_many in
+    let size = ap (λ (content : Content). length content.changes) c.self.view_is in
+    omega (arith, inside, number, size)
+
+pub returns-then-count-len : goal.returns-then-count-len
+returns-then-count-len c =
     let content = c.args.self.now in
+    let footer = c.self.inside.footer in
     let t = c.args.t in
-    let footer_is = subst (λ (content : Content). IsFooterOf content.version content.text c.self.inside.footer) c.self.view_is c.self.invariant.footer_is in
-    elim c.match-self.branch [
-      | in-Some w ↦ subst (λ (s : State). Gives content t (shown s)) (sym w.result-is)
-          (footer_gives content c.self.inside.footer w.in-Some.footer t (shown w.state.result) footer_is w.in-Some.is (w.state.ensures t))
-      | in-None w ↦ subst (λ (s : State). Gives content t (shown s)) (sym w.result-is)
-          (first_gives content c.self.inside.footer t (shown w.first_state.result) footer_is w.in-None.is w.first_state.ensures)
-    ]
+    let n = c.count_not_after-count.result in
+    let times = c.self.inside.times.times.items in
+    let numbers = c.self.inside.numbers.items in
+    let kept = subst (λ (content : Content). IsKept content footer) c.self.view_is c.self.invariant.kept in
+    let same = ap (λ (content : Content). content.changes) c.self.view_is in
+    let fits : FitsSigned w64 t = search rules in
+    let split = subst (λ (z : ℤ). IsSplit times z n) (to_z-of_z fits) c.count_not_after-count.ensures in
+    let point = subst (λ (changes : List Change). IsFound changes t n) same (found times numbers t n c.self.invariant.as_many split) in
+    let number = changes_length times numbers c.self.invariant.as_many in
+    let as_many = c.self.invariant.as_many in
+    let size = ap (λ (changes : List Change). length changes) same in
+    let inside = c.if-count-len.true in
+    gives_type content t n point (shown c.state_after.result) (omega (arith, inside, c.len.ensures, number, as_many, size)) c.state_after.ensures
+
+pub returns-in-Some : goal.returns-in-Some
+returns-in-Some c =
+    let content = c.args.self.now in
+    let footer = c.self.inside.footer in
+    let t = c.args.t in
+    let n = c.count_not_after-count.result in
+    let times = c.self.inside.times.times.items in
+    let numbers = c.self.inside.numbers.items in
+    let kept = subst (λ (content : Content). IsKept content footer) c.self.view_is c.self.invariant.kept in
+    let same = ap (λ (content : Content). content.changes) c.self.view_is in
+    let fits : FitsSigned w64 t = search rules in
+    let split = subst (λ (z : ℤ). IsSplit times z n) (to_z-of_z fits) c.count_not_after-count.ensures in
+    let point = subst (λ (changes : List Change). IsFound changes t n) same (found times numbers t n c.self.invariant.as_many split) in
+    let number = changes_length times numbers c.self.invariant.as_many in
+    let as_many = c.self.invariant.as_many in
+    let size = ap (λ (changes : List Change). length changes) same in
+    let past = c.if-count-len.false in
+    let f = c.in-Some.footer in
+    let means : Means f t (shown c.state.result) = subst (λ (z : ℤ). Means f z (shown c.state.result)) (to_z-of_z fits) c.state.ensures in
+    gives_footer content t n point f (shown c.state.result) (omega (arith, past, c.len.ensures, number, as_many, size)) (kept_footer content footer f kept.footer_is c.in-Some.is) means
+
+pub returns-in-None-2 : goal.returns-in-None-2
+returns-in-None-2 c =
+    let content = c.args.self.now in
+    let footer = c.self.inside.footer in
+    let t = c.args.t in
+    let n = c.count_not_after-count.result in
+    let times = c.self.inside.times.times.items in
+    let numbers = c.self.inside.numbers.items in
+    let kept = subst (λ (content : Content). IsKept content footer) c.self.view_is c.self.invariant.kept in
+    let same = ap (λ (content : Content). content.changes) c.self.view_is in
+    let fits : FitsSigned w64 t = search rules in
+    let split = subst (λ (z : ℤ). IsSplit times z n) (to_z-of_z fits) c.count_not_after-count.ensures in
+    let point = subst (λ (changes : List Change). IsFound changes t n) same (found times numbers t n c.self.invariant.as_many split) in
+    let number = changes_length times numbers c.self.invariant.as_many in
+    let as_many = c.self.invariant.as_many in
+    let size = ap (λ (changes : List Change). length changes) same in
+    let past = c.if-count-len.false in
+    let some = c.if-count-eq0.false in
+    let bound = split.inside in
+    leaves_open content t n point (λ none. some (omega (arith, none, bound, size, number)))
+    (omega (arith, past, c.len.ensures, number, as_many, size)) (kept_none content footer kept.footer_is c.in-None.is)

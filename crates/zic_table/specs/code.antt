@@ -1,0 +1,4 @@
+pub mod Firsts
+pub mod Numbering
+pub mod Transitions
+pub mod LocalTypes

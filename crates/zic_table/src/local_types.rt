@@ -1,0 +1,79 @@
+//! Local time types and their designations.
+
+ghost use Rattle.std.specs.Prelude.{◌≡◌, ◌<◌, ◌≤◌, ◌+◌, ◌∷◌, [], ◌++◌, length, map, IfOk};
+ghost use Rattle.std.specs.Option.{MatchOption};
+ghost use Rattle.zic_base.specs.Fault.{fault_at, fault_of};
+ghost use Rattle.zic_base.specs.Memory.{IfRefusal};
+ghost use Rattle.zic_base.specs.State.{shown};
+ghost use Rattle.zic_table.specs.code.LocalTypes.{AreLocalTypes, HasManyCharacters, IsPlaceOf, HasNoName};
+
+use crate::content::LocalType;
+use crate::limit::MOST_CHARACTERS;
+use std::alloc::Global;
+use zic_base::{Kind, Place, State, Stop};
+
+/// Local time types, and the octets of their designations.
+#[derive(Drop)]
+pub(crate) struct Designated {
+    pub(crate) types: Vec<LocalType>,
+    pub(crate) names: Vec<u8>,
+}
+
+/// The local time types of states, for a zone whose Zone line stands at `zone_place`: `TooManyChars` where their
+/// designations have more octets than a table.
+pub(crate) fn local_types(
+    alloc: Global,
+    zone_place: Place,
+    states: &[State<'_>],
+) -> Result<Designated, Stop>
+    ensures ok { IfOk result (λ made. AreLocalTypes (map shown states.now) made.types.items made.names.items) }
+    ensures err { IfRefusal fault_of result
+        (λ fault. (fault ≡ fault_at zone_place Kind.TooManyChars) × HasManyCharacters (map shown states.now)) }
+{
+    let mut types = Vec::with_capacity(alloc, states.len())?;
+    let mut names = Vec::new(alloc);
+    for state in states {
+        let place = match place_of(states, &types, state.name) {
+            Some(place) => place,
+            None => add_name(zone_place, &mut names, state.name)?,
+        };
+        types.push(LocalType {
+            offset: state.offset,
+            daylight: state.daylight,
+            place,
+        })?;
+    }
+    Ok(Designated { types, names })
+}
+
+/// The place of a designation, if one of the types made for the first of these states has it.
+fn place_of(states: &[State<'_>], types: &[LocalType], name: &[u8]) -> Option<u8>
+    requires { length types.now ≤ length states.now }
+    ensures { MatchOption result
+        (HasNoName (map shown states.now) (length types.now) name.now)
+        (IsPlaceOf (map shown states.now) types.now name.now) }
+{
+    for (i, made) in types.iter().enumerate() {
+        if states[i].name == name {
+            return Some(made.place);
+        }
+    }
+    None
+}
+
+/// Adds a designation, ended by NUL, and tells its place; `TooManyChars` where the octets would be too many.
+fn add_name(zone_place: Place, names: &mut Vec<u8>, name: &[u8]) -> Result<u8, Stop>
+    requires { length names.old.items ≤ MOST_CHARACTERS }
+    ensures ok { IfOk result (λ place. (place ≡ length names.old.items) × (length names.new.items ≤ MOST_CHARACTERS)
+        × (names.new.items ≡ names.old.items ++ (name.now ++ 0 ∷ []))) }
+    ensures err { IfRefusal fault_of result
+        (λ fault. (fault ≡ fault_at zone_place Kind.TooManyChars) × (MOST_CHARACTERS < length names.old.items + (length name.now + 1))) }
+{
+    let place = names.len();
+    if name.len() >= MOST_CHARACTERS - place {
+        return Err(Stop::at(zone_place, Kind::TooManyChars));
+    }
+    names.extend_from_slice(name)?;
+    names.push(0)?;
+    Ok(place as u8)
+}

@@ -1,0 +1,45 @@
+//! Tables of worked examples, as the files of `zic` have them, and zones at the limits.
+
+mod limits;
+mod rows;
+
+use crate::*;
+use std::alloc::Global;
+use std::test::Fail;
+use zic_base::{Place, Stop};
+use zic_footer::make;
+use zic_rules::timeline;
+use zic_source::{Source, read_source};
+
+/// Where faults of the only zone are told.
+const PLACE: Place = Place { text: 1, line: 3 };
+
+/// What a source text says.
+fn read(alloc: Global, parts: &[&[u8]]) -> Result<Source, Fail> {
+    let mut text = Vec::new(alloc);
+    for part in parts {
+        text.extend_from_slice(part)?;
+    }
+    let mut texts = Vec::new(alloc);
+    texts.push(text)?;
+    match read_source(alloc, &texts) {
+        Ok(source) => Ok(source),
+        Err(Stop::Fault(_)) => Err(Fail::from("a fault")),
+        Err(Stop::Memory) => Err(Fail::from("out of memory")),
+    }
+}
+
+/// What `table` answers for the only zone of a source.
+fn made(alloc: Global, parts: &[&[u8]]) -> Result<Result<Table, Stop>, Fail> {
+    let source = read(alloc, parts)?;
+    if source.zones() != 1 {
+        return Err(Fail::from("zones"));
+    }
+    let Ok(found) = timeline(alloc, &source, 0) else {
+        return Err(Fail::from("no timeline"));
+    };
+    let Ok(footer) = make(alloc, PLACE, &found) else {
+        return Err(Fail::from("no footer"));
+    };
+    Ok(table(alloc, PLACE, &found, &footer))
+}

@@ -1,0 +1,52 @@
+//! The transitions of a zone.
+
+ghost use Rattle.std.specs.Prelude.{◌≡◌, IfOk};
+ghost use Rattle.zic_base.specs.Fault.{fault_at, fault_of};
+ghost use Rattle.zic_base.specs.Memory.{IfRefusal};
+ghost use Rattle.zic_base.specs.State.{shown};
+ghost use Rattle.zic_states.specs.Change.{IsFirstState};
+ghost use Rattle.zic_rules.specs.Timeline.{IsWhole};
+ghost use Rattle.zic_table.specs.code.Transitions.{AreTransitions, HasManyTypes};
+
+use crate::content::Change;
+use crate::numbering::Numbering;
+use std::alloc::Global;
+use zic_base::{Kind, Place, State, Stop};
+use zic_rules::Timeline;
+
+/// Transitions, and what the numbers of their types stand for.
+#[derive(Drop)]
+pub(crate) struct Numbered<'a> {
+    pub(crate) changes: Vec<Change>,
+    pub(crate) numbering: Numbering<'a>,
+}
+
+/// The transitions of a zone with this first state, whose Zone line stands at `zone_place`: `TooManyTypes` where they have more
+/// types than a table.
+pub(crate) fn transitions<'a>(
+    alloc: Global,
+    zone_place: Place,
+    t: &'a Timeline<'_>,
+    first: State<'a>,
+) -> Result<Numbered<'a>, Stop>
+    requires whole { IsWhole t.now }
+    requires first { IsFirstState t.now (shown first) }
+    ensures ok { IfOk result (λ made. AreTransitions t.now made.numbering made.changes.items) }
+    ensures err { IfRefusal fault_of result
+        (λ fault. (fault ≡ fault_at zone_place Kind.TooManyTypes) × HasManyTypes t.now) }
+{
+    let mut numbering = Numbering::new(alloc, first)?;
+    let count = t.len();
+    let mut changes = Vec::with_capacity(alloc, count)?;
+    for i in 0..count {
+        let change = t.change(i);
+        let Some(number) = numbering.number(change.state)? else {
+            return Err(Stop::at(zone_place, Kind::TooManyTypes));
+        };
+        changes.push(Change {
+            instant: change.instant,
+            number,
+        })?;
+    }
+    Ok(Numbered { changes, numbering })
+}

@@ -1,0 +1,89 @@
+//! A search among times that rise.
+
+ghost use Rattle.std.specs.Prelude.{◌≡◌, ◌+◌, ◌*◌, ◌<◌, ◌≤◌, ◌^◌, ◌<ℤ◌, length, AllPairs};
+ghost use Rattle.zic_tzif.specs.code.Window.{IsWindow, IsSplit, AreLevels};
+
+/// How many of the last halvings the compiler may write out one by one: those of the zones in use.
+const SHORT: u32 = 7;
+
+/// Times, and what a search among them needs where they rise.
+#[derive(Debug, Drop)]
+pub struct Times {
+    pub times: Vec<i64>,
+    /// How often the times are halved.
+    levels: u32,
+    ghost levels_are: { AreLevels levels (length times.items) },
+}
+
+impl Times {
+    /// These times.
+    pub fn new(times: Vec<i64>) -> Times
+        ensures { result.times ≡ times }
+    {
+        let levels = (times.len() + 1).ilog2();
+        Times { times, levels }
+    }
+
+    /// How many of the times aren't after an instant. The times rise.
+    pub fn count_not_after(&self, t: i64) -> usize
+        requires { AllPairs (λ a b. a <ℤ b) self.now.times.items }
+        ensures { IsSplit self.now.times.items t result }
+    {
+        let times = self.times.as_slice();
+        let mut base = first_window(times, self.levels, t);
+        let mut level = self.levels;
+        while level > SHORT {
+            level -= 1;
+            base = halve(times, base, level, t);
+        }
+        narrow(times, base, level, t)
+    }
+}
+
+/// The window of so many levels, at the front or at the end, in which the times pass `t`.
+fn first_window(times: &[i64], levels: u32, t: i64) -> usize
+    requires rising { AllPairs (λ a b. a <ℤ b) times.now }
+    requires levels { AreLevels levels (length times.now) }
+    ensures { IsWindow times.now t result levels }
+{
+    let window = 1usize << levels;
+    let count = times.len();
+    if count < window {
+        return 0;
+    }
+    if times[window - 1] <= t {
+        count + 1 - window
+    } else {
+        0
+    }
+}
+
+/// The half of a window in which the times pass `t`.
+fn halve(times: &[i64], base: usize, level: u32, t: i64) -> usize
+    requires rising { AllPairs (λ a b. a <ℤ b) times.now }
+    requires window { IsWindow times.now t base (level + 1) }
+    requires level { level < 63 }
+    ensures { IsWindow times.now t result level }
+{
+    let half = 1usize << level;
+    // A shift: the compiler makes a branch of a choice, and the processor would guess it wrong every other time.
+    base + (usize::from(times[base + half - 1] <= t) << level)
+}
+
+/// Where in a short window the times pass `t`.
+fn narrow(times: &[i64], base: usize, level: u32, t: i64) -> usize
+    requires rising { AllPairs (λ a b. a <ℤ b) times.now }
+    requires window { IsWindow times.now t base level }
+    requires short { level ≤ 7 }
+    ensures { IsSplit times.now t result }
+{
+    let mut base = base;
+    let mut rest = SHORT;
+    while rest > 0 {
+        rest -= 1;
+        if rest < level {
+            base = halve(times, base, rest, t);
+        }
+    }
+    base
+}
