@@ -1,2 +1,2 @@
-pub mod FileLemmas
 pub mod InputLemmas
+pub mod ListingLemmas

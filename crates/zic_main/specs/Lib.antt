@@ -1,3 +1,1 @@
-pub mod code
-pub mod File
 pub mod Text

@@ -1,20 +1,18 @@
 -- What `check` and `show` print.
-use Rattle.std.specs.Prelude.{◌≡◌, ℕ, ◌/◌, ◌%◌, ℤ, pos, int_lt, unsigned_abs, nat_lt, if◌then◌else◌, codes, List, [], ◌∷◌, ◌++◌, length}
+use Rattle.std.specs.Prelude.{◌≡◌, ℕ, ◌/◌, ◌%◌, ℤ, pos, int_lt, unsigned_abs, nat_lt, if◌then◌else◌, codes, List, [], ◌∷◌, ◌++◌, length, Option, Some, None}
 use Rattle.std.specs.Fmt.{decimal}
 use Rattle.std.specs.List.{flat_map}
 use Rattle.zic_source.specs.Grammar.{IsSource}
 use Rattle.zic_source.specs.Source.{SourceLines}
-use Rattle.zic_base.specs.State.{Shown, shown}
+use Rattle.zic_base.specs.State.{Shown}
 use Rattle.zic_table.specs.Content.{Content}
 use Rattle.zic_tzif.specs.Answer.{Answers}
 use Rattle.zic_tzif.specs.Reading.{IsFile}
-use Rattle.zic_tzif.specs.declared.zone.Answer.{Answer}
-use Rattle.zic_tzif.specs.declared.zone.Answer.TheVariants.{Known, Unspecified}
-use Rattle.zic_main.specs.File.{File, AreFilesOf}
+use Rattle.zic_bulk.specs.Files.{File, AreFilesOf}
 
 -- a file's name, its number of octets and its footer, between spaces, and a newline
 abbrev pub check_line : File → List ℕ
-check_line file = file.name ++ 32 ∷ (decimal (length file.octets) ++ 32 ∷ (file.content.text ++ 10 ∷ []))
+check_line file = file.name ++ 32 ∷ (decimal (length file.image.octets) ++ 32 ∷ (file.image.content.text ++ 10 ∷ []))
 
 -- the lines for the files of a source text
 pub record IsListing (text lines : List ℕ) : Type 0 where
@@ -38,14 +36,15 @@ offset_text offset =
 abbrev pub state_line : Shown → List ℕ
 state_line state = offset_text state.offset ++ 32 ∷ (if state.daylight then 49 else 48) ∷ 32 ∷ (state.name ++ 10 ∷ [])
 
-abbrev pub answer_line : Answer → List ℕ
-answer_line (Known state) = state_line (shown state)
-answer_line Unspecified = codes "unspecified" ++ 10 ∷ []
+-- that line for what a file answers, or the word for local time that it leaves open
+abbrev pub answer_line : Option Shown → List ℕ
+answer_line (Some state) = state_line state
+answer_line None = codes "unspecified" ++ 10 ∷ []
 
 -- the line that `show` prints for the octets of a file and an instant
 pub record IsShowing (octets : List ℕ) (instant : ℤ) (line : List ℕ) : Type 0 where
   pub content : Content
   pub is_file : IsFile octets content
-  pub answer : Answer
+  pub answer : Option Shown
   pub answers : Answers content instant answer
   pub is_line : line ≡ answer_line answer

@@ -1,16 +1,15 @@
 //! `check`: compiles a source, and lists its files.
 
-ghost use Rattle.std.specs.Prelude.{◌≡◌, ℕ, List, ◌++◌, map, IfOk, IfSome, OnOk};
+ghost use Rattle.std.specs.Prelude.{◌≡◌, ◌<◌, ℕ, List, ◌++◌, length, slice_get, IfOk, IfSome, OnOk};
 ghost use Rattle.std.specs.Io.KnownBytes.{Appends};
 ghost use Rattle.std.specs.List.{flat_map};
-ghost use Rattle.zic_main.specs.File.{file_of};
 ghost use Rattle.zic_main.specs.Text.{check_line, IsListing};
 
-use crate::compile::{Compiled, compile};
 use crate::failure::{Failure, cannot_read};
 use crate::input::{InputStop, read_up_to};
 use std::alloc::{AllocError, Global};
 use std::io::{Read, Write};
+use zic_bulk::{Files, compile};
 use zic_source::read_source;
 
 /// The most octets of a source; a longer one counts as unreadable.
@@ -69,27 +68,34 @@ pub fn write_all<W: Write>(writer: &mut W, octets: &[u8]) -> Result<(), Failure>
 }
 
 /// A line for each file, in order.
-fn listing(alloc: Global, files: &[Compiled]) -> Result<Vec<u8>, AllocError>
-    ensures { IfOk result (λ lines. lines.items ≡ flat_map check_line (map file_of files.now)) }
+fn listing(alloc: Global, files: &Files) -> Result<Vec<u8>, AllocError>
+    ensures { IfOk result (λ lines. lines.items ≡ flat_map check_line files.now) }
 {
     let mut lines = Vec::new(alloc);
-    for file in files {
-        push_line(alloc, &mut lines, file)?;
+    for file in 0..files.len() {
+        push_line(alloc, &mut lines, files, file)?;
     }
     Ok(lines)
 }
 
-/// A file's name, its number of octets and its footer.
-fn push_line(alloc: Global, lines: &mut Vec<u8>, file: &Compiled) -> Result<(), AllocError>
-    ensures { OnOk result (lines.new.items ≡ lines.old.items ++ check_line (file_of file.now)) }
+/// The name of the file of this number, its number of octets and its footer.
+fn push_line(
+    alloc: Global,
+    lines: &mut Vec<u8>,
+    files: &Files,
+    file: usize,
+) -> Result<(), AllocError>
+    requires { file < length files.now }
+    ensures { OnOk result (IfSome (slice_get files.now file)
+        (λ file. lines.new.items ≡ lines.old.items ++ check_line file)) }
 {
-    let len = file.octets.len();
+    let len = files.bytes(file).len();
     let len = len.to_string(alloc)?;
-    lines.extend_from_slice(&file.name)?;
+    lines.extend_from_slice(files.name(file))?;
     lines.push(b' ')?;
     lines.extend_from_slice(len.as_bytes())?;
     lines.push(b' ')?;
-    lines.extend_from_slice(file.zone.footer_text())?;
+    lines.extend_from_slice(files.zone(file).footer_text())?;
     lines.push(b'\n')?;
     Ok(())
 }

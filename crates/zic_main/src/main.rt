@@ -3,7 +3,6 @@
 
 mod check;
 mod command_line;
-mod compile;
 mod failure;
 mod input;
 mod show;

@@ -3,6 +3,7 @@
 ghost use Rattle.std.specs.Prelude.{◌≡◌, ℕ, List, ◌++◌, take, IfOk, IfSome, OnOk};
 ghost use Rattle.std.specs.Io.KnownBytes.{Appends};
 ghost use Rattle.zic_base.specs.State.{shown};
+ghost use Rattle.zic_tzif.specs.Answer.{answered};
 ghost use Rattle.zic_main.specs.Text.{answer_line, state_line, offset_text, two_digits, IsShowing};
 
 use crate::check::write_all;
@@ -51,8 +52,9 @@ fn line_of(alloc: Global, octets: &[u8], instant: i64) -> Result<Vec<u8>, Failur
     Ok(line)
 }
 
+/// The line for what a file answers.
 fn answer_line(alloc: Global, answer: &Answer<'_>) -> Result<Vec<u8>, AllocError>
-    ensures { IfOk result (λ line. line.items ≡ answer_line answer.now) }
+    ensures { IfOk result (λ line. line.items ≡ answer_line (answered answer.now)) }
 {
     match answer {
         Answer::Known(state) => state_line(alloc, state),
@@ -60,6 +62,7 @@ fn answer_line(alloc: Global, answer: &Answer<'_>) -> Result<Vec<u8>, AllocError
     }
 }
 
+/// The line for local time.
 fn state_line(alloc: Global, state: &State<'_>) -> Result<Vec<u8>, AllocError>
     ensures { IfOk result (λ line. line.items ≡ state_line (shown state.now)) }
 {

@@ -1,0 +1,18 @@
+use Rattle.std.proofs.Common.{◌<◌, length}
+use Rattle.zic_bulk.proofs.FilesOfEntries.{on_err, some_zone, have_images, all_files}
+use Rattle.zic_bulk.proofs.compiling.files_of.Goals as goal
+
+pub returns-in_err-names-clause-memory : goal.returns-in_err-names-clause-memory
+returns-in_err-names-clause-memory c =
+    let source = c.args.source.now in
+    let some = rw c.deref.ensures.value at c.in_err-names.ensures.memory in
+    on_err c.from_residual-in_err-names.result (0 < length source.zones) (some_zone source c.in_ok-entries.entries.items c.in_ok-entries.ensures.ok some)
+
+pub new-requires-clause-images : goal.new-requires-clause-images
+new-requires-clause-images c =
+    let are = c.in_ok-entries.ensures.ok in
+    have_images c.args.source.now c.args.images.items are.places c.in_ok-entries.entries.items c.requires are.each
+
+pub returns-clause-ok : goal.returns-clause-ok
+returns-clause-ok c =
+    rw c.new.ensures (all_files c.args.source.now c.args.images.items c.in_ok-entries.entries.items c.requires c.in_ok-entries.ensures.ok)

@@ -1,0 +1,101 @@
+//! The files of a source.
+
+ghost use Rattle.std.specs.Prelude.{◌≡◌, ◌≢◌, ◌<◌, true, length, slice_get, All, IfSome, IfNone, IsSomeAnd};
+ghost use Rattle.zic_words.specs.Name.{is_name};
+ghost use Rattle.zic_tzif.specs.Reading.{IsFile};
+
+use crate::entry::Entry;
+use crate::names::Names;
+use std::marker::Model;
+use zic_image::Image;
+use zic_tzif::Zone;
+
+/// The files of all Zone and Link lines, in the order of the texts and their lines. A link shares the image of its zone.
+#[derive(Debug, Drop)]
+pub struct Files {
+    images: Vec<Image>,
+    entries: Vec<Entry>,
+    names: Names,
+}
+
+impl Model for Files {
+    ghost use Rattle.std.specs.Prelude.{List, map, All, ◌<◌, length};
+    ghost use Rattle.zic_bulk.specs.Files.{File};
+    ghost use Rattle.zic_bulk.specs.code.Entries.{file_of};
+    ghost use Rattle.zic_bulk.specs.code.Names.{AreNumbersOf};
+
+    ghost Value = { List File };
+
+    ghost view = { λ f. map (file_of f.images.items) f.entries.items };
+
+    ghost invariant = { λ f. All (λ entry. entry.zone < length f.images.items) f.entries.items × AreNumbersOf f.entries.items f.names };
+}
+
+impl Files {
+    ghost use Rattle.std.specs.Prelude.{map};
+    ghost use Rattle.zic_bulk.specs.code.Entries.{file_of};
+    ghost use Rattle.zic_bulk.specs.code.Names.{AreNumbersOf};
+
+    /// The files of these entries, each with the image of its zone.
+    pub(crate) fn new(images: Vec<Image>, entries: Vec<Entry>, names: Names) -> Files
+        requires images { All (λ entry. entry.zone < length images.items) entries.items }
+        requires names { AreNumbersOf entries.items names }
+        ensures { result ≡ map (file_of images.items) entries.items }
+    {
+        Files {
+            images,
+            entries,
+            names,
+        }
+    }
+
+    /// How many files there are.
+    pub fn len(&self) -> usize
+        ensures { result ≡ length self.now }
+    {
+        self.entries.len()
+    }
+
+    /// The name of a file, by the file's number from 0.
+    pub fn name(&self, i: usize) -> &[u8]
+        requires { i < length self.now }
+        ensures name { IfSome (slice_get self.now i) (λ file. result.now ≡ file.name) }
+        ensures sound { is_name result.now ≡ true }
+    {
+        self.entries[i].name.octets()
+    }
+
+    /// The octets of a file, by the file's number from 0.
+    pub fn bytes(&self, i: usize) -> &[u8]
+        requires { i < length self.now }
+        ensures { IfSome (slice_get self.now i) (λ file. result.now ≡ file.image.octets) }
+    {
+        self.image(i).octets()
+    }
+
+    /// What a reader makes of the octets of a file, by the file's number from 0.
+    pub fn zone(&self, i: usize) -> &Zone
+        requires { i < length self.now }
+        ensures zone { IfSome (slice_get self.now i) (λ file. result.now ≡ file.image.content) }
+        ensures read { IfSome (slice_get self.now i) (λ file. IsFile file.image.octets file.image.content) }
+    {
+        self.image(i).zone()
+    }
+
+    /// The number of the file of this name, by hash.
+    pub fn find(&self, name: &[u8]) -> Option<usize>
+        ensures found { IfSome result (λ i. IsSomeAnd (slice_get self.now i) (λ file. file.name ≡ name.now)) }
+        ensures missing { IfNone result (All (λ file. file.name ≢ name.now) self.now) }
+    {
+        self.names.number(name)
+    }
+
+    /// The image of a file.
+    fn image(&self, i: usize) -> &Image
+        requires { i < length self.now }
+        ensures { IfSome (slice_get self.now i) (λ file. result.now ≡ file.image) }
+    {
+        let entry = &self.entries[i];
+        &self.images[entry.zone]
+    }
+}

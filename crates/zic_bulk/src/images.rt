@@ -1,0 +1,31 @@
+//! The images of zones.
+
+ghost use Rattle.std.specs.Prelude.{◌≤◌, length, IfOk};
+ghost use Rattle.zic_base.specs.Fault.{fault_of};
+ghost use Rattle.zic_base.specs.Memory.{IfRefusal, OnWantOfMemory};
+ghost use Rattle.zic_bulk.specs.code.Zones.{AreImagesWithin, IsFaultWithin, MayWantWithin};
+
+use std::alloc::Global;
+use zic_image::{Image, image_of};
+use zic_source::{Source, Stop};
+
+/// The images of the zones from one number on up to another, in order, or the fault of the first that has one.
+pub(crate) fn images_of(
+    alloc: Global,
+    source: &Source,
+    first: usize,
+    end: usize,
+) -> Result<Vec<Image>, Stop>
+    requires order { first ≤ end }
+    requires zones { end ≤ length source.now.zones }
+    ensures ok { IfOk result (λ images. AreImagesWithin source.now first end images.items) }
+    ensures err { IfRefusal fault_of result (IsFaultWithin source.now first end) }
+    ensures memory { OnWantOfMemory fault_of result (MayWantWithin source.now first end) }
+{
+    let mut images = Vec::new(alloc);
+    for zone in first..end {
+        let image = image_of(alloc, source, zone)?;
+        images.push(image)?;
+    }
+    Ok(images)
+}

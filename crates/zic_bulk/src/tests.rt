@@ -1,0 +1,154 @@
+//! The files of some texts, with outside values.
+
+mod building;
+
+use super::*;
+use std::alloc::Global;
+use std::test::Fail;
+use zic_source::{Fault, Kind, Place, Stop, read_source};
+
+/// The file of `Zone Etc/UTC 0 - UTC`, as RFC 9636 has its parts: two headers, an empty first block, one local time
+/// type, its designation and the footer.
+const UTC_FILE: &[u8; 111] =
+    b"TZif2\0\0\0\0\0\0\0\0\0\0\0\0\0\0\0\0\0\0\0\0\0\0\0\0\0\0\0\0\0\0\0\0\0\0\x01\0\0\0\x01\0\0\0\0\0\0\0TZif2\0\0\0\0\0\0\0\0\0\0\0\0\0\0\0\0\0\0\0\0\0\0\0\0\0\0\0\0\0\0\0\0\0\0\x01\0\0\0\x04\0\0\0\0\0\0UTC\0\nUTC0\n";
+
+/// The rules of the United States from 2007 on.
+const US: &str =
+    "Rule US 2007 max - Mar Sun>=8 2:00 1:00 D\nRule US 2007 max - Nov Sun>=1 2:00 0 S\n";
+
+fn files_of(alloc: Global, texts: &[&str]) -> Result<Files, Stop> {
+    let mut copies = Vec::new(alloc);
+    for text in texts {
+        copies.push(Vec::from_slice(alloc, text.as_bytes())?)?;
+    }
+    let source = read_source(alloc, &copies)?;
+    compile(alloc, &source)
+}
+
+/// The names and numbers of octets of the files, in order.
+fn listed(alloc: Global, files: &Files) -> Result<String, Fail> {
+    let mut lines = String::new(alloc);
+    for file in 0..files.len() {
+        let name = Vec::from_slice(alloc, files.name(file))?;
+        let name = String::from_utf8(name).ok().ok_or("no text")?;
+        let line = format!(in alloc; "{name} {}\n", files.bytes(file).len())?;
+        lines.push_str(line.as_str())?;
+    }
+    Ok(lines)
+}
+
+#[test]
+fn files_stand_in_the_order_of_texts_and_lines(rt: HostRuntime) -> Result<(), Fail> {
+    let alloc = rt.alloc();
+    let rows: [(&[&str], &str); 4] = [
+        (&[], ""),
+        (&[US, "Zone Z/NY -5:00 US E%sT"], "Z/NY 193\n"),
+        (
+            &["Link Etc/UTC A", "Zone Etc/UTC 0 - UTC"],
+            "A 111\nEtc/UTC 111\n",
+        ),
+        (
+            &[
+                "Zone A -3 - %z\nLink A B\nLink D E",
+                "Link A C\nZone D 5:30 - %z",
+            ],
+            "A 113\nB 113\nE 121\nC 113\nD 121\n",
+        ),
+    ];
+    for (texts, want) in rows {
+        let files = files_of(alloc, texts).ok().ok_or("no files")?;
+        let lines = listed(alloc, &files)?;
+        assert_eq!(rt; lines.as_str(), want, "of {texts:?}");
+    }
+    Ok(())
+}
+
+#[test]
+fn a_link_has_the_octets_at_the_end_of_its_chain(rt: HostRuntime) -> Result<(), Fail> {
+    let alloc = rt.alloc();
+    let text = "Link B C\nLink A B\nLink Etc/UTC A\nZone Etc/UTC 0 - UTC";
+    let files = files_of(alloc, &[text]).ok().ok_or("no files")?;
+    let lines = listed(alloc, &files)?;
+    assert_eq!(rt; lines.as_str(), "C 111\nB 111\nA 111\nEtc/UTC 111\n");
+    for file in 0..files.len() {
+        assert_eq!(rt; files.bytes(file), UTC_FILE.as_slice(), "of file {file}");
+        assert_eq!(rt;
+            files.zone(file).footer_text(),
+            b"UTC0".as_slice(),
+            "of file {file}"
+        );
+    }
+    Ok(())
+}
+
+#[test]
+fn a_file_is_found_by_its_whole_name(rt: HostRuntime) -> Result<(), Fail> {
+    let text = "Link Etc/UTC A\nZone Etc/UTC 0 - UTC\nLink A Etc/UT";
+    let files = files_of(rt.alloc(), &[text]).ok().ok_or("no files")?;
+    let rows = [
+        ("A", Some(0)),
+        ("Etc/UTC", Some(1)),
+        ("Etc/UT", Some(2)),
+        ("Etc", None),
+        ("Etc/UTC1", None),
+        ("a", None),
+        ("", None),
+    ];
+    for (name, want) in rows {
+        assert_eq!(rt; files.find(name.as_bytes()), want, "of {name}");
+    }
+    Ok(())
+}
+
+#[test]
+fn the_fault_is_that_of_the_first_zone(rt: HostRuntime) -> Result<(), Fail> {
+    let rows: [(&[&str], u64, u64, Kind); 8] = [
+        (
+            &["Zone Z/E 0 - AAA 2000", "0 - BBB"],
+            1,
+            1,
+            Kind::NoContinuation,
+        ),
+        (&["Zone A 0 - UTC", "-6:00 - CST"], 2, 1, Kind::Keyword),
+        (
+            &["Zone A 0 - UTC", "Zone A 0 - UTC"],
+            2,
+            1,
+            Kind::DuplicateName,
+        ),
+        (&["Link X Y", "Zone /A 0 - UTC"], 2, 1, Kind::Name),
+        (
+            &["", "Zone Z/P 1:00 1:00 XXX"],
+            2,
+            1,
+            Kind::PermanentDaylight,
+        ),
+        (
+            &["Zone A 0 - UTC\nZone Z/4 1:00 1:00 XXX\nLink A B\nZone Z/8 0 - AB"],
+            1,
+            2,
+            Kind::PermanentDaylight,
+        ),
+        (
+            &[
+                "Link Z/4 B\nZone A 0 - UTC\nZone Z/8 0 - AB",
+                "Zone Z/4 1:00 1:00 XXX",
+            ],
+            1,
+            3,
+            Kind::BadAbbreviation,
+        ),
+        (
+            &["Zone Z/O 24:00 1:00 ABC\nZone Z/8 0 - AB"],
+            1,
+            1,
+            Kind::OffsetRange,
+        ),
+    ];
+    for (texts, text, line, kind) in rows {
+        let stop = files_of(rt.alloc(), texts).err().ok_or("files")?;
+        let place = Place { text, line };
+        assert_eq!(rt; stop, Stop::Fault(Fault { place, kind }), "of {texts:?}");
+    }
+    Ok(())
+}

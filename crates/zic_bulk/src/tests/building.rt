@@ -1,0 +1,193 @@
+//! Files built by several workers, with outside values.
+
+use super::{UTC_FILE, listed};
+use crate::*;
+use std::alloc::Global;
+use std::sync::Wait;
+use std::sync::atomic::{AtomicU64, Ordering};
+use std::test::Fail;
+use std::thread;
+use std::thread::Threads;
+use zic_pieces::{Gate, Open};
+use zic_source::{Fault, Kind, Place};
+
+/// Nine zones, of which the fourth and the eighth have a fault.
+const NINE: &str =
+    "Zone Z/1 0 - AAA\nZone Z/2 0 - AAA\nZone Z/3 0 - AAA\nZone Z/4 1:00 1:00 XXX\nZone Z/5 0 - AAA\n\
+Zone Z/6 0 - AAA\nZone Z/7 0 - AAA\nZone Z/8 0 - AB\nZone Z/9 0 - AAA\n";
+
+/// How many workers there are, and how many zones a piece has.
+const PLANS: [(u64, u64); 6] = [(1, 1), (2, 1), (8, 2), (64, 1), (8, 16), (2, 65_536)];
+
+/// Builds with so many workers, and so many zones in a piece.
+fn built<R: Threads + Wait + Sync, G: Gate + Sync>(
+    rt: &R,
+    alloc: Global,
+    texts: &[&str],
+    (workers, zone_piece): (u64, u64),
+    gate: &G,
+) -> Result<Result<Files, RunStop>, Fail> {
+    let mut copies = Vec::new(alloc);
+    for text in texts {
+        copies.push(Vec::from_slice(alloc, text.as_bytes())?)?;
+    }
+    let plan = Plan::new(workers, zone_piece, 1, 0, 0).ok_or("no plan")?;
+    Ok(build(rt, alloc, &copies, &plan, gate))
+}
+
+#[test]
+fn plans_are_within_their_limits(rt: HostRuntime) {
+    let rows = [
+        ([64, 65_536, 65_536, 100_000_000, 4_294_967_296], true),
+        ([1, 1, 1, 0, 0], true),
+        ([0, 1, 1, 0, 0], false),
+        ([65, 1, 1, 0, 0], false),
+        ([1, 0, 1, 0, 0], false),
+        ([1, 65_537, 1, 0, 0], false),
+        ([1, 1, 0, 0, 0], false),
+        ([1, 1, 65_537, 0, 0], false),
+        ([1, 1, 1, 100_000_001, 0], false),
+        ([1, 1, 1, 0, 4_294_967_297], false),
+    ];
+    for ([workers, zones, row_piece, max_rows, max_bytes], want) in rows {
+        let plan = Plan::new(workers, zones, row_piece, max_rows, max_bytes);
+        assert_eq!(rt;
+            plan.is_some(),
+            want,
+            "of {workers} {zones} {row_piece} {max_rows} {max_bytes}"
+        );
+    }
+}
+
+#[test]
+fn four_files_of_the_same_octets(rt: HostRuntime) -> Result<(), Fail> {
+    let texts = ["Link B C\nLink A B", "Link Etc/UTC A\nZone Etc/UTC 0 - UTC"];
+    for plan in PLANS {
+        let files = built(&rt, rt.alloc(), &texts, plan, &Open)?
+            .ok()
+            .ok_or("no files")?;
+        let lines = listed(rt.alloc(), &files)?;
+        assert_eq!(rt;
+            lines.as_str(),
+            "C 111\nB 111\nA 111\nEtc/UTC 111\n",
+            "by {plan:?}"
+        );
+        for file in 0..files.len() {
+            assert_eq!(rt;
+                files.bytes(file),
+                UTC_FILE.as_slice(),
+                "of file {file} by {plan:?}"
+            );
+        }
+    }
+    Ok(())
+}
+
+#[test]
+fn the_least_fault_decides(rt: HostRuntime) -> Result<(), Fail> {
+    let rows: [(&[&str], u64, u64, Kind); 4] = [
+        (&[NINE], 1, 4, Kind::PermanentDaylight),
+        (&["", NINE], 2, 4, Kind::PermanentDaylight),
+        (&[NINE, "-6:00 - CST"], 2, 1, Kind::Keyword),
+        (&[NINE, "Link X Y", "Zone /A 0 - UTC"], 3, 1, Kind::Name),
+    ];
+    for (texts, text, line, kind) in rows {
+        let place = Place { text, line };
+        for plan in PLANS {
+            let stop = built(&rt, rt.alloc(), texts, plan, &Open)?
+                .err()
+                .ok_or("files")?;
+            assert_eq!(rt;
+                stop,
+                RunStop::Source(Fault { place, kind }),
+                "of {texts:?} by {plan:?}"
+            );
+        }
+    }
+    Ok(())
+}
+
+/// Counts who enters: pieces 0 to 3, and others.
+#[derive(Drop)]
+struct Counter {
+    first: [AtomicU64; 4],
+    others: AtomicU64,
+}
+
+impl Gate for Counter {
+    fn enter(&self, i: u64) {
+        let counted = if i < 4 {
+            &self.first[i as usize]
+        } else {
+            &self.others
+        };
+        counted.fetch_add(1, Ordering::SeqCst);
+    }
+}
+
+#[test]
+fn no_piece_after_the_fault_is_begun(rt: HostRuntime) -> Result<(), Fail> {
+    let gate = Counter {
+        first: [
+            AtomicU64::new(0),
+            AtomicU64::new(0),
+            AtomicU64::new(0),
+            AtomicU64::new(0),
+        ],
+        others: AtomicU64::new(0),
+    };
+    let files = built(&rt, rt.alloc(), &[NINE], (1, 1), &gate)?;
+    assert!(rt; files.is_err());
+    for entered in &gate.first {
+        assert!(rt; entered.load(Ordering::SeqCst) == 1);
+    }
+    assert!(rt; gate.others.load(Ordering::SeqCst) == 0);
+    Ok(())
+}
+
+/// How long piece 0 waits for piece 1, in turns.
+const MOST_TURNS: u64 = 1_000_000;
+
+/// Holds piece 0 until piece 1 has entered.
+#[derive(Drop)]
+struct Hold {
+    one_entered: AtomicU64,
+    late: AtomicU64,
+}
+
+impl Gate for Hold {
+    fn enter(&self, i: u64) {
+        if i == 1 {
+            self.one_entered.store(1, Ordering::SeqCst);
+        } else if !has_entered(&self.one_entered) {
+            self.late.store(1, Ordering::SeqCst);
+        }
+    }
+}
+
+/// Waits until the flag is up, and says whether it was in time.
+fn has_entered(flag: &AtomicU64) -> bool {
+    for _ in 0..MOST_TURNS {
+        if flag.load(Ordering::SeqCst) == 1 {
+            return true;
+        }
+        thread::yield_now();
+    }
+    false
+}
+
+#[test]
+fn two_workers_are_at_the_gate_at_once(rt: HostRuntime) -> Result<(), Fail> {
+    let gate = Hold {
+        one_entered: AtomicU64::new(0),
+        late: AtomicU64::new(0),
+    };
+    let texts = ["Zone A -3 - %z\nZone Etc/UTC 0 - UTC"];
+    let files = built(&rt, rt.alloc(), &texts, (2, 1), &gate)?
+        .ok()
+        .ok_or("no files")?;
+    let lines = listed(rt.alloc(), &files)?;
+    assert_eq!(rt; lines.as_str(), "A 113\nEtc/UTC 111\n");
+    assert!(rt; gate.late.load(Ordering::SeqCst) == 0);
+    Ok(())
+}

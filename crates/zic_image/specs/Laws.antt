@@ -1,0 +1,19 @@
+-- Laws of images: each is the contract of a function of the module `laws`.
+use Rattle.std.specs.Prelude.{◌≡◌}
+use Rattle.zic_base.specs.declared.fault.Fault.{Fault}
+use Rattle.zic_states.specs.Zone.{Zone}
+use Rattle.zic_rules.specs.Timeline.{IsWhole}
+use Rattle.zic_image.specs.Image.{FileImage, IsImageOf, ReadsAs, IsFaultOfZone}
+
+-- The image of a zone of a sound source, to which no fault applies, is a file, which gives what the zone shows at every instant.
+abbrev pub ImagesReadAsZones : Type 0
+ImagesReadAsZones = (zone : Zone) → IsWhole zone → (image : FileImage) → IsImageOf zone image → ReadsAs zone image
+
+-- Such a zone has at most one image.
+abbrev pub OneImage : Type 0
+OneImage = (zone : Zone) → IsWhole zone → (a b : FileImage) → IsImageOf zone a → IsImageOf zone b → a ≡ b
+
+-- Nor has it an image and a fault.
+abbrev pub ImagesHaveNoFault : Type 0
+ImagesHaveNoFault =
+    (zone : Zone) → IsWhole zone → (image : FileImage) → IsImageOf zone image → (fault : Fault) → IsFaultOfZone zone fault → ⊥
