@@ -25,6 +25,3 @@ pub use rules::Rules;
 pub use until::Until;
 pub use zic_base::{Fault, Kind, Place, Stop};
 pub use zone_line::ZoneLine;
-
-#[cfg(test)]
-mod tests;

@@ -21,6 +21,3 @@ pub use zic_lines::{
     Fault, Format, FormatPart, Kind, Link, Moment, Place, Rule, Rules, Stop, Until, ZoneLine,
 };
 pub use zic_words::{ClockForm, ClockTime, Letter, Name, Saving, SetName};
-
-#[cfg(test)]
-mod tests;

@@ -32,6 +32,3 @@ pub use set_name::SetName;
 pub use split::split_at_most_once;
 pub use time::{GREATEST_OFFSET, MOST_DIGITS, offset};
 pub use year::{FIRST_YEAR, LAST_YEAR, ends_before, is_one_leap_year, last_year, parse_year};
-
-#[cfg(test)]
-mod tests;

@@ -7,10 +7,10 @@ mod rules;
 mod sample;
 mod zones;
 
-use super::*;
 use std::alloc::Global;
 use std::process::Abort;
 use std::test::Fail;
+use zic_source::*;
 
 /// What these texts give, if there is memory for it.
 fn read(alloc: Global, texts: &[&[u8]]) -> Result<Result<Source, Fault>, Fail> {

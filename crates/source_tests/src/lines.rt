@@ -1,9 +1,9 @@
 //! Lines, by the examples of zic(8) and of the tz database.
 
-use super::*;
 use std::alloc::Global;
 use std::process::Abort;
 use std::test::Fail;
+use zic_lines::*;
 
 const PLACE: Place = Place { text: 1, line: 7 };
 
