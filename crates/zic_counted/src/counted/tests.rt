@@ -1,0 +1,202 @@
+//! Counts over a reader and writer with fixed answers.
+
+ghost use Rattle.std.specs.Prelude.{◌≡◌, ◌≤◌, IfOk};
+ghost use Rattle.zic_counted.specs.Counts.{HasFailedSince};
+
+use super::Counted;
+use std::io::{self, ErrorKind, Read, Write};
+use std::process::Abort;
+use std::test::Fail;
+
+/// What a call is answered.
+#[derive(Clone, Copy, Debug, PartialEq, Eq)]
+enum Answer {
+    Bytes(usize),
+    Error(ErrorKind),
+}
+
+/// Answers each call with the first of its answers, which it drops, and from then on with no bytes.
+#[derive(Debug, Drop)]
+struct Scripted<'a> {
+    answers: &'a [Answer],
+}
+
+impl Scripted<'_> {
+    /// The answer to a call with so much room.
+    fn next(&mut self, room: usize) -> io::Result<usize>
+        ensures { IfOk result (λ n. n ≤ room) }
+    {
+        let Some((first, rest)) = self.answers.split_first() else {
+            return Ok(0);
+        };
+        self.answers = rest;
+        match first {
+            Answer::Bytes(n) => Ok((*n).min(room)),
+            Answer::Error(kind) => Err(io::Error::from(*kind)),
+        }
+    }
+}
+
+impl Read for Scripted<'_> {
+    fn read(&mut self, buf: &mut [u8]) -> io::Result<usize> {
+        self.next(buf.len())
+    }
+}
+
+impl Write for Scripted<'_> {
+    fn write(&mut self, buf: &[u8]) -> io::Result<usize> {
+        self.next(buf.len())
+    }
+
+    fn flush(&mut self) -> io::Result<()> {
+        self.next(0)?;
+        Ok(())
+    }
+}
+
+/// The answer that was given.
+fn told(answer: io::Result<usize>) -> Answer {
+    match answer {
+        Ok(n) => Answer::Bytes(n),
+        Err(e) => Answer::Error(e.kind()),
+    }
+}
+
+const INTERRUPTED: Answer = Answer::Error(ErrorKind::Interrupted);
+
+const OTHER: Answer = Answer::Error(ErrorKind::Other);
+
+/// Checks that a reader passes these answers on, and what it has counted then.
+fn expect_reads(rt: &impl Abort, answers: &[Answer], failures: u64, taken: u64) {
+    let mut reader = Counted::new(Scripted { answers });
+    for answer in answers {
+        assert_eq!(rt; told(reader.read(&mut [0; 4])), *answer);
+    }
+    assert_eq!(rt; reader.failures(), failures, "{answers:?}");
+    assert_eq!(rt; reader.taken(), taken, "{answers:?}");
+    assert!(rt; reader.into_inner().answers.is_empty());
+}
+
+/// Checks that a writer passes these answers on, each to a write of the bytes, and how many failures it has counted then.
+fn expect_writes(rt: &impl Abort, answers: &[Answer], bytes: &[u8], failures: u64) {
+    let mut writer = Counted::new(Scripted { answers });
+    for answer in answers {
+        assert_eq!(rt; told(writer.write(bytes)), *answer);
+    }
+    assert_eq!(rt; writer.failures(), failures, "{answers:?}");
+    assert_eq!(rt; writer.taken(), 0, "{answers:?}");
+    assert!(rt; writer.into_inner().answers.is_empty());
+}
+
+#[test]
+fn reads_count_errors_and_bytes(rt: HostRuntime) {
+    expect_reads(&rt, &[Answer::Bytes(3)], 0, 3);
+    expect_reads(&rt, &[Answer::Bytes(4), Answer::Bytes(2)], 0, 6);
+    expect_reads(&rt, &[Answer::Bytes(0)], 0, 0);
+    expect_reads(&rt, &[OTHER], 1, 0);
+    expect_reads(&rt, &[INTERRUPTED], 1, 0);
+    expect_reads(
+        &rt,
+        &[Answer::Bytes(1), OTHER, Answer::Bytes(2), INTERRUPTED],
+        2,
+        3,
+    );
+}
+
+#[test]
+fn writes_count_errors_and_nothing_taken_of_some(rt: HostRuntime) {
+    expect_writes(&rt, &[Answer::Bytes(4)], b"abcd", 0);
+    expect_writes(&rt, &[Answer::Bytes(1), Answer::Bytes(2)], b"abcd", 0);
+    expect_writes(&rt, &[Answer::Bytes(0)], b"abcd", 1);
+    expect_writes(&rt, &[Answer::Bytes(0)], b"", 0);
+    expect_writes(&rt, &[OTHER], b"", 1);
+    expect_writes(&rt, &[INTERRUPTED], b"abcd", 1);
+    expect_writes(&rt, &[Answer::Bytes(0), Answer::Bytes(1), OTHER], b"a", 2);
+}
+
+#[test]
+fn flushes_are_passed_on(rt: HostRuntime) {
+    let answers = [Answer::Bytes(0), OTHER, INTERRUPTED];
+    let mut writer = Counted::new(Scripted { answers: &answers });
+    for answer in &answers {
+        assert_eq!(rt; told(writer.flush().map(|()| 0)), *answer);
+    }
+    assert_eq!(rt; writer.failures(), 2);
+    assert!(rt; writer.into_inner().answers.is_empty());
+}
+
+#[test]
+fn counts_stay_at_their_greatest_value(rt: HostRuntime) {
+    let answers = [Answer::Bytes(3), OTHER, OTHER, Answer::Bytes(1)];
+    let mut reader = Counted {
+        inner: Scripted { answers: &answers },
+        failures: u64::MAX - 1,
+        taken: u64::MAX - 2,
+    };
+    for answer in &answers {
+        assert_eq!(rt; told(reader.read(&mut [0; 4])), *answer);
+    }
+    assert_eq!(rt; (reader.failures(), reader.taken()), (u64::MAX, u64::MAX));
+    assert!(rt; reader.has_failed_since(u64::MAX));
+}
+
+/// Why a reader is not read whole.
+#[derive(Clone, Copy, Debug, PartialEq, Eq)]
+enum Unread {
+    ReadFailed,
+    /// Want of memory, or too many tries.
+    Other,
+}
+
+/// Reads to the end.
+fn read_whole<R: Read>(reader: &mut Counted<R>, bytes: &mut Vec<u8>) -> Result<usize, Unread>
+    ensures read { result ≡ Err Unread.ReadFailed → HasFailedSince reader.new reader.old.failures }
+    ensures other { result ≡ Err Unread.Other → HasFailedSince reader.new reader.old.failures → ⊥ }
+{
+    let before = reader.failures();
+    match reader.read_to_end(bytes) {
+        Ok(count) => Ok(count),
+        Err(_) if reader.has_failed_since(before) => Err(Unread::ReadFailed),
+        Err(_) => Err(Unread::Other),
+    }
+}
+
+#[test]
+fn callers_tell_failed_reads(rt: HostRuntime) {
+    let alloc = rt.alloc();
+    let given = [Answer::Bytes(3), INTERRUPTED, Answer::Bytes(2), OTHER];
+    let mut reader = Counted::new(Scripted {
+        answers: &given[..3],
+    });
+    assert_eq!(rt; read_whole(&mut reader, &mut Vec::new(alloc)), Ok(5));
+    assert_eq!(rt; reader.failures(), 1);
+    let mut reader = Counted::new(Scripted { answers: &given });
+    assert_eq!(rt;
+        read_whole(&mut reader, &mut Vec::new(alloc)),
+        Err(Unread::ReadFailed)
+    );
+    assert_eq!(rt; reader.failures(), 2);
+}
+
+#[test]
+fn other_errors_are_no_failures(rt: HostRuntime) {
+    let mut reader = Counted::new(b"abc".as_slice());
+    let mut bytes = [0; 2];
+    assert!(rt; reader.read_exact(&mut bytes).is_ok());
+    assert_eq!(rt; bytes, *b"ab");
+    assert!(rt; reader.read_exact(&mut bytes).is_err());
+    assert!(rt; !reader.has_failed_since(0));
+    assert_eq!(rt; reader.taken(), 3);
+    assert!(rt; reader.into_inner().is_empty());
+}
+
+#[test]
+fn bytes_are_those_of_the_writer(rt: HostRuntime) -> Result<(), Fail> {
+    let mut writer = Counted::new(Vec::new(rt.alloc()));
+    writer.write_all(b"ab")?;
+    writer.write_all(b"c")?;
+    writer.flush()?;
+    assert!(rt; !writer.has_failed_since(0));
+    assert_eq!(rt; writer.into_inner().as_slice(), b"abc".as_slice());
+    Ok(())
+}

@@ -1,0 +1,6 @@
+//! A reader or writer that counts its failures.
+#![tactic(auto)]
+
+mod counted;
+
+pub use counted::Counted;
