@@ -8,6 +8,7 @@ const SECONDS_OF_DAY: i64 = 86_400;
 const CYCLE: i64 = 146_097 * SECONDS_OF_DAY;
 const FARTHEST_DAYS: i64 = 10;
 
+#[derive(Clone, Copy)]
 struct State<'a> {
     offset: i32,
     daylight: bool,
@@ -105,6 +106,27 @@ fn last_not_after(t: i64, year: i64, edge: &Edge, offset: i32) -> i64 {
     instant_in(year - 2, edge, offset)
 }
 
+/// A state, and the first and the last instant at which it is the same.
+#[derive(Clone, Copy)]
+struct Span<'a> {
+    state: State<'a>,
+    first: i64,
+    last: i64,
+}
+
+/// The last instant of an edge that isn't after `t`, and the first one after it.
+fn edges_around(t: i64, year: i64, edge: &Edge, offset: i32) -> (i64, i64) {
+    let latest = instant_in(year, edge, offset);
+    if latest <= t {
+        return (latest, instant_in(year + 1, edge, offset));
+    }
+    let before = instant_in(year - 1, edge, offset);
+    if before <= t {
+        return (before, latest);
+    }
+    (instant_in(year - 2, edge, offset), before)
+}
+
 fn is_daylight(standard: i32, dst: &Dst, t: i64) -> bool {
     let year = year_of(t / SECONDS_OF_DAY + FARTHEST_DAYS);
     last_not_after(t, year, &dst.stop, dst.offset) <= last_not_after(t, year, &dst.start, standard)
@@ -120,10 +142,32 @@ impl Footer {
             _ => State { offset: self.offset, daylight: false, name: &self.std },
         }
     }
+
+    fn standard_state(&self) -> State<'_> {
+        State { offset: self.offset, daylight: false, name: &self.std }
+    }
+
+    fn span(&self, t: i64) -> Span<'_> {
+        let Some(dst) = &self.dst else {
+            return Span { state: self.standard_state(), first: i64::MIN, last: i64::MAX };
+        };
+        let in_cycle = t.rem_euclid(CYCLE);
+        let year = year_of(in_cycle / SECONDS_OF_DAY + FARTHEST_DAYS);
+        let start = edges_around(in_cycle, year, &dst.start, self.offset);
+        let stop = edges_around(in_cycle, year, &dst.stop, dst.offset);
+        Span {
+            state: if stop.0 <= start.0 {
+                State { offset: dst.offset, daylight: true, name: &dst.name }
+            } else {
+                self.standard_state()
+            },
+            first: t.saturating_sub(in_cycle - start.0.max(stop.0)),
+            last: t.saturating_add(start.1.min(stop.1) - in_cycle - 1),
+        }
+    }
 }
 
-fn number(footer: &Footer, t: i64) -> i64 {
-    let state = footer.state(t);
+fn number(state: State<'_>) -> i64 {
     let letter = state.name.first().copied().unwrap_or(0);
     i64::from(state.offset) + i64::from(letter) + i64::from(state.daylight)
 }
@@ -137,13 +181,30 @@ fn main() {
         dst: Some(Dst { name: b"EDT".to_vec(), offset: -14_400, start: sunday(3, 2), stop: sunday(11, 1) }),
     };
     let footer = std::hint::black_box(eastern);
-    let sum = |instant: &dyn Fn(u32) -> i64| {
-        (0..CALLS).fold(0i64, |total, call| total.wrapping_add(number(&footer, instant(call))))
-    };
-    if word.as_deref() != Some("far") {
-        println!("near {}", sum(&|call| FIRST_NEAR + NEAR_STEP * i64::from(call)));
+    let wants = |name: &str| word.as_deref().map_or(true, |word| word == name);
+    let sum = |value: &mut dyn FnMut(u32) -> i64| (0..CALLS).fold(0i64, |total, call| total.wrapping_add(value(call)));
+    let near = |call: u32| FIRST_NEAR + NEAR_STEP * i64::from(call);
+    let far = |call: u32| FAR_STEP.wrapping_mul(i64::from(call));
+    if wants("near") {
+        println!("near {}", sum(&mut |call| number(footer.state(near(call)))));
     }
-    if word.as_deref() != Some("near") {
-        println!("far {}", sum(&|call| FAR_STEP.wrapping_mul(i64::from(call))));
+    if wants("far") {
+        println!("far {}", sum(&mut |call| number(footer.state(far(call)))));
+    }
+    if wants("kept") {
+        let mut span = footer.span(FIRST_NEAR);
+        println!("kept {}", sum(&mut |call| {
+            let t = near(call);
+            if t < span.first || span.last < t {
+                span = footer.span(t);
+            }
+            number(span.state)
+        }));
+    }
+    if wants("spans") {
+        println!("spans {}", sum(&mut |call| {
+            let span = footer.span(far(call));
+            number(span.state).wrapping_add(span.last.wrapping_sub(span.first))
+        }));
     }
 }

@@ -1,6 +1,7 @@
 #!/bin/sh
-# Times ten million calls of `Footer::state` over ten years round 2050 and over all instants, and the same loops in plain
-# Rust, and prints the nanoseconds a call of each, the best of five runs. It needs `rt` and `rustc` on the PATH.
+# Times ten million calls of `Footer::state` over ten years round 2050 and over all instants, as many instants near that are asked of
+# a span that is kept, and as many calls of `Footer::span` over all instants, and the same loops in plain Rust, and prints the
+# nanoseconds a call of each, the best of five runs. It needs `rt` and `rustc` on the PATH.
 set -eu
 cd "$(dirname "$0")/.."
 calls=10000000
@@ -31,7 +32,7 @@ show() {
     echo "$1: $((tenths / 10)).$((tenths % 10)) ns a call"
 }
 
-for instants in near far; do
+for instants in near far kept spans; do
     show "proved $instants" "$(best crates/footer_bench/out/footer_bench "$instants")"
     show "plain Rust $instants" "$(best "$work/plain" "$instants")"
 done

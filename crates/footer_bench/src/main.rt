@@ -1,5 +1,6 @@
 //! Sums what a footer shows over ten million instants and prints the sums, for `bench/footer.sh` to time: near, over ten years
-//! round 2050, and far, over all instants. The word `near` or `far` asks for one of the two.
+//! round 2050, and far, over all instants; and the same by spans: kept, near, where a new one is asked for only past the last, and
+//! spans, far, where one is asked for at each instant. The word `near`, `far`, `kept` or `spans` asks for one of the four.
 #![tactic(auto)]
 
 ghost use Rattle.std.specs.Int.{IsInRange};
@@ -7,6 +8,7 @@ ghost use Rattle.zic_posix.specs.Grammar.{IsEdge};
 
 use std::alloc::{AllocError, Global};
 use std::{env, io};
+use zic_base::State;
 use zic_posix::{Abbr, DayRule, Dst, Edge, Footer};
 
 /// 2045-01-01 00:00 UT.
@@ -24,13 +26,21 @@ fn main(rt: HostRuntime) -> io::Result<()> {
     let word = env::args(&rt)?.nth(1);
     let word = word.as_ref().map(|w| w.as_str());
     let footer = eastern(rt.alloc())?;
-    if word != Some("far") {
+    if word.unwrap_or("near") == "near" {
         let total = near_sum(&footer);
         println!(rt; "near {total}")?;
     }
-    if word != Some("near") {
+    if word.unwrap_or("far") == "far" {
         let total = far_sum(&footer);
         println!(rt; "far {total}")?;
+    }
+    if word.unwrap_or("kept") == "kept" {
+        let total = kept_sum(&footer);
+        println!(rt; "kept {total}")?;
+    }
+    if word.unwrap_or("spans") == "spans" {
+        let total = spans_sum(&footer);
+        println!(rt; "spans {total}")?;
     }
     Ok(())
 }
@@ -65,7 +75,8 @@ fn sunday(month: u8, week: u8) -> Edge
 fn near_sum(footer: &Footer) -> i64 {
     let mut total = 0i64;
     for call in 0..CALLS {
-        total = total.wrapping_add(number(footer, FIRST_NEAR + NEAR_STEP * call as i64));
+        let state = footer.state(FIRST_NEAR + NEAR_STEP * call as i64);
+        total = total.wrapping_add(number(state));
     }
     total
 }
@@ -73,14 +84,37 @@ fn near_sum(footer: &Footer) -> i64 {
 fn far_sum(footer: &Footer) -> i64 {
     let mut total = 0i64;
     for call in 0..CALLS {
-        total = total.wrapping_add(number(footer, FAR_STEP.wrapping_mul(call as i64)));
+        let state = footer.state(FAR_STEP.wrapping_mul(call as i64));
+        total = total.wrapping_add(number(state));
+    }
+    total
+}
+
+fn kept_sum(footer: &Footer) -> i64 {
+    let mut total = 0i64;
+    let mut span = footer.span(FIRST_NEAR);
+    for call in 0..CALLS {
+        let t = FIRST_NEAR + NEAR_STEP * call as i64;
+        if !span.instants.contains(t) {
+            span = footer.span(t);
+        }
+        total = total.wrapping_add(number(span.state));
+    }
+    total
+}
+
+fn spans_sum(footer: &Footer) -> i64 {
+    let mut total = 0i64;
+    for call in 0..CALLS {
+        let span = footer.span(FAR_STEP.wrapping_mul(call as i64));
+        let width = span.instants.last.wrapping_sub(span.instants.first);
+        total = total.wrapping_add(number(span.state)).wrapping_add(width);
     }
     total
 }
 
 /// What the footer shows, as one number.
-fn number(footer: &Footer, t: i64) -> i64 {
-    let state = footer.state(t);
+fn number(state: State<'_>) -> i64 {
     let letter = state.name.first().copied().unwrap_or(0);
     state.offset as i64 + letter as i64 + state.daylight as i64
 }

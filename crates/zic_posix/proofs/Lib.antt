@@ -13,3 +13,4 @@ pub mod Edges
 pub mod Lasts
 pub mod Meanings
 pub mod Cycles
+pub mod Spans

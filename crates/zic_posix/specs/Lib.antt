@@ -1,5 +1,6 @@
 pub mod Footer
 pub mod Grammar
+pub mod Instants
 pub mod Meaning
 pub mod Laws
 pub mod Parsing

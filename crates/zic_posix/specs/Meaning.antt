@@ -2,7 +2,7 @@
 -- 1970, has one start and one end. Own choices: an edge counts wherever it falls, also in another year than its own; where a start and
 -- an end fall on one instant the start wins, so that `EST5EDT,0/0,J365/25` is daylight saving time for ever, as RFC 9636, 3.3.1, has it;
 -- and day 365 of a common year, counted from 0, is 1 January of the next.
-use Rattle.std.specs.Prelude.{◌≡◌, ℕ, ◌+◌, ◌-◌, nat_le, ◌==◌, if◌then◌else◌, ℤ, pos, ◌+ℤ◌, ◌-ℤ◌, ◌*ℤ◌, ◌<ℤ◌, ◌≤ℤ◌, true, false, ◌⊎◌, Option, Some, None}
+use Rattle.std.specs.Prelude.{◌≡◌, ℕ, ◌+◌, ◌-◌, nat_le, ◌==◌, if◌then◌else◌, ℤ, pos, ◌+ℤ◌, ◌-ℤ◌, ◌*ℤ◌, ◌<ℤ◌, ◌≤ℤ◌, true, false, ◌⊎◌, Option, Some, None, IsSomeAnd}
 use Rattle.zic_base.specs.State.{Shown}
 use Rattle.zic_calendar.specs.Calendar.{day_number}
 use Rattle.zic_calendar.specs.DayForm.{form_day, week_start}
@@ -12,7 +12,9 @@ use Rattle.zic_posix.specs.declared.footer.DayRule.{DayRule}
 use Rattle.zic_posix.specs.declared.footer.DayRule.TheVariants.{J, N, M}
 use Rattle.zic_posix.specs.declared.footer.Dst.{Dst}
 use Rattle.zic_posix.specs.declared.footer.Edge.{Edge}
+use Rattle.zic_posix.specs.declared.instants.Instants.{Instants}
 use Rattle.zic_posix.specs.Footer.{TzString}
+use Rattle.zic_posix.specs.Instants.{Includes}
 
 -- week 5 is the last such weekday of the month, and week w of 1 to 4 the first on or after day 7w - 6
 abbrev pub week_form : ℕ → ℕ → On
@@ -66,3 +68,15 @@ MeansBy f (Some dst) t state =
 -- The string shows this state at the instant. POSIX TZ
 abbrev pub Means : TzString → ℤ → Shown → Type 0
 Means f t state = MeansBy f f.dst t state
+
+-- daylight saving time starts or ends in some year at this instant
+abbrev pub IsEdgeInstant : ℤ → Dst → ℤ → Type 0
+IsEdgeInstant standard dst t = (year : ℤ) × ((t ≡ start_in standard dst year) ⊎ (t ≡ stop_in dst year))
+
+-- the string has an edge at the instant
+abbrev pub HasEdgeAt : TzString → ℤ → Type 0
+HasEdgeAt f t = IsSomeAnd f.dst (λ dst. IsEdgeInstant f.offset dst t)
+
+-- The string shows this state at each of the instants.
+abbrev pub MeansThroughout : TzString → Instants → Shown → Type 0
+MeansThroughout f instants state = (t : ℤ) → Includes instants t → Means f t state

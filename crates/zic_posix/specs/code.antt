@@ -2,3 +2,4 @@
 pub mod Reading
 pub mod Text
 pub mod State
+pub mod Span

@@ -18,7 +18,7 @@ use zic_calendar::{On, civil, day_of};
 const SECONDS_OF_DAY: i64 = 86_400;
 
 /// After so many seconds, 400 years, the calendar comes again.
-const CYCLE: i64 = 146_097 * SECONDS_OF_DAY;
+pub(crate) const CYCLE: i64 = 146_097 * SECONDS_OF_DAY;
 
 /// An edge lies less than so many days outside its year: the time and the offset add up to at most 193:59:58.
 const FARTHEST_DAYS: i64 = 10;
@@ -30,17 +30,31 @@ impl Footer {
     {
         let t = t.rem_euclid(CYCLE);
         match self.dst() {
-            Some(dst) if is_daylight(self.offset(), dst, t) => State {
-                offset: dst.offset,
-                daylight: true,
-                name: dst.name.octets(),
-            },
-            _ => State {
-                offset: self.offset(),
-                daylight: false,
-                name: self.std().octets(),
-            },
+            Some(dst) if is_daylight(self.offset(), dst, t) => daylight_state(dst),
+            _ => self.standard_state(),
         }
+    }
+
+    /// What standard time shows.
+    pub(crate) fn standard_state(&self) -> State<'_>
+        ensures { shown result ≡ meaning.standard_state self.now }
+    {
+        State {
+            offset: self.offset(),
+            daylight: false,
+            name: self.std().octets(),
+        }
+    }
+}
+
+/// What daylight saving time shows.
+pub(crate) fn daylight_state(dst: &Dst) -> State<'_>
+    ensures { shown result ≡ meaning.daylight_state dst.now }
+{
+    State {
+        offset: dst.offset,
+        daylight: true,
+        name: dst.name.octets(),
     }
 }
 
@@ -58,7 +72,7 @@ fn is_daylight(standard: i32, dst: &Dst, t: i64) -> bool
 }
 
 /// The latest year of which an edge may have come at an instant.
-fn latest_year(t: i64) -> i64
+pub(crate) fn latest_year(t: i64) -> i64
     requires { IsInCycle t }
     ensures year { IsLatestYear t result }
     ensures range { IsYearOfCycle result }
@@ -86,7 +100,7 @@ fn last_not_after(t: i64, year: i64, edge: &Edge, offset: i32) -> i64
 }
 
 /// The instant of an edge in a year, where local time has this UT offset before it.
-fn instant_in(year: i64, edge: &Edge, offset: i32) -> i64
+pub(crate) fn instant_in(year: i64, edge: &Edge, offset: i32) -> i64
     requires year { IsSupportedYear year }
     requires edge { IsEdge edge.now }
     ensures { result ≡ instant_in edge.now offset year }

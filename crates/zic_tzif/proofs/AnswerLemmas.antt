@@ -152,7 +152,7 @@ module _ (content : Content) (t : ℤ) (rising : AllPairs (λ (a b : Change). a.
 -- ---- one answer
 
 -- no string has an empty text
-spells_none : (version : ℕ) (text : List ℕ) (f : TzString) → text ≡ [] → Spells version text f → ⊥
+pub spells_none : (version : ℕ) (text : List ℕ) (f : TzString) → text ≡ [] → Spells version text f → ⊥
 spells_none version text f empty spells =
     elim spells.spells_name.form [
       | inl plain ↦ let long = spells.spells_name.long in let e = ap (λ (xs : List ℕ). length xs) (sym empty ∙ spells.parts) in let n = ap (λ (xs : List ℕ). length xs) plain.0 in omega (arith, e, n, long, length-append spells.name (spells.offset ++ spells.rest))

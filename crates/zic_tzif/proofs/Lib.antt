@@ -1,4 +1,5 @@
 pub mod AnswerLemmas
+pub mod Gaps
 pub mod Passed
 pub mod ReadAgree
 pub mod ReadChecks
@@ -9,6 +10,7 @@ pub mod ReadParts
 pub mod ReadPieces
 pub mod ReadTransitions
 pub mod Search
+pub mod Spans
 pub mod Transitions
 pub mod Windows
 pub mod WriteBlock

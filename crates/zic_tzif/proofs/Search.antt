@@ -17,7 +17,7 @@ use Rattle.zic_tzif.proofs.Transitions.{changes_length}
 -- ---- times and numbers
 
 -- the instants of transitions are their times
-instant_at : (times : List ℤ) (numbers : List ℕ) → length times ≡ length numbers → (k : ℕ) (d : Change)
+pub instant_at : (times : List ℤ) (numbers : List ℕ) → length times ≡ length numbers → (k : ℕ) (d : Change)
     → (get_or (changes_at times numbers) k d).instant ≡ get_or times k d.instant
 instant_at [] numbers same k d = refl
 instant_at (time ∷ times) [] same k d = absurd (omega arith)
@@ -71,7 +71,7 @@ around [] k c at = absurd cc
 around (x ∷ changes) zero c at = ap (λ (y : Change). y ∷ changes) (same_Some x c at)
 around (x ∷ changes) (suc k) c at = ap (λ (rest : List Change). x ∷ rest) (around changes k c at)
 
-same_item : (changes : List Change) (k : ℕ) (d : Change) → k < length changes → get_or changes k (get_or changes k d) ≡ get_or changes k d
+pub same_item : (changes : List Change) (k : ℕ) (d : Change) → k < length changes → get_or changes k (get_or changes k d) ≡ get_or changes k d
 same_item [] k d within = absurd (omega arith)
 same_item (x ∷ changes) zero d within = refl
 same_item (x ∷ changes) (suc k) d within = same_item changes k d (omega (arith, within))
@@ -103,7 +103,12 @@ module _ (content : Content) (t : ℤ) (n : ℕ) (point : IsFound content.change
       let found = some_of (λ (c : Change). number ≡ c.number) (slice_get content.changes k) numbered in
       inr (found.0, last_at k found.0 is found.1, found.2)
 
-  not_before_last : length content.changes ≤ n → IsBeforeLast content t → ⊥
+  pub before_last : n < length content.changes → IsBeforeLast content t
+  before_last inside =
+      let d : Change = record { instant = t; number = 0 } in
+      (n, get_or content.changes n d, inside, same_item content.changes n d inside, after_from n (omega arith) d inside)
+
+  pub not_before_last : length content.changes ≤ n → IsBeforeLast content t → ⊥
   not_before_last all before =
       let c = before.1 in
       let within = before.2 in
@@ -113,10 +118,7 @@ module _ (content : Content) (t : ℤ) (n : ℕ) (point : IsFound content.change
 
   -- before the last transition the type after those that passed is in force
   pub gives_type : (state : Shown) → n < length content.changes → IsStateAfter content n state → Gives content t state
-  gives_type state inside after =
-      let d : Change = record { instant = t; number = 0 } in
-      let c = get_or content.changes n d in
-      inl (inl (n, c, inside, same_item content.changes n d inside, after_from n (omega arith) d inside), (after.0, type_after n after.0 refl after.1, after.2))
+  gives_type state inside after = inl (inl (before_last inside), (after.0, type_after n after.0 refl after.1, after.2))
 
   -- then the footer
   pub gives_footer : (f : TzString) (state : Shown) → length content.changes ≤ n → IsFooter content f → Means f t state → Gives content t state

@@ -3,7 +3,9 @@ use Rattle.std.specs.Prelude.{◌≡◌, ◌≢◌, ℕ, ℤ, ◌<ℤ◌, ◌≤
 use Rattle.zic_base.specs.State.{Shown, shown}
 use Rattle.zic_posix.specs.Footer.{TzString}
 use Rattle.zic_posix.specs.Grammar.{Spells}
-use Rattle.zic_posix.specs.Meaning.{Means}
+use Rattle.zic_posix.specs.Instants.{Includes}
+use Rattle.zic_posix.specs.Meaning.{Means, HasEdgeAt}
+use Rattle.zic_posix.specs.declared.instants.Instants.{Instants}
 use Rattle.zic_table.specs.declared.content.Change.{Change}
 use Rattle.zic_table.specs.Content.{Content, IsStateOfType}
 use Rattle.zic_tzif.specs.declared.zone.Answer.{Answer}
@@ -55,3 +57,17 @@ answered answer.Unspecified = None
 abbrev pub Answers : Content → ℤ → Option Shown → Type 0
 Answers content t (Some state) = Gives content t state
 Answers content t None = IsUnspecified content t
+
+-- a transition is at the instant
+abbrev pub HasTransitionAt : Content → ℤ → Type 0
+HasTransitionAt content t = Any (λ c. c.instant ≡ t) content.changes
+
+-- What is answered may change at the instant: it is a transition's, or, from the last transition on, an edge of the footer.
+abbrev pub MayChangeAt : Content → ℤ → Type 0
+MayChangeAt content t =
+    HasTransitionAt content t
+    ⊎ ((IsBeforeLast content t → ⊥) × ((f : TzString) × Spells content.version content.text f × HasEdgeAt f t))
+
+-- The content answers this at each of the instants.
+abbrev pub AnswersThroughout : Content → Instants → Option Shown → Type 0
+AnswersThroughout content instants answer = (t : ℤ) → Includes instants t → Answers content t answer

@@ -7,6 +7,7 @@ pub mod Reading
 pub mod Writing
 pub use Rattle.zic_posix.specs.Footer
 pub use Rattle.zic_posix.specs.Grammar
+pub use Rattle.zic_posix.specs.Instants
 pub use Rattle.zic_posix.specs.Meaning
 pub use Rattle.zic_base.specs.State
 pub use Rattle.zic_table.specs.Content

@@ -3,6 +3,7 @@
 
 mod data_block;
 mod designation;
+mod gap;
 mod header;
 pub mod laws;
 mod reading;
@@ -18,4 +19,5 @@ mod zone;
 pub use reading::read;
 pub use reason::{ReadStop, Reason};
 pub use writing::{write, written_is_file};
-pub use zone::{Answer, Zone};
+pub use zic_posix::Instants;
+pub use zone::{Answer, Span, Zone};

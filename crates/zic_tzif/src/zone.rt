@@ -12,6 +12,10 @@ use zic_base::State;
 use zic_posix::Footer;
 use zic_table::LocalType;
 
+mod span;
+
+pub use span::Span;
+
 /// A TZif file that was read.
 #[derive(Debug, Drop)]
 pub struct Zone {

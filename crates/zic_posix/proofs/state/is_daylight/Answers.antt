@@ -1,24 +1,6 @@
-use Rattle.std.proofs.Common.{◌≡◌, true, false, ℤ, ◌<ℤ◌, ◌≤ℤ◌, to_z-of_z, w32, w64, FitsSigned, arith, rules, MatchBool}
-use Rattle.std.specs.Prelude.{int_le}
-use Rattle.std.proofs.lemmas.Int.{ints, by_lt_z}
-use Rattle.zic_posix.specs.declared.footer.Dst.{Dst}
-use Rattle.zic_posix.specs.Meaning.{IsDaylightAt, IsStandardAt, start_in, stop_in}
-use Rattle.zic_posix.specs.code.State.{IsLastInstant}
-use Rattle.zic_posix.proofs.Meanings.{daylight_from, standard_from}
+use Rattle.std.proofs.Common.{to_z-of_z, w32, w64, FitsSigned, rules}
+use Rattle.zic_posix.proofs.Meanings.{decided}
 use Rattle.zic_posix.proofs.state.is_daylight.Goals as goal
-
-not_above : (a b : ℤ) → a ≤ℤ b → int_le a b ≡ true
-not_above a b h = grind (arith, ints)
-
-above : (a b : ℤ) → b <ℤ a → int_le a b ≡ false
-above a b h = grind (arith, ints)
-
--- the later of the last start and the last end decides, and at a tie the start
-decided : (standard : ℤ) (dst : Dst) (t start stop : ℤ) → IsLastInstant (start_in standard dst) t start → IsLastInstant (stop_in dst) t stop → MatchBool (int_le stop start) (IsDaylightAt standard dst t) (IsStandardAt standard dst t)
-decided standard dst t start stop started stopped =
-    by_lt_z start stop
-    (λ lt. rw (above stop start lt) (standard_from standard dst t started.year stopped.year started.is_last stopped.is_last (omega (arith, ints, started.is, stopped.is))))
-    (λ ge. rw (not_above stop start ge) (daylight_from standard dst t started.year stopped.year started.is_last stopped.is_last (omega (arith, ints, started.is, stopped.is))))
 
 pub returns : goal.returns
 returns c =

@@ -1,0 +1,116 @@
+//! What a footer means at an instant, and how long it stays so.
+
+ghost use Rattle.std.specs.Prelude.{◌≤◌, unsigned_abs};
+ghost use Rattle.zic_base.specs.declared.limit.TheConstants.{FARTHEST_FILE_OFFSET};
+ghost use Rattle.zic_base.specs.State.{shown};
+ghost use Rattle.zic_posix.specs.Grammar.{IsEdge, IsOffset, IsDaylight};
+ghost use Rattle.zic_posix.specs.Instants.{Includes, AreBetween};
+ghost use Rattle.zic_posix.specs.Meaning.{HasEdgeAt, MeansThroughout};
+ghost use Rattle.zic_posix.specs.code.Span.{IsAround, IsPhase};
+ghost use Rattle.zic_posix.specs.code.State.{IsInCycle, IsLatestYear, IsYearOfCycle, instant_in};
+
+use crate::footer::{Dst, Edge, Footer};
+use crate::instants::{FIRST_INSTANT, Instants, LAST_INSTANT};
+use crate::state::{CYCLE, daylight_state, instant_in, latest_year};
+use zic_base::State;
+
+/// What a footer says at some instants, at all of them the same.
+#[derive(Clone, Copy, Debug, PartialEq, Eq)]
+pub struct Span<'a> {
+    pub state: State<'a>,
+    pub instants: Instants,
+}
+
+impl Footer {
+    /// What the footer says at an instant, in seconds since 1970-01-01 00:00 UT, and the instants round it up to the next edges,
+    /// at which it says the same: from the last edge that isn't after it to just before the first one after it, or all instants
+    /// where there is no daylight part.
+    pub fn span(&self, t: i64) -> Span<'_>
+        ensures asked { Includes result.instants t }
+        ensures means { MeansThroughout self.now result.instants (shown result.state) }
+        ensures edges { AreBetween (HasEdgeAt self.now) result.instants }
+    {
+        let Some(dst) = self.dst() else {
+            let instants = Instants {
+                first: FIRST_INSTANT,
+                last: LAST_INSTANT,
+            };
+            return Span {
+                state: self.standard_state(),
+                instants,
+            };
+        };
+        let in_cycle = t.rem_euclid(CYCLE);
+        let phase = phase_at(self.offset(), dst, in_cycle);
+        let instants = Instants {
+            first: t.saturating_sub(in_cycle - phase.from),
+            last: t.saturating_add(phase.until - in_cycle - 1),
+        };
+        let state = if phase.is_daylight {
+            daylight_state(dst)
+        } else {
+            self.standard_state()
+        };
+        Span { state, instants }
+    }
+}
+
+/// Which time is in force at an instant, since which edge, and until which.
+#[derive(Clone, Copy)]
+struct Phase {
+    is_daylight: bool,
+    from: i64,
+    until: i64,
+}
+
+/// What is in force at an instant of the first 400 years from 1970 on.
+fn phase_at(standard: i32, dst: &Dst, t: i64) -> Phase
+    requires standard { IsOffset standard }
+    requires dst { IsDaylight standard dst.now }
+    requires t { IsInCycle t }
+    ensures { IsPhase standard dst.now t result }
+{
+    let year = latest_year(t);
+    let start = edges_around(t, year, &dst.start, standard);
+    let stop = edges_around(t, year, &dst.stop, dst.offset);
+    Phase {
+        is_daylight: stop.last <= start.last,
+        from: start.last.max(stop.last),
+        until: start.next.min(stop.next),
+    }
+}
+
+/// The last instant of an edge that isn't after an instant, and the first one after it.
+#[derive(Clone, Copy)]
+struct Around {
+    last: i64,
+    next: i64,
+}
+
+/// The instants of an edge round this one, where local time has this UT offset before the edge.
+fn edges_around(t: i64, year: i64, edge: &Edge, offset: i32) -> Around
+    requires year { IsLatestYear t year }
+    requires range { IsYearOfCycle year }
+    requires edge { IsEdge edge.now }
+    requires offset { unsigned_abs offset ≤ FARTHEST_FILE_OFFSET }
+    ensures { IsAround (instant_in edge.now offset) t result }
+{
+    let latest = instant_in(year, edge, offset);
+    if latest <= t {
+        return Around {
+            last: latest,
+            next: instant_in(year + 1, edge, offset),
+        };
+    }
+    let before = instant_in(year - 1, edge, offset);
+    if before <= t {
+        return Around {
+            last: before,
+            next: latest,
+        };
+    }
+    Around {
+        last: instant_in(year - 2, edge, offset),
+        next: before,
+    }
+}

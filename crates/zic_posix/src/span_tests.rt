@@ -1,0 +1,82 @@
+//! How long footers mean the same. The edges are those of glibc 2.36 under such a TZ, and before 1970 and after 2370 those of the
+//! same years of its calendar, whole cycles of 400 years away; those at ties and of edges in a neighbouring year are reckoned by hand.
+
+use crate::*;
+use std::process::Abort;
+use std::test::Fail;
+
+/// An instant, the first and the last of its span, and whether daylight saving time is in force.
+type Row = (i64, i64, i64, bool);
+
+/// Checks the spans of the footer of a text.
+fn check(rt: &(impl Abort + AllocGlobal), text: &str, rows: &[Row]) -> Result<(), Fail> {
+    let footer = parse(rt.alloc(), text.as_bytes(), 3)?;
+    for (t, first, last, daylight) in rows {
+        let span = footer.span(*t);
+        let instants = Instants {
+            first: *first,
+            last: *last,
+        };
+        assert!(rt; span.instants == instants, "{text} at {t}");
+        assert!(rt; span.state.daylight == *daylight, "{text} at {t}");
+    }
+    Ok(())
+}
+
+#[test]
+fn spans_reach_from_edge_to_edge(rt: HostRuntime) -> Result<(), Fail> {
+    static NEW_YORK: [Row; 12] = [
+        (1_173_596_399, 1_162_706_400, 1_173_596_399, false),
+        (1_173_596_400, 1_173_596_400, 1_194_155_999, true),
+        (1_173_596_401, 1_173_596_400, 1_194_155_999, true),
+        (1_194_155_999, 1_173_596_400, 1_194_155_999, true),
+        (1_194_156_000, 1_194_156_000, 1_205_045_999, false),
+        (4_102_444_800, 4_097_196_000, 4_108_690_799, false),
+        (13_796_377_199, 13_785_487_200, 13_796_377_199, false),
+        (13_796_377_200, 13_796_377_200, 13_816_936_799, true),
+        (-11_449_184_401, -11_460_074_400, -11_449_184_401, false),
+        (-11_449_184_400, -11_449_184_400, -11_428_624_801, true),
+        (i64::MAX, 9_223_372_036_852_322_400, i64::MAX, false),
+        (i64::MIN, i64::MIN, -9_223_372_036_851_152_401, false),
+    ];
+    check(&rt, "EST5EDT,M3.2.0,M11.1.0", &NEW_YORK)?;
+    static DUBLIN: [Row; 3] = [
+        (978_307_200, 972_781_200, 985_481_999, true),
+        (i64::MAX, 9_223_372_036_851_699_600, i64::MAX, true),
+        (i64::MIN, i64::MIN, -9_223_372_036_849_359_601, true),
+    ];
+    check(&rt, "IST-1GMT0,M10.5.0,M3.5.0/1", &DUBLIN)?;
+    static JERUSALEM: [Row; 2] = [
+        (1_364_515_199, 1_351_378_800, 1_364_515_199, false),
+        (1_364_515_200, 1_364_515_200, 1_382_828_399, true),
+    ];
+    check(&rt, "IST-2IDT,M3.4.4/26,M10.5.0", &JERUSALEM)?;
+    static SANTIAGO: [Row; 2] = [
+        (1_712_458_800, 1_712_458_800, 1_725_767_999, false),
+        (i64::MAX, 9_223_372_036_846_872_000, i64::MAX, true),
+    ];
+    check(&rt, "<-04>4<-03>,M9.1.6/24,M4.1.6/24", &SANTIAGO)
+}
+
+#[test]
+fn spans_at_odd_edges(rt: HostRuntime) -> Result<(), Fail> {
+    // Both edges fall on one instant, so daylight saving time goes on, and its spans are whole years.
+    static TIE: [Row; 1] = [(951_876_000, 951_876_000, 983_411_999, true)];
+    check(&rt, "AAA0BBB,J60,J60/3", &TIE)?;
+    // Both edges of a year come in January of the next, the stop first.
+    static LATE: [Row; 3] = [
+        (1_704_240_000, 1_673_046_000, 1_704_491_999, true),
+        (1_704_492_000, 1_704_492_000, 1_704_581_999, false),
+        (1_704_582_000, 1_704_582_000, 1_736_114_399, true),
+    ];
+    check(&rt, "AAA0BBB,J365/167,J364/167", &LATE)?;
+    static CONSTANT: [Row; 1] = [(0, i64::MIN, i64::MAX, false)];
+    check(&rt, "AAA0", &CONSTANT)
+}
+
+#[test]
+fn instants_have_both_ends(rt: HostRuntime) {
+    let instants = Instants { first: -1, last: 1 };
+    assert!(rt; instants.contains(-1) && instants.contains(1));
+    assert!(rt; !instants.contains(-2) && !instants.contains(2));
+}

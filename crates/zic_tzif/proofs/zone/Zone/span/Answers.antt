@@ -1,0 +1,157 @@
+use Rattle.std.proofs.Common.{◌≡◌, ℕ, ◌<◌, ◌≤◌, ℤ, List, length, Option, FitsSigned, w64, to_z, of_z, to_z-of_z, refl, ap, subst, ◌∙◌, arith, rules}
+use Rattle.zic_base.specs.State.{shown}
+use Rattle.zic_posix.specs.declared.instants.Instants.{Instants}
+use Rattle.zic_posix.specs.Footer.{TzString}
+use Rattle.zic_posix.specs.Instants.{Includes}
+use Rattle.zic_table.specs.declared.content.Change.{Change}
+use Rattle.zic_table.specs.Content.{Content}
+use Rattle.zic_tzif.specs.Block.{changes_at}
+use Rattle.zic_tzif.specs.code.Kept.{IsKept}
+use Rattle.zic_tzif.specs.code.Window.{IsSplit}
+use Rattle.zic_tzif.proofs.Search.{times_rise, kept_footer, kept_none}
+use Rattle.zic_tzif.proofs.Spans.{IsPlaced, placed, type_throughout, changes_before_last, open_throughout, changes_without_footer, asked_of_both, footer_throughout, changes_with_footer}
+use Rattle.zic_tzif.proofs.Transitions.{changes_length}
+use Rattle.zic_tzif.proofs.zone.Zone.span.Goals as goal
+
+-- there are as many transitions as numbers
+as_long : (times : List ℤ) (numbers : List ℕ) (changes : List Change) → length times ≡ length numbers → changes_at times numbers ≡ changes → length changes ≡ length numbers
+as_long times numbers changes as_many same =
+    let size = ap (λ (xs : List Change). length xs) same in
+    omega (arith, changes_length times numbers as_many, as_many, size)
+
+pub gap_at-gap-requires : goal.gap_at-gap-requires
+gap_at-gap-requires c = times_rise c.self.inside.times.times.items c.self.inside.numbers.items c.self.invariant.as_many c.self.invariant.kept.rising
+
+pub state_after-requires : goal.state_after-requires
+state_after-requires c =
+    let times = c.self.inside.times.times.items in
+    let numbers = c.self.inside.numbers.items in
+    let as_many = c.self.invariant.as_many in
+    let same = ap (λ (content : Content). content.changes) c.self.view_is in
+    let long = as_long times numbers c.args.self.now.changes as_many same in
+    let inside = c.gap_at-gap.ensures.count.inside in
+    omega (arith, inside, long, as_many)
+
+pub returns-then-gap-len-clause-answers : goal.returns-then-gap-len-clause-answers
+returns-then-gap-len-clause-answers c =
+    let content = c.args.self.now in
+    let t = c.args.t in
+    let gap = c.gap_at-gap.result.instants in
+    let n = c.gap_at-gap.result.count in
+    let times = c.self.inside.times.times.items in
+    let numbers = c.self.inside.numbers.items in
+    let as_many = c.self.invariant.as_many in
+    let same = ap (λ (content : Content). content.changes) c.self.view_is in
+    let split = subst (λ (z : ℤ). IsSplit times z n) (to_z-of_z c.ranges.t) c.gap_at-gap.ensures.count in
+    let here = subst (λ (z : ℤ). Includes gap z) (to_z-of_z c.ranges.t) c.gap_at-gap.ensures.asked in
+    let p : IsPlaced content t n gap = placed content times numbers t n gap as_many same split here c.gap_at-gap.ensures.between in
+    let long = as_long times numbers content.changes as_many same in
+    let inside = c.if-gap-len.true in
+    type_throughout content t n gap p (shown c.state_after.result) (omega (arith, inside, c.len.ensures, long)) c.state_after.ensures
+
+pub returns-then-gap-len-clause-changes : goal.returns-then-gap-len-clause-changes
+returns-then-gap-len-clause-changes c =
+    let content = c.args.self.now in
+    let t = c.args.t in
+    let gap = c.gap_at-gap.result.instants in
+    let n = c.gap_at-gap.result.count in
+    let times = c.self.inside.times.times.items in
+    let numbers = c.self.inside.numbers.items in
+    let as_many = c.self.invariant.as_many in
+    let same = ap (λ (content : Content). content.changes) c.self.view_is in
+    let split = subst (λ (z : ℤ). IsSplit times z n) (to_z-of_z c.ranges.t) c.gap_at-gap.ensures.count in
+    let here = subst (λ (z : ℤ). Includes gap z) (to_z-of_z c.ranges.t) c.gap_at-gap.ensures.asked in
+    let p : IsPlaced content t n gap = placed content times numbers t n gap as_many same split here c.gap_at-gap.ensures.between in
+    let long = as_long times numbers content.changes as_many same in
+    let inside = c.if-gap-len.true in
+    changes_before_last content t n gap p (omega (arith, inside, c.len.ensures, long))
+
+pub returns-in-Some : goal.returns-in-Some
+returns-in-Some c =
+    let content = c.args.self.now in
+    let footer = c.self.inside.footer in
+    let t = c.args.t in
+    let gap = c.gap_at-gap.result.instants in
+    let n = c.gap_at-gap.result.count in
+    let times = c.self.inside.times.times.items in
+    let numbers = c.self.inside.numbers.items in
+    let as_many = c.self.invariant.as_many in
+    let kept = subst (λ (content : Content). IsKept content footer) c.self.view_is c.self.invariant.kept in
+    let same = ap (λ (content : Content). content.changes) c.self.view_is in
+    let split = subst (λ (z : ℤ). IsSplit times z n) (to_z-of_z c.ranges.t) c.gap_at-gap.ensures.count in
+    let here = subst (λ (z : ℤ). Includes gap z) (to_z-of_z c.ranges.t) c.gap_at-gap.ensures.asked in
+    let p : IsPlaced content t n gap = placed content times numbers t n gap as_many same split here c.gap_at-gap.ensures.between in
+    let long = as_long times numbers content.changes as_many same in
+    let past = c.if-gap-len.false in
+    let all : length content.changes ≤ n = omega (arith, past, c.len.ensures, long) in
+    let f = c.in-Some.footer in
+    let span = c.span-span.result.instants in
+    let asked = subst (λ (z : ℤ). Includes span z) (to_z-of_z c.ranges.t) c.span-span.ensures.asked in
+    let gap_fits : FitsSigned w64 gap.first = search rules in
+    let begin_fits : FitsSigned w64 span.first = search rules in
+    let end_fits : FitsSigned w64 span.last = search rules in
+    let first_fits : FitsSigned w64 c.max-first.result = search rules in
+    let first = rw (to_z-of_z gap_fits, to_z-of_z begin_fits) at c.max-first.ensures.value in
+    let instants : Instants = record { first = c.max-first.result; last = span.last } in
+    let is_footer = kept_footer content footer f kept.footer_is c.in-Some.is in
+    rw (to_z-of_z first_fits, to_z-of_z end_fits) (record {
+      asked = asked_of_both content t n gap p f span instants all is_footer asked c.span-span.ensures.edges end_fits first refl;
+      answers = footer_throughout content t n gap p f span instants all is_footer asked c.span-span.ensures.edges end_fits first refl (shown c.span-span.result.state) c.span-span.ensures.means;
+      changes = changes_with_footer content t n gap p f span instants all is_footer asked c.span-span.ensures.edges end_fits first refl;
+    })
+
+pub returns-in-None-clause-changes : goal.returns-in-None-clause-changes
+returns-in-None-clause-changes c =
+    let content = c.args.self.now in
+    let footer = c.self.inside.footer in
+    let t = c.args.t in
+    let gap = c.gap_at-gap.result.instants in
+    let n = c.gap_at-gap.result.count in
+    let times = c.self.inside.times.times.items in
+    let numbers = c.self.inside.numbers.items in
+    let as_many = c.self.invariant.as_many in
+    let kept = subst (λ (content : Content). IsKept content footer) c.self.view_is c.self.invariant.kept in
+    let same = ap (λ (content : Content). content.changes) c.self.view_is in
+    let split = subst (λ (z : ℤ). IsSplit times z n) (to_z-of_z c.ranges.t) c.gap_at-gap.ensures.count in
+    let here = subst (λ (z : ℤ). Includes gap z) (to_z-of_z c.ranges.t) c.gap_at-gap.ensures.asked in
+    let p : IsPlaced content t n gap = placed content times numbers t n gap as_many same split here c.gap_at-gap.ensures.between in
+    changes_without_footer content t n gap p (kept_none content footer kept.footer_is c.in-None.is)
+
+pub returns-in-None-2-clause-answers : goal.returns-in-None-2-clause-answers
+returns-in-None-2-clause-answers c =
+    let content = c.args.self.now in
+    let footer = c.self.inside.footer in
+    let t = c.args.t in
+    let gap = c.gap_at-gap.result.instants in
+    let n = c.gap_at-gap.result.count in
+    let times = c.self.inside.times.times.items in
+    let numbers = c.self.inside.numbers.items in
+    let as_many = c.self.invariant.as_many in
+    let kept = subst (λ (content : Content). IsKept content footer) c.self.view_is c.self.invariant.kept in
+    let same = ap (λ (content : Content). content.changes) c.self.view_is in
+    let split = subst (λ (z : ℤ). IsSplit times z n) (to_z-of_z c.ranges.t) c.gap_at-gap.ensures.count in
+    let here = subst (λ (z : ℤ). Includes gap z) (to_z-of_z c.ranges.t) c.gap_at-gap.ensures.asked in
+    let p : IsPlaced content t n gap = placed content times numbers t n gap as_many same split here c.gap_at-gap.ensures.between in
+    let long = as_long times numbers content.changes as_many same in
+    let past = c.if-gap-len.false in
+    let some = c.if-gap-eq0.false in
+    let bound = p.inside in
+    open_throughout content t n gap p (λ none. some (omega (arith, none, bound)))
+    (omega (arith, past, c.len.ensures, long)) (kept_none content footer kept.footer_is c.in-None.is)
+
+pub returns-in-None-2-clause-changes : goal.returns-in-None-2-clause-changes
+returns-in-None-2-clause-changes c =
+    let content = c.args.self.now in
+    let footer = c.self.inside.footer in
+    let t = c.args.t in
+    let gap = c.gap_at-gap.result.instants in
+    let n = c.gap_at-gap.result.count in
+    let times = c.self.inside.times.times.items in
+    let numbers = c.self.inside.numbers.items in
+    let as_many = c.self.invariant.as_many in
+    let kept = subst (λ (content : Content). IsKept content footer) c.self.view_is c.self.invariant.kept in
+    let same = ap (λ (content : Content). content.changes) c.self.view_is in
+    let split = subst (λ (z : ℤ). IsSplit times z n) (to_z-of_z c.ranges.t) c.gap_at-gap.ensures.count in
+    let here = subst (λ (z : ℤ). Includes gap z) (to_z-of_z c.ranges.t) c.gap_at-gap.ensures.asked in
+    let p : IsPlaced content t n gap = placed content times numbers t n gap as_many same split here c.gap_at-gap.ensures.between in
+    changes_without_footer content t n gap p (kept_none content footer kept.footer_is c.in-None.is)
