@@ -5,3 +5,7 @@ pub mod Numbers
 pub mod Zones
 pub mod Joining
 pub mod Stops
+pub mod Lists
+pub mod NamesOf
+pub mod SoundFiles
+pub mod OneFiles

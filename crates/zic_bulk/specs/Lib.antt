@@ -2,6 +2,8 @@ pub mod code
 pub mod Plan
 pub mod Files
 pub mod Build
+pub mod Sound
+pub mod Laws
 pub use Rattle.zic_source.specs.Source
 pub use Rattle.zic_source.specs.Grammar
 pub use Rattle.zic_source.specs.FirstFault

@@ -4,3 +4,4 @@ pub mod Zones
 pub mod Pieces
 pub mod Stop
 pub mod Names
+pub mod Kept

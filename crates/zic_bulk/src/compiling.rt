@@ -38,6 +38,8 @@ pub(crate) fn files_of(
     ensures ok { IfOk result (AreFilesOf source.now) }
     ensures memory { IfErr result (λ _. 0 < length source.now.zones) }
 {
+    // `zones` also tells that the source is sound.
+    prove!(images.len() == source.zones());
     let entries = entries_of(alloc, source)?;
     let names = Names::of(alloc, &entries)?;
     Ok(Files::new(images, entries, names))

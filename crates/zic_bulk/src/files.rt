@@ -3,6 +3,7 @@
 ghost use Rattle.std.specs.Prelude.{◌≡◌, ◌≢◌, ◌<◌, true, length, slice_get, All, IfSome, IfNone, IsSomeAnd};
 ghost use Rattle.zic_words.specs.Name.{is_name};
 ghost use Rattle.zic_tzif.specs.Reading.{IsFile};
+ghost use Rattle.zic_bulk.specs.Sound.{IsAlwaysKnown, AreSoundFiles};
 
 use crate::entry::Entry;
 use crate::names::Names;
@@ -10,7 +11,7 @@ use std::marker::Model;
 use zic_image::Image;
 use zic_tzif::Zone;
 
-/// The files of all Zone and Link lines, in the order of the texts and their lines. A link shares the image of its zone.
+/// The files of all Zone and Link lines, in the order of the texts and their lines. A link shares the image of its zone. Their names differ.
 #[derive(Debug, Drop)]
 pub struct Files {
     images: Vec<Image>,
@@ -19,16 +20,16 @@ pub struct Files {
 }
 
 impl Model for Files {
-    ghost use Rattle.std.specs.Prelude.{List, map, All, ◌<◌, length};
+    ghost use Rattle.std.specs.Prelude.{List, map};
     ghost use Rattle.zic_bulk.specs.Files.{File};
     ghost use Rattle.zic_bulk.specs.code.Entries.{file_of};
-    ghost use Rattle.zic_bulk.specs.code.Names.{AreNumbersOf};
+    ghost use Rattle.zic_bulk.specs.code.Kept.{AreKept};
 
     ghost Value = { List File };
 
     ghost view = { λ f. map (file_of f.images.items) f.entries.items };
 
-    ghost invariant = { λ f. All (λ entry. entry.zone < length f.images.items) f.entries.items × AreNumbersOf f.entries.items f.names };
+    ghost invariant = { λ f. AreKept f.images.items f.entries.items f.names };
 }
 
 impl Files {
@@ -40,6 +41,7 @@ impl Files {
     pub(crate) fn new(images: Vec<Image>, entries: Vec<Entry>, names: Names) -> Files
         requires images { All (λ entry. entry.zone < length images.items) entries.items }
         requires names { AreNumbersOf entries.items names }
+        requires sound { AreSoundFiles (map (file_of images.items) entries.items) }
         ensures { result ≡ map (file_of images.items) entries.items }
     {
         Files {
@@ -51,7 +53,8 @@ impl Files {
 
     /// How many files there are.
     pub fn len(&self) -> usize
-        ensures { result ≡ length self.now }
+        ensures count { result ≡ length self.now }
+        ensures sound { AreSoundFiles self.now }
     {
         self.entries.len()
     }
@@ -73,12 +76,16 @@ impl Files {
         self.image(i).octets()
     }
 
-    /// What a reader makes of the octets of a file, by the file's number from 0.
+    /// What a reader makes of the octets of a file, by the file's number from 0. It leaves local time open at no instant, and local time
+    /// is always within 24:00:00 of UT, under an abbreviation of 3 to 16 ASCII letters, digits, `+` and `-`.
     pub fn zone(&self, i: usize) -> &Zone
         requires { i < length self.now }
         ensures zone { IfSome (slice_get self.now i) (λ file. result.now ≡ file.image.content) }
         ensures read { IfSome (slice_get self.now i) (λ file. IsFile file.image.octets file.image.content) }
+        ensures known { IsAlwaysKnown result.now }
     {
+        // `len` also tells that the files are sound.
+        prove!(i < self.len());
         self.image(i).zone()
     }
 

@@ -6,6 +6,7 @@ mod compiling;
 mod entry;
 mod files;
 mod images;
+pub mod laws;
 mod names;
 mod pieces;
 mod plan;
@@ -16,6 +17,7 @@ pub use compiling::compile;
 pub use files::Files;
 pub use plan::{MOST_BYTES, MOST_OF_PIECE, MOST_ROWS, MOST_WORKERS, Plan};
 pub use stop::{RowKind, RunStop};
+pub use zic_counted::Counted;
 
 #[cfg(test)]
 mod tests;

@@ -14,7 +14,7 @@ pub enum RowKind {
     RowZone = 36,
     /// The second field is no instant.
     RowInstant = 37,
-    /// The instant is outside years 1 to 9999.
+    /// The instant is before 0001-01-02 or after 9999-12-30, UT.
     RowRange = 38,
     /// A record follows the last that there may be.
     TooManyRows = 39,

@@ -16,8 +16,30 @@ const NINE: &str =
     "Zone Z/1 0 - AAA\nZone Z/2 0 - AAA\nZone Z/3 0 - AAA\nZone Z/4 1:00 1:00 XXX\nZone Z/5 0 - AAA\n\
 Zone Z/6 0 - AAA\nZone Z/7 0 - AAA\nZone Z/8 0 - AB\nZone Z/9 0 - AAA\n";
 
-/// How many workers there are, and how many zones a piece has.
-const PLANS: [(u64, u64); 6] = [(1, 1), (2, 1), (8, 2), (64, 1), (8, 16), (2, 65_536)];
+/// Nine zones without a fault, west of Greenwich by one hour to nine.
+const NINE_WEST: &str =
+    "Zone Z/1 -1 - %z\nZone Z/2 -2 - %z\nZone Z/3 -3 - %z\nZone Z/4 -4 - %z\nZone Z/5 -5 - %z\n\
+Zone Z/6 -6 - %z\nZone Z/7 -7 - %z\nZone Z/8 -8 - %z\nZone Z/9 -9 - %z\n";
+
+/// Each number of workers with each number of zones that a piece has.
+const PLANS: [(u64, u64); 16] = [
+    (1, 1),
+    (1, 2),
+    (1, 16),
+    (1, 65_536),
+    (2, 1),
+    (2, 2),
+    (2, 16),
+    (2, 65_536),
+    (8, 1),
+    (8, 2),
+    (8, 16),
+    (8, 65_536),
+    (64, 1),
+    (64, 2),
+    (64, 16),
+    (64, 65_536),
+];
 
 /// Builds with so many workers, and so many zones in a piece.
 fn built<R: Threads + Wait + Sync, G: Gate + Sync>(
@@ -78,6 +100,31 @@ fn four_files_of_the_same_octets(rt: HostRuntime) -> Result<(), Fail> {
                 UTC_FILE.as_slice(),
                 "of file {file} by {plan:?}"
             );
+        }
+    }
+    Ok(())
+}
+
+#[test]
+fn nine_files_in_order(rt: HostRuntime) -> Result<(), Fail> {
+    let alloc = rt.alloc();
+    for plan in PLANS {
+        let files = built(&rt, alloc, &[NINE_WEST], plan, &Open)?
+            .ok()
+            .ok_or("no files")?;
+        assert_eq!(rt; files.len(), 9, "by {plan:?}");
+        for file in 0..files.len() {
+            let hours = file + 1;
+            let name = format!(in alloc; "Z/{hours}")?;
+            assert_eq!(rt; files.name(file), name.as_bytes(), "by {plan:?}");
+            let footer = format!(in alloc; "<-0{hours}>{hours}")?;
+            let zone = files.zone(file);
+            assert_eq!(rt;
+                zone.footer_text(),
+                footer.as_bytes(),
+                "of file {file} by {plan:?}"
+            );
+            assert_eq!(rt; files.bytes(file).len(), 113, "of file {file} by {plan:?}");
         }
     }
     Ok(())

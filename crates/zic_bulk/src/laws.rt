@@ -1,0 +1,18 @@
+//! Laws of files, each the contract of a function. No function here does anything.
+
+ghost use Rattle.zic_bulk.specs.Laws.{FilesAreSound, TextsHaveOneListOfFiles, NoFilesHaveAFault};
+
+/// The files of a sound source are sound: their names differ, and each tells local time at every instant, within the limits.
+pub fn files_are_sound()
+    ensures { FilesAreSound }
+{}
+
+/// Texts have at most one list of files.
+pub fn texts_have_one_list_of_files()
+    ensures { TextsHaveOneListOfFiles }
+{}
+
+/// No texts have both files and a fault.
+pub fn no_files_have_a_fault()
+    ensures { NoFilesHaveAFault }
+{}
