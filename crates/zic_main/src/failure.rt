@@ -1,61 +1,57 @@
-//! Why a command gives up, and the status that the program then ends with.
+//! Why the program gives up, and the status that it then ends with.
 
-use std::alloc::{AllocError, Global};
+ghost use Rattle.std.specs.Prelude.{◌≡◌};
+ghost use Rattle.zic_commands.specs.declared.failure.Failure.TheVariants.{Memory};
+ghost use Rattle.zic_main.specs.Status.{refusal_status};
+ghost use Rattle.zic_main.specs.declared.failure.Refusal.TheVariants.{Command};
+
+use std::alloc::{AllocError, AllocFailed};
 use thiserror::Error;
-use zic_base::{Kind, Stop};
-use zic_tzif::Reason;
+use zic_commands::Failure;
 
-/// Why a command gives up.
+/// Why the program gives up. Its text goes to standard error.
 #[derive(Debug, Drop, Error)]
-pub enum Failure {
+pub enum Refusal {
+    /// The words ask for no command, or for help.
     #[error("{0}")]
     Usage(String),
-    #[error("cannot read {0}")]
-    CannotRead(String),
-    #[error("cannot write output")]
-    CannotWriteOutput,
-    #[error("line {line}: {kind:?}")]
-    Source { line: u64, kind: Kind },
-    #[error("file: {0:?}")]
-    File(Reason),
-    #[error("out of memory")]
-    Memory,
+    /// The command gave up.
+    #[error("{0}")]
+    Command(Failure),
 }
 
-impl Failure {
-    /// The status of a program that ends with the failure.
-    pub fn status(&self) -> u8 {
+impl Refusal {
+    /// The status of a program that ends so: 2 for its words, else that of the command's failure.
+    pub fn status(&self) -> u8
+        ensures { result ≡ refusal_status self.now }
+    {
         match self {
-            Failure::Source { .. } | Failure::File(_) => 1,
-            Failure::Usage(_) => 2,
-            Failure::CannotRead(_) | Failure::CannotWriteOutput => 3,
-            Failure::Memory => 4,
+            Refusal::Usage(_) => 2,
+            Refusal::Command(failure) => failure.status(),
         }
     }
 }
 
-impl From<AllocError> for Failure {
-    fn from(_e: AllocError) -> Failure {
-        Failure::Memory
+impl From<Failure> for Refusal {
+    ghost from_gives = { λ failure e. e ≡ Command failure };
+
+    fn from(failure: Failure) -> Refusal {
+        Refusal::Command(failure)
     }
 }
 
-impl From<Stop> for Failure {
-    fn from(stop: Stop) -> Failure {
-        match stop {
-            Stop::Fault(fault) => Failure::Source {
-                line: fault.place.line,
-                kind: fault.kind,
-            },
-            Stop::Memory => Failure::Memory,
-        }
+impl From<AllocError> for Refusal {
+    ghost from_gives = { λ _ e. e ≡ Command Memory };
+
+    fn from(_e: AllocError) -> Refusal {
+        Refusal::Command(Failure::Memory)
     }
 }
 
-/// That a path can't be read.
-pub fn cannot_read(alloc: Global, path: &str) -> Failure {
-    match String::from_str(alloc, path) {
-        Ok(path) => Failure::CannotRead(path),
-        Err(_) => Failure::Memory,
+impl<T: Drop> From<AllocFailed<T>> for Refusal {
+    ghost from_gives = { λ _ e. e ≡ Command Memory };
+
+    fn from(_e: AllocFailed<T>) -> Refusal {
+        Refusal::Command(Failure::Memory)
     }
 }

@@ -1,61 +1,61 @@
 //! `pzic`: compiles time zone source to TZif files, and reads such files.
 #![tactic(auto)]
 
-mod check;
 mod command_line;
 mod failure;
-mod input;
-mod show;
 
 use command_line::Request;
-use failure::Failure;
-use std::fs::File;
+use failure::Refusal;
+use std::fs::Files;
 use std::io;
 use std::process::ExitCode;
-use std::rt::{Env, Files};
+use std::rt::Env;
+use std::sync::Wait;
+use std::thread::Threads;
 
 fn main(rt: HostRuntime) -> ExitCode {
     match run(&rt) {
         Ok(()) => ExitCode::SUCCESS,
-        Err(failure) => {
-            let _ = eprintln!(rt; "{failure}");
-            ExitCode::from(failure.status())
+        Err(refusal) => {
+            let _ = eprintln!(rt; "{refusal}");
+            ExitCode::from(refusal.status())
         }
     }
 }
 
-fn run<R: Env + Files + Input + Print + AllocGlobal>(rt: &R) -> Result<(), Failure> {
+fn run<R: Env + Files + Input + Print + AllocGlobal + Threads + Wait + Sync>(
+    rt: &R,
+) -> Result<(), Refusal> {
+    let alloc = rt.alloc();
+    let (mut input, mut output) = (rt.reader(), io::writer(rt));
     match command_line::requested(rt)? {
-        Request::Check { source } => check_source(rt, source.as_str()),
-        Request::Show { file, instant } => show_file(rt, file.as_str(), instant),
+        Request::Check { source, plan } => zic_commands::check_source(
+            rt,
+            alloc,
+            &plan,
+            rt,
+            &mut input,
+            source.as_str(),
+            &mut output,
+        )?,
+        Request::Build {
+            folder,
+            sources,
+            plan,
+        } => zic_commands::build_sources(
+            rt,
+            alloc,
+            &plan,
+            rt,
+            &mut input,
+            folder.as_str(),
+            &sources,
+        )?,
+        Request::Show { file, instant } => {
+            zic_commands::show_file(alloc, rt, file.as_str(), instant, &mut output)?
+        }
     }
-}
-
-fn check_source<R: Files + Input + Print + AllocGlobal>(
-    rt: &R,
-    source: &str,
-) -> Result<(), Failure> {
-    let alloc = rt.alloc();
-    let mut writer = io::writer(rt);
-    if source == "-" {
-        return check::check(alloc, source, rt.reader(), &mut writer);
-    }
-    match File::open(rt, source) {
-        Ok(file) => check::check(alloc, source, file, &mut writer),
-        Err(_) => Err(failure::cannot_read(alloc, source)),
-    }
-}
-
-fn show_file<R: Files + Print + AllocGlobal>(
-    rt: &R,
-    path: &str,
-    instant: i64,
-) -> Result<(), Failure> {
-    let alloc = rt.alloc();
-    match File::open(rt, path) {
-        Ok(file) => show::show(alloc, path, file, instant, &mut io::writer(rt)),
-        Err(_) => Err(failure::cannot_read(alloc, path)),
-    }
+    Ok(())
 }
 
 #[cfg(test)]

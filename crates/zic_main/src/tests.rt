@@ -1,320 +1,41 @@
-//! The commands over readers and writers, with outside values.
+//! What the words of the command line ask for.
 
-use crate::check::check;
 use crate::command_line::{Request, parse};
-use crate::failure::Failure;
-use crate::show::show;
-use crate::{check_source, show_file};
+use crate::failure::Refusal;
 use std::alloc::Global;
-use std::io::{self, ErrorKind, Read, Write};
-use std::process::Abort;
 use std::test::Fail;
+use zic_commands::Failure;
 
-/// The file of `Zone Etc/UTC 0 - UTC`, as RFC 9636 has its parts: two headers, an empty first block, one local time
-/// type, its designation and the footer.
-const UTC_FILE: &[u8; 111] =
-    b"TZif2\0\0\0\0\0\0\0\0\0\0\0\0\0\0\0\0\0\0\0\0\0\0\0\0\0\0\0\0\0\0\0\0\0\0\x01\0\0\0\x01\0\0\0\0\0\0\0TZif2\0\0\0\0\0\0\0\0\0\0\0\0\0\0\0\0\0\0\0\0\0\0\0\0\0\0\0\0\0\0\0\0\0\0\x01\0\0\0\x04\0\0\0\0\0\0UTC\0\nUTC0\n";
-
-/// A reader whose reads fail, and a writer whose writes do.
-#[derive(Drop)]
-struct Broken;
-
-impl Read for Broken {
-    fn read(&mut self, _buf: &mut [u8]) -> io::Result<usize> {
-        Err(io::Error::from(ErrorKind::Other))
-    }
-}
-
-impl Write for Broken {
-    fn write(&mut self, _buf: &[u8]) -> io::Result<usize> {
-        Err(io::Error::from(ErrorKind::Other))
-    }
-
-    fn flush(&mut self) -> io::Result<()> {
-        Ok(())
-    }
-}
-
-/// What `check` writes, or the failure's text and status.
-fn checked(alloc: Global, source: &str) -> Result<String, Fail> {
-    let mut out = Vec::new(alloc);
-    match check(alloc, "-", source.as_bytes(), &mut out) {
-        Ok(()) => Ok(String::from_utf8(out).ok().ok_or("no text")?),
-        Err(failure) => told(alloc, failure),
-    }
-}
-
-fn told(alloc: Global, failure: Failure) -> Result<String, Fail> {
-    let status = failure.status();
-    Ok(format!(in alloc; "{failure}, status {status}")?)
-}
-
-/// The rules of the United States from 2007 on.
-const US: &str =
-    "Rule US 2007 max - Mar Sun>=8 2:00 1:00 D\nRule US 2007 max - Nov Sun>=1 2:00 0 S\n";
-
-/// Checks that each source, after the same lines, gives what stands beside it.
-fn expect_rows(
-    rt: &impl Abort,
-    alloc: Global,
-    before: &str,
-    rows: &[(&str, &str)],
-) -> Result<(), Fail> {
-    for (lines, want) in rows {
-        let source = format!(in alloc; "{before}{lines}")?;
-        let got = checked(alloc, source.as_str())?;
-        assert_eq!(rt; got.as_str(), *want, "at {lines:?}");
-    }
-    Ok(())
-}
-
-#[test]
-fn check_lists_zones_that_never_change(rt: HostRuntime) -> Result<(), Fail> {
-    let rows = [
-        ("", ""),
-        ("# nothing\n\n", ""),
-        ("Rule R 2000 max - Jan 1 0 0 -", ""),
-        ("Rule A 2004 only - Feb 29 0 1 D", ""),
-        ("Zone Etc/UTC 0 - UTC\n", "Etc/UTC 111 UTC0\n"),
-        ("z Etc/UTC 0 - UTC", "Etc/UTC 111 UTC0\n"),
-        ("Zone A 0 0 UTC", "A 111 UTC0\n"),
-        ("Zone Z/I 5:30 - %z", "Z/I 121 <+0530>-5:30\n"),
-        ("Zone Z/A -3:00 - %z", "Z/A 113 <-03>3\n"),
-        ("Zone Z/D 24 - UTC", "Z/D 113 UTC-24\n"),
-        (
-            "Zone Z/C 0 - ABCDEFGHIJKLMNOP",
-            "Z/C 137 ABCDEFGHIJKLMNOP0\n",
-        ),
-        (
-            "\nZone A 0 - UTC\nZone B 0 - UTC\n",
-            "A 111 UTC0\nB 111 UTC0\n",
-        ),
-        ("Zone A 0 - UTC 2000\n0 0 UTC", "A 111 UTC0\n"),
-        (
-            "Rule R 2000 max - Jan 1 0 0 T\nZone A 0 R U%sC",
-            "A 111 UTC0\n",
-        ),
-    ];
-    expect_rows(&rt, rt.alloc(), "", &rows)
-}
-
-#[test]
-fn check_lists_zones_that_change(rt: HostRuntime) -> Result<(), Fail> {
-    let rows = [
-        (
-            "Zone Z/NY -5:00 US E%sT",
-            "Z/NY 193 EST5EDT,M3.2.0,M11.1.0\n",
-        ),
-        (
-            "Zone Z/V -5:00 US E%sT 2007 Jul 1 0:00\n-5:00 - EST",
-            "Z/V 139 EST5\n",
-        ),
-        (
-            "Zone Z/U -5:00 US E%sT 2007 Mar 11 2:00\n-5:00 US E%sT",
-            "Z/U 193 EST5EDT,M3.2.0,M11.1.0\n",
-        ),
-        (
-            "Zone Z/U -5:00 US E%sT 2007 Mar 11 2:00\n-5:00 - EST",
-            "Z/U 111 EST5\n",
-        ),
-    ];
-    expect_rows(&rt, rt.alloc(), US, &rows)
-}
-
-#[test]
-fn check_lists_zones_of_other_rules(rt: HostRuntime) -> Result<(), Fail> {
-    let rows = [
-        (
-            "R US 2007 ma - Mar Su>=8 2 1 D\nR US 2007 ma - N su>=1 2 0 S\nZ Z/NY -5 US E%sT",
-            "Z/NY 193 EST5EDT,M3.2.0,M11.1.0\n",
-        ),
-        (
-            "Rule US 1967 1973 - Apr lastSun 2:00 1:00 D\nRule US 1967 2006 - Oct lastSun 2:00 0 S\nZone Z/M -5:00 - EST 1973 Apr 29 2:00\n-6:00 US C%sT",
-            "Z/M 149 CST6\n",
-        ),
-        (
-            "Rule Eire 1996 max - Mar lastSun 1:00u 0 -\nRule Eire 1996 max - Oct lastSun 1:00u -1:00 -\nZone Z/D 1:00 Eire IST/GMT",
-            "Z/D 188 IST-1GMT0,M10.5.0,M3.5.0/1\n",
-        ),
-        (
-            "Rule Zion 2013 max - Mar Fri>=23 2:00 1:00 D\nRule Zion 2013 max - Oct lastSun 2:00 0 S\nZone Z/J 2:00 Zion I%sT",
-            "Z/J 197 IST-2IDT,M3.4.4/26,M10.5.0\n",
-        ),
-        (
-            "Rule A 2000 max - Mar Sun>=25 2:00 1:00 D\nRule A 2000 max - Oct lastSun 3:00 0 S\nZone Z/C 1:00 A C%sT",
-            "Z/C 196 CST-1CDT,M3.5.0,M10.5.0/3\n",
-        ),
-        (
-            "Rule Chile 2023 max - Apr Sun>=2 3:00u 0 -\nRule Chile 2023 max - Sep Sun>=2 4:00u 1:00 -\nZone Z/S -4:00 Chile %z",
-            "Z/S 193 <-04>4<-03>,M9.1.6/24,M4.1.6/24\n",
-        ),
-    ];
-    expect_rows(&rt, rt.alloc(), "", &rows)
-}
-
-#[test]
-fn check_lists_links_where_they_stand(rt: HostRuntime) -> Result<(), Fail> {
-    let rows = [
-        (
-            "Link B C\nLink A B\nLink Etc/UTC A\nZone Etc/UTC 0 - UTC",
-            "C 111 UTC0\nB 111 UTC0\nA 111 UTC0\nEtc/UTC 111 UTC0\n",
-        ),
-        (
-            "Zone A -3 - %z\nLink A B\nZone C 5:30 - %z\nLink C D",
-            "A 113 <-03>3\nB 113 <-03>3\nC 121 <+0530>-5:30\nD 121 <+0530>-5:30\n",
-        ),
-        ("Link A B\nLink B A", "line 1: LinkCycle, status 1"),
-        ("Link X Y", "line 1: UnknownTarget, status 1"),
-    ];
-    expect_rows(&rt, rt.alloc(), "", &rows)
-}
-
-#[test]
-fn check_tells_the_fault_of_a_line(rt: HostRuntime) -> Result<(), Fail> {
-    let rows = [
-        ("Zonk A 0 - UTC", "line 1: Keyword, status 1"),
-        ("-6:00 - CST", "line 1: Keyword, status 1"),
-        ("Zone A 0 -", "line 1: FieldCount, status 1"),
-        ("Zone /A 0 - UTC", "line 1: Name, status 1"),
-        ("Zone A 24:00:01 - UTC", "line 1: Offset, status 1"),
-        ("Zone \"A 0 - UTC", "line 1: Quote, status 1"),
-        ("Zone Z/E 0 - AAA 2000", "line 1: NoContinuation, status 1"),
-        ("R US 2007 ma - M Su>=8 2 1 D", "line 1: Month, status 1"),
-        ("Rule A 2000 max - Feb 29 0 1 D", "line 1: Day, status 1"),
-        (
-            "Zone A 0 - UTC\nZone A 0 - UTC\n",
-            "line 2: DuplicateName, status 1",
-        ),
-    ];
-    expect_rows(&rt, rt.alloc(), "", &rows)
-}
-
-#[test]
-fn check_tells_the_fault_of_a_zone(rt: HostRuntime) -> Result<(), Fail> {
-    let rows = [
-        (
-            "Zone Z/P 1:00 1:00 XXX",
-            "line 1: PermanentDaylight, status 1",
-        ),
-        ("Zone Z/Q 1:00 - X%sT", "line 1: NoLetter, status 1"),
-        ("Zone Z/O 24:00 1:00 ABC", "line 1: OffsetRange, status 1"),
-        ("Zone Z/B 0 - AB", "line 1: BadAbbreviation, status 1"),
-        (
-            "Zone Z/C 0 - ABCDEFGHIJKLMNOPQ",
-            "line 1: BadAbbreviation, status 1",
-        ),
-        (
-            "Zone Z/W 0 - AAA 2000\n0 - BBB 1999\n0 - CCC",
-            "line 1: UntilNotRising, status 1",
-        ),
-        (
-            "Zone A 0 - UTC\nZone Z/4 1:00 1:00 XXX\nZone Z/8 0 - AB",
-            "line 2: PermanentDaylight, status 1",
-        ),
-    ];
-    expect_rows(&rt, rt.alloc(), "", &rows)
-}
-
-#[test]
-fn check_tells_rules_that_no_footer_can_have(rt: HostRuntime) -> Result<(), Fail> {
-    let rows = [
-        (
-            "Rule A 2000 max - Mar Sun>=29 2:00 1:00 D\nRule A 2000 max - Oct lastSun 3:00 0 S\nZone Z/C 1:00 A C%sT",
-            "line 3: NoFooter, status 1",
-        ),
-        (
-            "Rule A 2000 max - Mar Sun>=25 2:00 1:00 D\nRule A 2000 max - Oct lastSun 3:00 0 S\nRule A 2000 max - Jun 1 0:00 2:00 M\nZone Z/C 1:00 A C%sT",
-            "line 4: NoFooter, status 1",
-        ),
-        (
-            "Rule R 2000 max - Mar 1 0 0 -\nRule R 2000 max - Oct 1 0 0 -\nZone A 0 R UTC",
-            "line 3: NoFooter, status 1",
-        ),
-        (
-            "Rule B 2000 max - Mar 1 0:00 1:00 D\nRule B 2000 max - Mar Sun>=1 0:00 0 S\nZone Z/X 0 B X%sT",
-            "line 3: RulesOutOfOrder, status 1",
-        ),
-        (
-            "Rule N 2000 max - Jan Sun<=1 0:00u 1:00 D\nRule N 2000 max - Dec lastSun 1:00u 0 S\nZone Z/N 0 N N%sT",
-            "line 3: NoFooter, status 1",
-        ),
-    ];
-    expect_rows(&rt, rt.alloc(), "", &rows)
-}
-
-#[test]
-fn check_tells_what_cannot_be_read_or_written(rt: HostRuntime) -> Result<(), Fail> {
-    let alloc = rt.alloc();
-    let mut out = Vec::new(alloc);
-    let unread = check(alloc, "zones", Broken, &mut out)
-        .err()
-        .ok_or("it was read")?;
-    assert_eq!(rt;
-        told(alloc, unread)?.as_str(),
-        "cannot read zones, status 3"
-    );
-    let source = b"Zone Etc/UTC 0 - UTC\n".as_slice();
-    let unwritten = check(alloc, "zones", source, &mut Broken)
-        .err()
-        .ok_or("it was written")?;
-    assert_eq!(rt;
-        told(alloc, unwritten)?.as_str(),
-        "cannot write output, status 3"
-    );
-    Ok(())
-}
-
-#[test]
-fn a_path_that_is_not_there_cannot_be_read(rt: HostRuntime) -> Result<(), Fail> {
-    let alloc = rt.alloc();
-    let unread = check_source(&rt, "no/such/source")
-        .err()
-        .ok_or("it was read")?;
-    assert_eq!(rt;
-        told(alloc, unread)?.as_str(),
-        "cannot read no/such/source, status 3"
-    );
-    let unread = show_file(&rt, "", 0).err().ok_or("it was read")?;
-    assert_eq!(rt; told(alloc, unread)?.as_str(), "cannot read , status 3");
-    Ok(())
-}
-
-/// What `show` writes of a file, or the failure's text and status.
-fn showed(alloc: Global, octets: &[u8], instant: i64) -> Result<String, Fail> {
-    let mut out = Vec::new(alloc);
-    match show(alloc, "utc", octets, instant, &mut out) {
-        Ok(()) => Ok(String::from_utf8(out).ok().ok_or("no text")?),
-        Err(failure) => told(alloc, failure),
-    }
-}
-
-#[test]
-fn show_tells_a_state_or_why_not(rt: HostRuntime) -> Result<(), Fail> {
-    let alloc = rt.alloc();
-    assert_eq!(rt; showed(alloc, UTC_FILE, -1)?.as_str(), "+00:00:00 0 UTC\n");
-    assert_eq!(rt;
-        showed(alloc, &UTC_FILE[..0], -1)?.as_str(),
-        "file: Short, status 1"
-    );
-    let mut out = Vec::new(alloc);
-    let unread = show(alloc, "utc", Broken, 0, &mut out)
-        .err()
-        .ok_or("it was read")?;
-    assert_eq!(rt; told(alloc, unread)?.as_str(), "cannot read utc, status 3");
-    Ok(())
-}
-
-/// What the words ask for, or the failure's status.
+/// What the words ask for, or the status and the first line of what is told in place of it.
 fn asked(alloc: Global, line: &str) -> Result<String, Fail> {
     let mut words = Vec::new(alloc);
     for word in line.split_whitespace() {
         words.push(String::from_str(alloc, word)?)?;
     }
     match parse(alloc, &words) {
-        Ok(Request::Check { source }) => Ok(format!(in alloc; "check {source}")?),
+        Ok(Request::Check { source, plan }) => {
+            let (workers, piece) = (plan.workers(), plan.zone_piece());
+            Ok(format!(in alloc; "check {source} by {workers} of {piece}")?)
+        }
+        Ok(
+            Request::Build {
+                folder,
+                sources,
+                plan,
+            },
+        ) => {
+            let (workers, piece) = (plan.workers(), plan.zone_piece());
+            let mut text = format!(in alloc; "build {folder}")?;
+            for source in &sources {
+                text.push(' ')?;
+                text.push_str(source.as_str())?;
+            }
+            write!(text, " by {workers} of {piece}")?;
+            Ok(text)
+        }
         Ok(Request::Show { file, instant }) => Ok(format!(in alloc; "show {file} {instant}")?),
-        Err(failure) => {
-            let status = failure.status();
+        Err(refusal) => {
+            let status = refusal.status();
             Ok(format!(in alloc; "status {status}")?)
         }
     }
@@ -323,22 +44,73 @@ fn asked(alloc: Global, line: &str) -> Result<String, Fail> {
 #[test]
 fn words_are_a_request_or_a_usage_fault(rt: HostRuntime) -> Result<(), Fail> {
     let cases = [
-        ("pzic check -", "check -"),
-        ("pzic check zones", "check zones"),
+        ("pzic check -", "check - by 4 of 16"),
+        (
+            "pzic check --workers 64 zones --zone-piece=65536",
+            "check zones by 64 of 65536",
+        ),
+        ("pzic check --workers +4 a", "check a by 4 of 16"),
+        ("pzic check --workers 0 a", "status 2"),
+        ("pzic check --workers 65 a", "status 2"),
+        ("pzic check --zone-piece 0 a", "status 2"),
+        ("pzic check --zone-piece 65537 a", "status 2"),
+        ("pzic check --workers x a", "status 2"),
+        ("pzic check --workers 18446744073709551616 a", "status 2"),
+        ("pzic check --workers 1 --workers 1 a", "status 2"),
+        ("pzic check --row-piece 1 a", "status 2"),
+        ("pzic check", "status 2"),
+        ("pzic check a b", "status 2"),
+        ("pzic build D a", "build D a by 4 of 16"),
+        ("pzic build --workers 1 D a - b", "build D a - b by 1 of 16"),
+        ("pzic build D - a -", "status 2"),
+        ("pzic build D", "status 2"),
         ("pzic show f 12", "show f 12"),
         ("pzic show f -- -1", "show f -1"),
         ("pzic show f +1", "status 2"),
         ("pzic show f 9223372036854775808", "status 2"),
+        ("pzic show --workers 1 f 1", "status 2"),
         ("pzic show f", "status 2"),
-        ("pzic check", "status 2"),
-        ("pzic check a b", "status 2"),
         ("pzic convert -", "status 2"),
         ("pzic --help", "status 2"),
+        ("pzic check --help", "status 2"),
         ("pzic", "status 2"),
     ];
     for (line, want) in cases {
         let got = asked(rt.alloc(), line)?;
         assert_eq!(rt; got.as_str(), want, "at {line:?}");
     }
+    Ok(())
+}
+
+#[test]
+fn usage_calls_the_program_pzic(rt: HostRuntime) -> Result<(), Fail> {
+    let alloc = rt.alloc();
+    for line in [
+        "out/zic_main check",
+        "out/zic_main --help",
+        "out/zic_main build --help",
+    ] {
+        let mut words = Vec::new(alloc);
+        for word in line.split_whitespace() {
+            words.push(String::from_str(alloc, word)?)?;
+        }
+        let refusal = parse(alloc, &words)
+            .err()
+            .ok_or("it was asked for something")?;
+        let text = refusal.to_string(alloc)?;
+        assert!(rt; text.as_str().contains("Usage: pzic"), "at {line:?}");
+        assert!(rt; !text.as_str().contains("zic_main"), "at {line:?}");
+    }
+    Ok(())
+}
+
+#[test]
+fn a_failure_of_a_command_is_told_in_its_words(rt: HostRuntime) -> Result<(), Fail> {
+    let refusal = Refusal::from(Failure::CannotWriteOutput);
+    assert_eq!(rt; refusal.status(), 3);
+    assert_eq!(rt;
+        refusal.to_string(rt.alloc())?.as_str(),
+        "cannot write output"
+    );
     Ok(())
 }

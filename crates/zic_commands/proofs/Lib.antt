@@ -1,0 +1,4 @@
+pub mod InputLemmas
+pub mod ListingLemmas
+pub mod NameLemmas
+pub mod ReadingLemmas

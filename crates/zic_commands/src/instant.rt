@@ -1,0 +1,16 @@
+//! The words for instants.
+
+ghost use Rattle.std.specs.Prelude.{◌≡◌, ◌↔◌, IsSome, IfSome};
+ghost use Rattle.std.specs.Str.Parse.{signed_digits_value};
+ghost use Rattle.zic_commands.specs.Instant.{IsInstant};
+
+/// An instant in seconds from 1970-01-01T00:00:00 UT, without leap seconds: an optional `-` and digits, within `i64`. A `+` is refused.
+pub fn parse_instant(text: &str) -> Option<i64>
+    ensures just { IsSome result ↔ IsInstant text.now }
+    ensures value { IfSome result (λ instant. instant ≡ signed_digits_value 10 text.now) }
+{
+    if text.starts_with('+') {
+        return None;
+    }
+    text.parse::<i64>().ok()
+}

@@ -1,0 +1,102 @@
+//! `show`: what a file says of an instant.
+
+ghost use Rattle.std.specs.Prelude.{◌≡◌, ◌≢◌, ◌⊎◌, ◌+◌, ℕ, List, ◌++◌, take, IfOk, IfErr, IfSome, OnOk};
+ghost use Rattle.std.specs.Io.KnownBytes.{Appends};
+ghost use Rattle.zic_base.specs.declared.limit.TheConstants.{LONGEST_FILE};
+ghost use Rattle.zic_base.specs.State.{shown};
+ghost use Rattle.zic_tzif.specs.Answer.{answered};
+ghost use Rattle.zic_tzif.specs.Reading.{IsFault};
+ghost use Rattle.zic_tzif.specs.declared.reason.Reason.{Reason};
+ghost use Rattle.zic_counted.specs.Counts.{CountsNothing};
+ghost use Rattle.zic_commands.specs.Failing.{IsFailureOfShow};
+ghost use Rattle.zic_commands.specs.declared.failure.Failure.TheVariants.{CannotWriteOutput, File, Memory};
+ghost use Rattle.zic_commands.specs.Text.{answer_line, state_line, offset_text, two_digits, IsShowing};
+
+use crate::failure::Failure;
+use crate::input::read_file_octets;
+use crate::output::write_output;
+use std::alloc::{AllocError, Global};
+use std::io::{Read, Write};
+use zic_base::State;
+use zic_counted::Counted;
+use zic_tzif::{Answer, read};
+
+/// Writes the UT offset, daylight flag and abbreviation that the file gives at an instant, as `-05:00:00 0 EST`,
+/// or `unspecified`. `path` is what a failure calls the file.
+pub fn show<R: Read, W: Write>(
+    alloc: Global,
+    path: &str,
+    reader: &mut Counted<R>,
+    instant: i64,
+    writer: &mut Counted<W>,
+) -> Result<(), Failure>
+    ensures ok { OnOk result (IfSome (R.remaining reader.old.inner)
+        (λ octets. (line : List ℕ) × IsShowing (take (LONGEST_FILE + 1) octets) instant line × Appends (W.contents writer.old.inner) (W.contents writer.new.inner) line)) }
+    ensures flushed { OnOk result (CountsNothing writer.old writer.new) }
+    ensures err { IfErr result (IsFailureOfShow path.now (R.remaining reader.old.inner) reader.old reader.new writer.old writer.new) }
+    ensures nothing { IfErr result (λ failure. failure ≢ CannotWriteOutput → writer.new ≡ writer.old) }
+{
+    let octets = read_file_octets(alloc, path, reader)?;
+    let line = line_of(alloc, &octets, instant)?;
+    write_output(writer, &line)
+}
+
+/// The line for the octets of a file.
+fn line_of(alloc: Global, octets: &[u8], instant: i64) -> Result<Vec<u8>, Failure>
+    ensures ok { IfOk result (λ line. IsShowing octets.now instant line.items) }
+    ensures err { IfErr result (λ failure. (failure ≡ Memory) ⊎ ((reason : Reason) × IsFault octets.now reason × (failure ≡ File reason))) }
+{
+    let zone = read(alloc, octets)?;
+    let answer = zone.at(instant);
+    let line = answer_line(alloc, &answer)?;
+    Ok(line)
+}
+
+/// The line for what a file answers.
+fn answer_line(alloc: Global, answer: &Answer<'_>) -> Result<Vec<u8>, AllocError>
+    ensures { IfOk result (λ line. line.items ≡ answer_line (answered answer.now)) }
+{
+    match answer {
+        Answer::Known(state) => state_line(alloc, state),
+        Answer::Unspecified => Vec::from_slice(alloc, b"unspecified\n"),
+    }
+}
+
+/// The line for local time.
+fn state_line(alloc: Global, state: &State<'_>) -> Result<Vec<u8>, AllocError>
+    ensures { IfOk result (λ line. line.items ≡ state_line (shown state.now)) }
+{
+    let mut line = offset_text(alloc, state)?;
+    let flag = if state.daylight { b'1' } else { b'0' };
+    line.extend_from_slice(&[b' ', flag, b' '])?;
+    line.extend_from_slice(state.name)?;
+    line.push(b'\n')?;
+    Ok(line)
+}
+
+/// The offset of a state, as `-05:00:00`.
+fn offset_text(alloc: Global, state: &State<'_>) -> Result<Vec<u8>, AllocError>
+    ensures { IfOk result (λ text. text.items ≡ offset_text state.now.offset) }
+{
+    let mut text = Vec::new(alloc);
+    text.push(if state.offset < 0 { b'-' } else { b'+' })?;
+    let seconds = state.offset.unsigned_abs();
+    push_two_digits(alloc, &mut text, seconds / 3600)?;
+    text.push(b':')?;
+    push_two_digits(alloc, &mut text, seconds / 60 % 60)?;
+    text.push(b':')?;
+    push_two_digits(alloc, &mut text, seconds % 60)?;
+    Ok(text)
+}
+
+/// A number in two digits at least.
+fn push_two_digits(alloc: Global, text: &mut Vec<u8>, n: u32) -> Result<(), AllocError>
+    ensures { OnOk result (text.new.items ≡ text.old.items ++ two_digits n) }
+{
+    if n < 10 {
+        text.push(b'0')?;
+    }
+    let digits = n.to_string(alloc)?;
+    text.extend_from_slice(digits.as_bytes())?;
+    Ok(())
+}

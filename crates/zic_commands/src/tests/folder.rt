@@ -1,0 +1,294 @@
+//! `build`, and what the commands open, over a file system that notes its calls.
+
+use super::{UTC_FILE, plan, told};
+use crate::*;
+use std::alloc::{Allocator, Global};
+use std::cell::RefCell;
+use std::fs::{Files, Metadata, OpenFile, OpenOptions};
+use std::io::{self, ErrorKind, Read, Seek, SeekFrom, Write};
+use std::sync::Wait;
+use std::test::Fail;
+use std::thread::Threads;
+
+/// Notes calls, of which one fails.
+#[derive(Clone, Copy)]
+struct Log<'a> {
+    alloc: Global,
+    calls: &'a RefCell<String>,
+    fails: &'a str,
+}
+
+impl<'a> Log<'a> {
+    fn note(&self, what: &str, name: &str) -> io::Result<()> {
+        let Ok(mut calls) = self.calls.try_borrow_mut() else {
+            return Err(io::Error::from(ErrorKind::Deadlock));
+        };
+        let call = format!(in self.alloc; "{what} {name}")?;
+        calls.push_str(call.as_str())?;
+        calls.push('\n')?;
+        if call.as_str() == self.fails {
+            return Err(io::Error::from(ErrorKind::Other));
+        }
+        Ok(())
+    }
+}
+
+/// A file system in which each file that is opened has the same octets.
+#[derive(Drop)]
+struct Disk<'a> {
+    log: Log<'a>,
+    octets: &'a [u8],
+}
+
+/// A file of it.
+#[derive(Drop)]
+struct DiskFile<'a> {
+    log: Log<'a>,
+    octets: &'a [u8],
+}
+
+impl<'a> Read for DiskFile<'a> {
+    fn read(&mut self, buf: &mut [u8]) -> io::Result<usize> {
+        let mut octets = self.octets;
+        let read = octets.read(buf);
+        self.octets = octets;
+        read
+    }
+}
+
+impl<'a> Write for DiskFile<'a> {
+    fn write(&mut self, buf: &[u8]) -> io::Result<usize> {
+        let count = buf.len().to_string(self.log.alloc)?;
+        self.log.note("write", count.as_str())?;
+        Ok(buf.len())
+    }
+
+    fn flush(&mut self) -> io::Result<()> {
+        self.log.note("flush", "")
+    }
+}
+
+impl<'a> Seek for DiskFile<'a> {
+    fn seek(&mut self, _to: SeekFrom) -> io::Result<u64> {
+        Err(io::Error::from(ErrorKind::Unsupported))
+    }
+}
+
+impl<'a> OpenFile for DiskFile<'a> {
+    fn metadata(&self) -> io::Result<Metadata> {
+        Err(io::Error::from(ErrorKind::Unsupported))
+    }
+
+    fn set_len(&self, _size: u64) -> io::Result<()> {
+        Err(io::Error::from(ErrorKind::Unsupported))
+    }
+
+    fn sync_all(&self) -> io::Result<()> {
+        self.log.note("sync", "")
+    }
+
+    fn sync_data(&self) -> io::Result<()> {
+        Err(io::Error::from(ErrorKind::Unsupported))
+    }
+}
+
+impl<'a> Files for Disk<'a> {
+    type File = DiskFile<'a>;
+
+    type Dir = DiskFile<'a>;
+
+    fn open_file(&self, how: &OpenOptions, path: &str) -> io::Result<DiskFile<'a>> {
+        let what = if how.asks_create_new() {
+            "create"
+        } else {
+            "open"
+        };
+        self.log.note(what, path)?;
+        Ok(DiskFile {
+            log: self.log,
+            octets: self.octets,
+        })
+    }
+
+    fn open_dir(&self, _path: &str) -> io::Result<DiskFile<'a>> {
+        Err(io::Error::from(ErrorKind::Unsupported))
+    }
+
+    fn metadata(&self, _path: &str) -> io::Result<Metadata> {
+        Err(io::Error::from(ErrorKind::NotFound))
+    }
+
+    fn symlink_metadata(&self, _path: &str) -> io::Result<Metadata> {
+        Err(io::Error::from(ErrorKind::NotFound))
+    }
+
+    fn copy(&self, _from: &str, _to: &str) -> io::Result<u64> {
+        Err(io::Error::from(ErrorKind::Unsupported))
+    }
+
+    fn rename(&self, from: &str, to: &str) -> io::Result<()> {
+        self.log.note("rename", from)?;
+        self.log.note("to", to)
+    }
+
+    fn remove_file(&self, path: &str) -> io::Result<()> {
+        self.log.note("remove", path)
+    }
+
+    fn create_dir(&self, path: &str) -> io::Result<()> {
+        self.log.note("folder", path)
+    }
+
+    fn remove_dir(&self, _path: &str) -> io::Result<()> {
+        Err(io::Error::from(ErrorKind::Unsupported))
+    }
+
+    fn remove_dir_all<B: Allocator>(&self, _alloc: B, _path: &str) -> io::Result<()> {
+        Err(io::Error::from(ErrorKind::Unsupported))
+    }
+}
+
+/// The calls of `build` of the words, and then its failure's text and status, if it has one. The word `-` is this input.
+fn built<T: Threads + Wait + Sync>(
+    rt: &T,
+    alloc: Global,
+    folder: &str,
+    words: &str,
+    input: &str,
+    fails: &str,
+) -> Result<String, Fail> {
+    let calls = RefCell::new(String::new(alloc));
+    let log = Log {
+        alloc,
+        calls: &calls,
+        fails,
+    };
+    let disk = Disk {
+        log,
+        octets: b"# A source.\n",
+    };
+    let mut sources = Vec::new(alloc);
+    for word in words.split_whitespace() {
+        sources.push(String::from_str(alloc, word)?)?;
+    }
+    let mut reader = input.as_bytes();
+    let done = build_sources(rt, alloc, &plan(2)?, &disk, &mut reader, folder, &sources);
+    let mut told_calls = calls.into_inner();
+    if let Err(failure) = done {
+        told_calls.push_str(told(alloc, failure)?.as_str())?;
+    }
+    Ok(told_calls)
+}
+
+#[test]
+fn a_file_is_written_whole_before_it_has_its_name(rt: HostRuntime) -> Result<(), Fail> {
+    let rows = [
+        (
+            "",
+            "folder D/Etc\nremove D/Etc/~pzic\ncreate D/Etc/~pzic\nwrite 111\nflush \nrename D/Etc/~pzic\nto D/Etc/UTC\n",
+        ),
+        (
+            "folder D/Etc",
+            "folder D/Etc\ncannot write D/Etc/UTC, status 3",
+        ),
+        (
+            "create D/Etc/~pzic",
+            "folder D/Etc\nremove D/Etc/~pzic\ncreate D/Etc/~pzic\nremove D/Etc/~pzic\ncannot write D/Etc/UTC, status 3",
+        ),
+        (
+            "write 111",
+            "folder D/Etc\nremove D/Etc/~pzic\ncreate D/Etc/~pzic\nwrite 111\nremove D/Etc/~pzic\ncannot write D/Etc/UTC, status 3",
+        ),
+        (
+            "flush ",
+            "folder D/Etc\nremove D/Etc/~pzic\ncreate D/Etc/~pzic\nwrite 111\nflush \nremove D/Etc/~pzic\ncannot write D/Etc/UTC, status 3",
+        ),
+        (
+            "rename D/Etc/~pzic",
+            "folder D/Etc\nremove D/Etc/~pzic\ncreate D/Etc/~pzic\nwrite 111\nflush \nrename D/Etc/~pzic\nremove D/Etc/~pzic\ncannot write D/Etc/UTC, status 3",
+        ),
+    ];
+    for (fails, want) in rows {
+        let got = built(&rt, rt.alloc(), "D", "-", "Zone Etc/UTC 0 - UTC", fails)?;
+        assert_eq!(rt; got.as_str(), want, "where {fails:?} fails");
+    }
+    Ok(())
+}
+
+#[test]
+fn sources_are_read_from_left_to_right_before_anything_is_made(
+    rt: HostRuntime,
+) -> Result<(), Fail> {
+    let rows = [
+        ("a b", "", "", "open a\nopen b\n"),
+        ("a b", "", "open a", "open a\ncannot read a, status 3"),
+        (
+            "a b",
+            "",
+            "open b",
+            "open a\nopen b\ncannot read b, status 3",
+        ),
+        (
+            "a -",
+            "Zone A 0 - UTC\n-6:00 - CST",
+            "",
+            "open a\ntext 2 line 2: Keyword, status 1",
+        ),
+        ("-", "Zone A 0 -", "", "line 1: FieldCount, status 1"),
+        ("-", "# No zone.", "folder D", ""),
+    ];
+    for (words, input, fails, want) in rows {
+        let got = built(&rt, rt.alloc(), "D", words, input, fails)?;
+        assert_eq!(rt; got.as_str(), want, "of {words:?}");
+    }
+    Ok(())
+}
+
+#[test]
+fn an_empty_word_is_no_path(rt: HostRuntime) -> Result<(), Fail> {
+    let got = built(&rt, rt.alloc(), "", "-", "Zone A 0 - UTC", "")?;
+    assert_eq!(rt; got.as_str(), "cannot write /A, status 3");
+    Ok(())
+}
+
+#[test]
+fn check_and_show_open_their_words(rt: HostRuntime) -> Result<(), Fail> {
+    let alloc = rt.alloc();
+    let calls = RefCell::new(String::new(alloc));
+    let log = Log {
+        alloc,
+        calls: &calls,
+        fails: "open none",
+    };
+    let source = Disk {
+        log,
+        octets: b"Zone Etc/UTC 0 - UTC",
+    };
+    let (plan, mut out) = (plan(1)?, Vec::new(alloc));
+    let mut input = b"Zone A 0 - UTC".as_slice();
+    for word in ["a", "-", "none"] {
+        if let Err(failure) = check_source(&rt, alloc, &plan, &source, &mut input, word, &mut out) {
+            out.extend_from_slice(told(alloc, failure)?.as_bytes())?;
+        }
+    }
+    let file = Disk {
+        log,
+        octets: UTC_FILE.as_slice(),
+    };
+    for word in ["f", "none"] {
+        if let Err(failure) = show_file(alloc, &file, word, 0, &mut out) {
+            out.extend_from_slice(told(alloc, failure)?.as_bytes())?;
+        }
+    }
+    assert_eq!(rt;
+        str::from_utf8(&out).ok(),
+        Some(
+            "Etc/UTC 111 UTC0\nA 111 UTC0\ncannot read none, status 3+00:00:00 0 UTC\ncannot read none, status 3"
+        )
+    );
+    assert_eq!(rt;
+        calls.into_inner().as_str(),
+        "open a\nopen none\nopen f\nopen none\n"
+    );
+    Ok(())
+}
