@@ -1,0 +1,4 @@
+pub mod Powers
+pub mod LocalTime
+pub mod PlainInstants
+pub mod RowTexts

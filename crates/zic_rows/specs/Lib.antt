@@ -1,0 +1,4 @@
+pub mod Instant
+pub mod Local
+pub mod Row
+pub mod code

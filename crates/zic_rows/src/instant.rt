@@ -1,0 +1,52 @@
+//! The instant that a field of a column names.
+
+ghost use Rattle.std.specs.Prelude.{◌≡◌, ◌<◌, ◌^◌, ◌↔◌, IfSome, IsTrue};
+ghost use Rattle.std.specs.Fmt.{signed_decimal};
+ghost use Rattle.zic_rows.specs.Instant.{instant_of, number};
+
+use crate::limit::MOST_DIGITS;
+
+/// The instant of a field, in seconds from 1970-01-01T00:00:00 UT: 1 to 18 decimal digits, which may begin with
+/// zeros, perhaps after a `-`. Nothing else is an instant, no `+` and no space. Whether a row may have it is not asked.
+#[tactic(auto, unfolding(crate::specs::Instant::instant_of))]
+pub fn parse_instant(field: &[u8]) -> Option<i64>
+    ensures { result ≡ instant_of field.now }
+{
+    if let [b'-', digits @ ..] = field {
+        let seconds = number(digits)?;
+        return Some(-(seconds as i64));
+    }
+    let seconds = number(field)?;
+    Some(seconds as i64)
+}
+
+/// Whether a field that names an instant has it in plain decimals, as a row has it: no zero before other digits, and no
+/// `-` before a zero. Of a field that names none the answer says nothing.
+pub fn is_plain(field: &[u8]) -> bool
+    ensures { IfSome (instant_of field.now) (λ instant. IsTrue result ↔ (field.now ≡ signed_decimal instant)) }
+{
+    match field {
+        [b'-', first, ..] => *first != b'0',
+        [first, _, ..] => *first != b'0',
+        _ => true,
+    }
+}
+
+/// The number that the text spells in decimal digits: at least one, and at most `MOST_DIGITS`.
+#[tactic(auto, unfolding(crate::specs::Instant::number))]
+fn number(text: &[u8]) -> Option<u64>
+    ensures value { result ≡ number MOST_DIGITS text.now }
+    ensures fits { IfSome result (λ n. n < 10 ^ 18) }
+{
+    if text.is_empty() || text.len() > MOST_DIGITS {
+        return None;
+    }
+    let mut n = 0;
+    for byte in text {
+        if !byte.is_ascii_digit() {
+            return None;
+        }
+        n = 10 * n + u64::from(*byte - b'0');
+    }
+    Some(n)
+}

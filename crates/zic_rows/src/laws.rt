@@ -1,0 +1,7 @@
+//! What the definitions mean, as contracts: no function here does anything.
+ghost use Rattle.zic_rows.specs.Local.{IsCivilTime};
+
+/// The local time of an instant is the civil time of its day and second, as `zic_calendar` has it.
+pub fn local_time_is_civil()
+    ensures { IsCivilTime }
+{}

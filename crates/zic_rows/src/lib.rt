@@ -1,0 +1,17 @@
+//! One row of a converted column: the instant that a field names, and the text of the row.
+#![tactic(auto)]
+
+mod date;
+mod digits;
+mod instant;
+pub mod laws;
+mod limit;
+mod line;
+mod row;
+
+pub use instant::{is_plain, parse_instant};
+pub use limit::{FARTHEST_OFFSET, FIRST_INSTANT, LAST_INSTANT, MOST_DIGITS};
+pub use row::{RowWriter, push_row};
+
+#[cfg(test)]
+mod tests;

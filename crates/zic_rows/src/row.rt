@@ -1,0 +1,101 @@
+//! The text of a row.
+
+ghost use Rattle.std.specs.Prelude.{◌≡◌, ◌+ℤ◌, ◌*◌, ◌<◌, ◌++◌, pos, OnOk};
+ghost use Rattle.zic_base.specs.State.{shown};
+ghost use Rattle.zic_rows.specs.Instant.{IsRowInstant, IsRowOffset};
+ghost use Rattle.zic_rows.specs.Row.{row_text, rest_text, IsRowState};
+
+use crate::limit::{DAY, DAYS, DAYS_TO_1970};
+use crate::line::KeptLine;
+use itoa::Buffer;
+use std::alloc::AllocError;
+use std::marker::Model;
+use zic_base::State;
+
+/// Appends the text of a row: the name, the instant in plain decimals, its local time, the UT offset, the daylight flag
+/// and the abbreviation, between commas, and a newline. The instant is one that a row may have, the offset is within
+/// 24:00:00 and the abbreviation has at most 16 octets. After want of memory a part of the row may be there.
+pub fn push_row(
+    text: &mut Vec<u8>,
+    name: &[u8],
+    instant: i64,
+    state: &State<'_>,
+) -> Result<(), AllocError>
+    requires instant { IsRowInstant instant }
+    requires state { IsRowState (shown state.now) }
+    ensures { OnOk result (text.new.items ≡ text.old.items ++ row_text name.now instant (shown state.now)) }
+{
+    RowWriter::new(*state).push(text, name, instant)
+}
+
+/// Writes rows of one state after another, and keeps what they have in common: the date and the state's text. Clauses
+/// see the state.
+#[derive(Drop)]
+pub struct RowWriter<'a> {
+    line: KeptLine<'a>,
+}
+
+impl<'a> Model for RowWriter<'a> {
+    ghost use Rattle.zic_base.specs.State.{Shown, shown};
+
+    ghost Value = { Shown };
+
+    ghost view = { λ w. shown w.line.state };
+}
+
+impl<'a> RowWriter<'a> {
+    /// A writer of rows of this state, whose offset is within 24:00:00 and whose abbreviation has at most 16 octets.
+    pub fn new(state: State<'a>) -> RowWriter<'a>
+        requires { IsRowState (shown state) }
+        ensures { result ≡ shown state.entry }
+    {
+        RowWriter {
+            line: KeptLine::new(state),
+        }
+    }
+
+    /// Turns to rows of another state.
+    pub fn set_state(&mut self, state: State<'a>)
+        requires { IsRowState (shown state) }
+        ensures { self.new ≡ shown state.entry }
+    {
+        self.line.set_state(state);
+    }
+
+    /// Appends the text of a row. The instant is one that a row may have. After want of memory a part of the row may be
+    /// there.
+    pub fn push(&mut self, text: &mut Vec<u8>, name: &[u8], instant: i64) -> Result<(), AllocError>
+        requires { IsRowInstant instant }
+        ensures state { self.new ≡ self.old }
+        ensures ok { OnOk result (text.new.items ≡ text.old.items ++ row_text name.now instant self.old) }
+    {
+        text.extend_from_slice(name)?;
+        text.push(b',')?;
+        text.extend_from_slice(Buffer::new().format(instant).as_bytes())?;
+        self.push_rest(text, instant)
+    }
+
+    /// Appends what the text of a row has after the instant, for a caller that has appended the name and the instant: a
+    /// field that `is_plain` may stand there as it is. After want of memory a part may be there.
+    #[inline(always)]
+    pub fn push_rest(&mut self, text: &mut Vec<u8>, instant: i64) -> Result<(), AllocError>
+        requires { IsRowInstant instant }
+        ensures state { self.new ≡ self.old }
+        ensures ok { OnOk result (text.new.items ≡ text.old.items ++ rest_text instant self.old) }
+    {
+        let seconds = local_seconds(instant, self.line.offset());
+        self.line.turn_to((seconds / DAY as u64) as u32);
+        self.line.push(text, (seconds % DAY as u64) as u32)
+    }
+}
+
+/// Local time in seconds from 0001-01-01T00:00:00.
+#[inline(always)]
+fn local_seconds(instant: i64, offset: i32) -> u64
+    requires instant { IsRowInstant instant }
+    requires offset { IsRowOffset offset }
+    ensures value { pos result ≡ instant +ℤ offset +ℤ pos (DAYS_TO_1970 * DAY) }
+    ensures fits { result < DAYS * DAY }
+{
+    (instant + offset as i64 + DAYS_TO_1970 as i64 * DAY as i64) as u64
+}
