@@ -1,0 +1,44 @@
+-- The records of a column, by the machine of the crate csv with its defaults: fields end at commas, and a carriage return, a line feed
+-- or both end a record. A byte order mark at the start of a column is dropped before.
+use Rattle.std.specs.Prelude.{◌≡◌, ◌≢◌, ◌+◌, ◌<◌, ℕ, Bool, true, false, ◌||◌, ◌==◌, List, [], ◌∷◌, map, filter, length, slice_index, take, All}
+use Rattle.std.specs.List.{slice_split}
+use Rattle.csv.specs.Reading.{AreRecords, default_config}
+use Rattle.csv.specs.declared.parser.State.TheVariants as st
+
+-- the records that a CSV reader gives of these bytes
+abbrev pub AreColumnRecords : List ℕ → List (List (List ℕ)) → Type 0
+AreColumnRecords bytes records = AreRecords default_config st.StartRecord bytes records
+
+-- no byte is a double quote
+abbrev pub HasNoQuote : List ℕ → Type 0
+HasNoQuote bytes = All (λ byte. byte ≢ 34) bytes
+
+-- the first double quote stands there
+pub record IsFirstQuote (bytes : List ℕ) (at : ℕ) : Type 0 where
+  pub within : at < length bytes
+  pub here : slice_index bytes at ≡ 34
+  pub before : HasNoQuote (take at bytes)
+
+-- a carriage return or a line feed
+abbrev pub ends_line : ℕ → Bool
+ends_line byte = byte == 13 || byte == 10
+
+-- each line has its end: the last byte, if there is one, ends a line
+abbrev pub AreWholeLines : List ℕ → Type 0
+AreWholeLines bytes = (last : ℕ) → last + 1 ≡ length bytes → ends_line (slice_index bytes last) ≡ true
+
+abbrev pub has_byte : List ℕ → Bool
+has_byte [] = false
+has_byte (byte ∷ bytes) = true
+
+-- the lines: what stands between line ends, where that is a byte or more
+abbrev pub lines_of : List ℕ → List (List ℕ)
+lines_of bytes = filter has_byte (slice_split ends_line bytes)
+
+-- the fields of a line: what stands between commas
+abbrev pub fields_of : List ℕ → List (List ℕ)
+fields_of line = slice_split (λ byte. byte == 44) line
+
+-- the records of bytes that have no double quote: the fields of each line
+unfoldable pub plain_records : List ℕ → List (List (List ℕ))
+plain_records bytes = map fields_of (lines_of bytes)

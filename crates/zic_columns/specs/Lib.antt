@@ -1,0 +1,5 @@
+pub mod Column
+pub mod Record
+pub mod Cut
+pub mod Laws
+pub mod code

@@ -1,0 +1,14 @@
+-- What a cursor over a column's bytes gives of each record.
+use Rattle.std.specs.Prelude.{◌≡◌, ◌≢◌, ℕ, List, [], ◌∷◌, Option, length, MatchOption}
+use Rattle.zic_columns.specs.declared.record.Record.{Record}
+use Rattle.zic_columns.specs.declared.record.Record.TheVariants.{Pair, Other}
+
+-- the fields are these two, or are not two
+abbrev pub IsRecord : Record → List (List ℕ) → Type 0
+IsRecord (Pair name instant) fields = fields ≡ name.now ∷ instant.now ∷ []
+IsRecord Other fields = length fields ≢ 2
+
+-- a step gives the first of the records, and leaves the others
+abbrev pub YieldsRecord : List (List (List ℕ)) → Option Record → List (List (List ℕ)) → Type 0
+YieldsRecord records given others = MatchOption given ((records ≡ []) × (others ≡ []))
+    (λ first. (fields : List (List ℕ)) × (records ≡ fields ∷ others) × IsRecord first fields)

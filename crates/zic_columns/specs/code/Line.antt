@@ -1,0 +1,18 @@
+-- The first line of some bytes.
+use Rattle.std.specs.Prelude.{◌≡◌, ◌<◌, ◌⊎◌, ℕ, true, false, List, [], ◌∷◌, ◌++◌, length, slice_index, All}
+use Rattle.zic_columns.specs.Column.{AreWholeLines, ends_line, fields_of, plain_records}
+
+-- the rest are the bytes from the first that ends no line
+pub record IsAfterLineEnds (bytes rest : List ℕ) : Type 0 where
+  pub skipped : List ℕ
+  pub parts : bytes ≡ skipped ++ rest
+  pub ends : All (λ byte. ends_line byte ≡ true) skipped
+  pub begins : 0 < length rest → ends_line (slice_index rest 0) ≡ false
+
+-- the bytes before the rest hold this one line that has a byte
+pub record IsFirstLine (bytes line rest : List ℕ) : Type 0 where
+  pub before : List ℕ
+  pub parts : bytes ≡ before ++ rest
+  pub one : plain_records before ≡ fields_of line ∷ []
+  pub whole : (rest ≡ []) ⊎ AreWholeLines before
+  pub shorter : length rest < length bytes

@@ -1,0 +1,15 @@
+//! Double quotes in a column.
+
+ghost use Rattle.std.specs.Prelude.{MatchOption};
+ghost use Rattle.zic_columns.specs.Column.{HasNoQuote, IsFirstQuote};
+
+use memchr::memchr;
+
+/// The index of the first double quote.
+///
+/// Whole lines before it have plain records; from the line that it stands in on the column is for a CSV reader.
+pub fn first_quote(bytes: &[u8]) -> Option<usize>
+    ensures { MatchOption result (HasNoQuote bytes.now) (λ at. IsFirstQuote bytes.now at) }
+{
+    memchr(b'"', bytes)
+}
