@@ -1,0 +1,11 @@
+pub mod Coming
+pub mod Bytes
+pub mod Joining
+pub mod Records
+pub mod Faults
+pub mod Sounds
+pub mod Blocks
+pub mod Writings
+pub mod Totals
+pub mod Progress
+pub mod Halts

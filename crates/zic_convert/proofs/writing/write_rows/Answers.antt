@@ -1,0 +1,65 @@
+use Rattle.std.proofs.Common.{◌≡◌, ◌++◌, ◌+◌, ℕ, List, [], Option, None, Some, drop, refl, sym, ap, subst, ◌∙◌, arith, rules}
+use Rattle.std.proofs.lemmas.List.{append-nil}
+use Rattle.std.proofs.lemmas.Result.{err_from_is_err_and}
+use Rattle.zic_bulk.specs.declared.stop.RowKind.{RowKind}
+use Rattle.zic_convert.specs.code.Row.{RowsOf}
+use Rattle.zic_convert.specs.code.Written.{FailsWithin, Wrote}
+use Rattle.zic_convert.specs.code.Pieces.{joined}
+use Rattle.zic_convert.proofs.Bytes.{wrote_both, wrote_part}
+use Rattle.zic_convert.proofs.Writings.{IsLeft, next_part, next_left, piece_done, fault_next}
+use Rattle.zic_convert.proofs.writing.write_rows.Goals as goal
+
+-- no fault is there
+none_of : (o : Option RowKind) → ((kind : RowKind) → o ≡ Some kind → ⊥) → o ≡ None
+none_of None h = refl
+none_of (Some kind) h = absurd (h kind refl)
+
+pub returns-in_err-write_all-clause-err : goal.returns-in_err-write_all-clause-err
+returns-in_err-write_all-clause-err g c =
+    let contents = g.W.Write.contents in
+    let inv = c.loop-rows.invariant in
+    let i = c.loop-rows.rows-index in
+    let pieces = c.args.pieces.now in
+    let rows = c.rows-item.result in
+    let next = next_left pieces i rows (omega arith) c.rows-item.is in
+    let part = next_part (joined pieces) rows (joined (drop (i + 1) pieces)) inv.0 c.loop-rows.count (subst (λ (r : RowsOf). IsLeft (joined pieces) inv.0 c.loop-rows.count r) next inv.1) in
+    let failed = c.in_err-write_all.ensures.err in
+    let text = c.deref.ensures.value ∙ ap (λ (r : RowsOf). r.text) c.rows.view_is in
+    let fails = subst (λ (l : List ℕ). FailsWithin contents c.loop-rows.writer c.write_all.new.writer l) text failed.1 in
+    let all = wrote_part contents c.args.writer.now c.loop-rows.writer c.write_all.new.writer inv.0 rows.text part.0 inv.2 fails in
+    let p = err_from_is_err_and c.from_residual.result c.from_residual.ensures.1 in
+    rw (p.1, p.2, failed.0) (subst (λ (l : List ℕ). FailsWithin contents c.args.writer.now c.write_all.new.writer l) (sym part.1) all)
+
+pub returns-in_err-flush-clause-err : goal.returns-in_err-flush-clause-err
+returns-in_err-flush-clause-err g c =
+    let contents = g.W.Write.contents in
+    let inv = c.loop-rows.invariant in
+    let i = c.loop-rows.rows-index in
+    let pieces = c.args.pieces.now in
+    let rows = c.rows-item.result in
+    let next = next_left pieces i rows (omega arith) c.rows-item.is in
+    let some = ap (λ (r : RowsOf). r.fault) (sym c.rows.view_is) ∙ c.in-Some.is in
+    let left = fault_next (joined pieces) rows (joined (drop (i + 1) pieces)) inv.0 c.loop-rows.count c.in-Some.kind some (joined (drop i pieces)) next inv.1 in
+    let text = c.deref.ensures.value ∙ ap (λ (r : RowsOf). r.text) c.rows.view_is in
+    let wrote = subst (λ (l : List ℕ). Wrote contents c.loop-rows.writer c.write_all.new.writer l) text c.in_ok-write_all.ensures.ok in
+    let both = wrote_both contents c.args.writer.now c.loop-rows.writer c.write_all.new.writer inv.0 rows.text inv.2 wrote in
+    let failed = c.in_err-flush.ensures.err in
+    let all = wrote_part contents c.args.writer.now c.write_all.new.writer c.flush.new.writer (inv.0 ++ rows.text) [] [] both failed.1 in
+    let whole : ((inv.0 ++ rows.text) ++ []) ++ [] ≡ (joined pieces).text = append-nil ((inv.0 ++ rows.text) ++ []) ∙ append-nil (inv.0 ++ rows.text) ∙ sym left.text in
+    let p = err_from_is_err_and c.from_residual-in_err-flush.result c.from_residual-in_err-flush.ensures.1 in
+    rw (p.1, p.2, failed.0) (subst (λ (l : List ℕ). FailsWithin contents c.args.writer.now c.flush.new.writer l) whole all)
+
+pub loop-rows-preserved : goal.loop-rows-preserved
+loop-rows-preserved g c =
+    let contents = g.W.Write.contents in
+    let inv = c.loop-rows.invariant in
+    let i = c.loop-rows.rows-index in
+    let pieces = c.args.pieces.now in
+    let rows = c.rows-item.result in
+    let next = next_left pieces i rows (omega arith) c.rows-item.is in
+    let none = ap (λ (r : RowsOf). r.fault) (sym c.rows.view_is) ∙ none_of c.rows.inside.fault (λ kind e. search rules) in
+    let left = piece_done (joined pieces) rows (joined (drop (i + 1) pieces)) inv.0 c.loop-rows.count none (subst (λ (r : RowsOf). IsLeft (joined pieces) inv.0 c.loop-rows.count r) next inv.1) in
+    let text = c.deref.ensures.value ∙ ap (λ (r : RowsOf). r.text) c.rows.view_is in
+    let wrote = subst (λ (l : List ℕ). Wrote contents c.loop-rows.writer c.write_all.new.writer l) text c.in_ok-write_all.ensures.ok in
+    let count = ap (λ (r : RowsOf). r.count) c.rows.view_is in
+    (inv.0 ++ rows.text, rw count left, wrote_both contents c.args.writer.now c.loop-rows.writer c.write_all.new.writer inv.0 rows.text inv.2 wrote)

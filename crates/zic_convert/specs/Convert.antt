@@ -1,0 +1,55 @@
+-- What a conversion writes, and why it ends early.
+use Rattle.std.specs.Prelude.{◌≡◌, ℕ, ◌+◌, ◌<◌, ◌⊎◌, List, length, Option, Some, None}
+use Rattle.std.specs.List.{concat}
+use Rattle.std.specs.Io.{StartsWith}
+use Rattle.std.specs.Io.KnownBytes.{Appends}
+use Rattle.zic_counted.specs.Counts.{Counts, HasFailedSince, greatest}
+use Rattle.zic_bulk.specs.Files.{File}
+use Rattle.zic_bulk.specs.declared.stop.RowKind.{RowKind}
+use Rattle.zic_bulk.specs.declared.stop.RunStop.{RunStop}
+use Rattle.zic_bulk.specs.declared.stop.RunStop.TheVariants as stop
+use Rattle.zic_convert.specs.Column.{ConvertsTo}
+
+-- No row of the column has a fault, there are n, and what the writer holds, where that is known, grew by the text of all.
+pub record WritesAll (files : List File) (most : ℕ) (column : List ℕ) (n : ℕ) (old new : Option (List ℕ)) : Type 0 where
+  pub texts : List (List ℕ)
+  pub converts : ConvertsTo files most column texts None
+  pub count : n ≡ length texts
+  pub wrote : Appends old new (concat texts)
+
+-- The first row of the column that has a fault is the row of this number, with this fault, and what the writer holds grew by the text
+-- of all rows before it.
+pub record WritesUpTo (files : List File) (most : ℕ) (column : List ℕ) (row : ℕ) (kind : RowKind) (old new : Option (List ℕ)) : Type 0 where
+  pub texts : List (List ℕ)
+  pub converts : ConvertsTo files most column texts (Some kind)
+  pub number : row ≡ length texts + 1
+  pub wrote : Appends old new (concat texts)
+
+-- What the writer holds grew by a part of the text of all rows before the first that has a fault, from its start on.
+pub record WritesPart (files : List File) (most : ℕ) (column : List ℕ) (old new : Option (List ℕ)) : Type 0 where
+  pub texts : List (List ℕ)
+  pub fault : Option RowKind
+  pub converts : ConvertsTo files most column texts fault
+  pub part : List ℕ
+  pub starts : StartsWith (concat texts) part
+  pub wrote : Appends old new part
+
+-- what was written where a conversion ends early; it never ends for a fault of a source
+abbrev pub WritesAt : List File → ℕ → List ℕ → RunStop → Option (List ℕ) → Option (List ℕ) → Type 0
+WritesAt files most column (stop.Row row kind) old new = WritesUpTo files most column row kind old new
+WritesAt files most column (stop.Source fault) old new = ⊥
+WritesAt files most column _ old new = WritesPart files most column old new
+
+-- more than so many bytes were taken, or as many as can be counted
+abbrev pub HasTakenAbove : {R : Type 0} → ℕ → Counts R → Counts R → Type 0
+HasTakenAbove most old new = (old.taken + most < new.taken) ⊎ (new.taken ≡ greatest)
+
+-- A conversion ends for the reader only where a read failed, for the writer only where a write or flush did, and for too long a column
+-- only where more than so many bytes were taken. It never ends for a fault of a source, or for want of a thread.
+abbrev pub IsCauseOf : {R W : Type 0} → ℕ → Counts R → Counts R → Counts W → Counts W → RunStop → Type 0
+IsCauseOf most reader reader' writer writer' stop.ReadFailed = HasFailedSince reader' reader.failures
+IsCauseOf most reader reader' writer writer' stop.WriteFailed = HasFailedSince writer' writer.failures
+IsCauseOf most reader reader' writer writer' stop.ColumnTooLong = HasTakenAbove most reader reader'
+IsCauseOf most reader reader' writer writer' (stop.Source fault) = ⊥
+IsCauseOf most reader reader' writer writer' stop.NoThread = ⊥
+IsCauseOf most reader reader' writer writer' _ = Unit {0}

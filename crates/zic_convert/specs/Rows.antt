@@ -1,0 +1,64 @@
+-- What the records of a column come to: own choice. A record has a zone's name and an instant. Its row has the text of what the file
+-- of that name answers at the instant, or a fault.
+use Rattle.std.specs.Prelude.{◌≡◌, ℕ, ◌+◌, nat_le, ◌==◌, Bool, false, ◌&&◌, ℤ, int_le, List, [], ◌∷◌, length, Option, Some, None, is_some, IsSome, Contains, bytes_eq}
+use Rattle.std.specs.List.{list_any}
+use Rattle.zic_base.specs.Check.{Check, check, first_failed}
+use Rattle.zic_base.specs.State.{Shown}
+use Rattle.zic_tzif.specs.Answer.{Answers}
+use Rattle.zic_rows.specs.Instant.{instant_of}
+use Rattle.zic_rows.specs.declared.limit.TheConstants.{FIRST_INSTANT, LAST_INSTANT}
+use Rattle.zic_rows.specs.Row.{row_text}
+use Rattle.zic_bulk.specs.Files.{File}
+use Rattle.zic_bulk.specs.declared.stop.RowKind.{RowKind}
+use Rattle.zic_bulk.specs.declared.stop.RowKind.TheVariants as kind
+
+-- the zone's name in a record of two fields, and its instant
+abbrev pub name_in : List (List ℕ) → List ℕ
+name_in (name ∷ instant ∷ []) = name
+name_in _ = []
+
+abbrev pub instant_in : List (List ℕ) → Option ℤ
+instant_in (name ∷ instant ∷ []) = instant_of instant
+instant_in _ = None
+
+-- some file has this name
+abbrev pub is_named : List File → List ℕ → Bool
+is_named files name = list_any (λ file. bytes_eq file.name name) files
+
+-- a row may have this instant
+abbrev pub is_row_instant : Option ℤ → Bool
+is_row_instant None = false
+is_row_instant (Some instant) = int_le FIRST_INSTANT instant && int_le instant LAST_INSTANT
+
+-- the checks of a record as the row of this number, where there may be so many rows at most
+abbrev pub checks : List File → ℕ → ℕ → List (List ℕ) → List (Check RowKind)
+checks files most number fields =
+    check (nat_le number most) kind.TooManyRows
+    ∷ check (length fields == 2) kind.RowFields
+    ∷ check (is_named files (name_in fields)) kind.RowZone
+    ∷ check (is_some (instant_in fields)) kind.RowInstant
+    ∷ check (is_row_instant (instant_in fields)) kind.RowRange
+    ∷ []
+
+-- the fault of a row: of the first check that fails, or none
+abbrev pub fault_of : List File → ℕ → ℕ → List (List ℕ) → Option RowKind
+fault_of files most number fields = first_failed (checks files most number fields)
+
+-- the text of a record's row: the name, the instant, and the state that the file of that name answers there
+pub record IsTextOf (files : List File) (fields : List (List ℕ)) (text : List ℕ) : Type 0 where
+  pub file : File
+  pub among : Contains files file
+  pub named : file.name ≡ name_in fields
+  pub instant : ℤ
+  pub says : instant_in fields ≡ Some instant
+  pub state : Shown
+  pub answers : Answers file.image.content instant (Some state)
+  pub is : text ≡ row_text file.name instant state
+
+-- What records come to, the first of which is the row of this number: the texts of the rows up to the first that has a fault, and that
+-- fault, or none.
+abbrev pub ComeTo : List File → ℕ → ℕ → List (List (List ℕ)) → List (List ℕ) → Option RowKind → Type 0
+ComeTo files most number [] texts fault = (texts ≡ []) × (fault ≡ None)
+ComeTo files most number (fields ∷ records) [] fault = (fault ≡ fault_of files most number fields) × IsSome fault
+ComeTo files most number (fields ∷ records) (text ∷ texts) fault =
+    (fault_of files most number fields ≡ None) × IsTextOf files fields text × ComeTo files most (number + 1) records texts fault

@@ -1,0 +1,158 @@
+//! Converted columns, with outside values.
+
+mod devices;
+
+use crate::*;
+use std::alloc::Global;
+use std::process::Abort;
+use std::sync::Wait;
+use std::test::Fail;
+use std::thread::Threads;
+use zic_bulk::{Files, Plan, RowKind, RunStop, compile};
+use zic_counted::Counted;
+use zic_pieces::Open;
+use zic_source::read_source;
+
+const UTC: &str = "Zone Etc/UTC 0 - UTC\n";
+
+/// The rules of the United States from 2007 on, and a zone of theirs.
+const NEW_YORK: &str =
+    "Rule US 2007 max - Mar Sun>=8 2:00 1:00 D\nRule US 2007 max - Nov Sun>=1 2:00 0 S\nZone Z/NY -5:00 US E%sT\n";
+
+const THREE_ROWS: &[u8; 138] =
+    b"Etc/UTC,0,1970-01-01T00:00:00,+00:00:00,0,UTC\nEtc/UTC,0,1970-01-01T00:00:00,+00:00:00,0,UTC\n\
+Etc/UTC,0,1970-01-01T00:00:00,+00:00:00,0,UTC\n";
+
+/// Each number of workers with each number of records that a piece has.
+const PLANS: [(u64, u64); 12] = [
+    (1, 1),
+    (1, 2),
+    (1, 100),
+    (2, 1),
+    (2, 2),
+    (2, 100),
+    (8, 1),
+    (8, 2),
+    (8, 100),
+    (64, 1),
+    (64, 2),
+    (64, 100),
+];
+
+/// The files of a source.
+fn files_of(alloc: Global, text: &str) -> Result<Files, Fail> {
+    let mut copies = Vec::new(alloc);
+    copies.push(Vec::from_slice(alloc, text.as_bytes())?)?;
+    let source = read_source(alloc, &copies).ok().ok_or("no source")?;
+    Ok(compile(alloc, &source).ok().ok_or("no files")?)
+}
+
+/// Checks, with each plan of so many rows at most, what a column is answered and what is written.
+fn expect<R: Threads + Wait + Sync + Abort>(
+    rt: &R,
+    alloc: Global,
+    files: &Files,
+    column: &[u8],
+    max_rows: u64,
+    (want, text): (Result<u64, RunStop>, &[u8]),
+) -> Result<(), Fail> {
+    for (workers, row_piece) in PLANS {
+        let plan = Plan::new(workers, 1, row_piece, max_rows, 1000).ok_or("no plan")?;
+        let mut reader = Counted::new(column);
+        let mut writer = Counted::new(Vec::new(alloc));
+        let answer = convert(rt, alloc, files, &mut reader, &mut writer, &plan, &Open);
+        assert_eq!(rt; answer, want, "of {column:?} by {workers} and {row_piece}");
+        let written = writer.into_inner();
+        assert_eq!(rt;
+            written.as_slice(),
+            text,
+            "of {column:?} by {workers} and {row_piece}"
+        );
+    }
+    Ok(())
+}
+
+#[test]
+fn rows_tell_local_time(rt: HostRuntime) -> Result<(), Fail> {
+    let alloc = rt.alloc();
+    let rows: [(&str, &[u8], u64, &[u8]); 5] = [
+        (UTC, b"", 0, b""),
+        (
+            UTC,
+            b"Etc/UTC,0\nEtc/UTC,-1",
+            2,
+            b"Etc/UTC,0,1970-01-01T00:00:00,+00:00:00,0,UTC\nEtc/UTC,-1,1969-12-31T23:59:59,+00:00:00,0,UTC\n",
+        ),
+        (
+            UTC,
+            b"\xef\xbb\xbfEtc/UTC,-0\r\n\n\"Etc/UTC\",\"007\"\rEtc/UTC,-62135510400",
+            3,
+            b"Etc/UTC,0,1970-01-01T00:00:00,+00:00:00,0,UTC\nEtc/UTC,7,1970-01-01T00:00:07,+00:00:00,0,UTC\n\
+Etc/UTC,-62135510400,0001-01-02T00:00:00,+00:00:00,0,UTC\n",
+        ),
+        (
+            NEW_YORK,
+            b"Z/NY,1173596399\nZ/NY,1173596400\nZ/NY,1194155999\n",
+            3,
+            b"Z/NY,1173596399,2007-03-11T01:59:59,-05:00:00,0,EST\nZ/NY,1173596400,2007-03-11T03:00:00,-04:00:00,1,EDT\n\
+Z/NY,1194155999,2007-11-04T01:59:59,-04:00:00,1,EDT\n",
+        ),
+        (
+            NEW_YORK,
+            b"Z/NY,1194156000\nZ/NY,4102444800\nZ/NY,253402214399\n",
+            3,
+            b"Z/NY,1194156000,2007-11-04T01:00:00,-05:00:00,0,EST\nZ/NY,4102444800,2099-12-31T19:00:00,-05:00:00,0,EST\n\
+Z/NY,253402214399,9999-12-30T18:59:59,-05:00:00,0,EST\n",
+        ),
+    ];
+    for (source, column, count, text) in rows {
+        let files = files_of(alloc, source)?;
+        expect(&rt, alloc, &files, column, count, (Ok(count), text))?;
+    }
+    Ok(())
+}
+
+#[test]
+fn the_first_fault_of_a_row_is_told(rt: HostRuntime) -> Result<(), Fail> {
+    let alloc = rt.alloc();
+    let files = files_of(alloc, UTC)?;
+    let nine =
+        b"Etc/UTC,0\nEtc/UTC,0\nEtc/UTC,0\nEtc/UTC,x\nEtc/UTC,0\nEtc/UTC,0\nEtc/UTC,0\nNo/Where,0\nEtc/UTC,0\n";
+    let (one, two) = (&THREE_ROWS[..46], &THREE_ROWS[..92]);
+    let rows: [(&[u8], u64, u64, RowKind, &[u8]); 11] = [
+        (nine, 100, 4, RowKind::RowInstant, THREE_ROWS),
+        (b"Etc/UTC,0\nEtc/UTC", 100, 2, RowKind::RowFields, one),
+        (b"Etc/UTC,0,\n", 100, 1, RowKind::RowFields, b""),
+        (b"No/Where,x", 100, 1, RowKind::RowZone, b""),
+        (b"\xff,0", 100, 1, RowKind::RowZone, b""),
+        (b"Etc/UTC,+1", 100, 1, RowKind::RowInstant, b""),
+        (
+            b"Etc/UTC,1234567890123456789",
+            100,
+            1,
+            RowKind::RowInstant,
+            b"",
+        ),
+        (b"Etc/UTC,-62135510401", 100, 1, RowKind::RowRange, b""),
+        (b"Etc/UTC,253402214400", 100, 1, RowKind::RowRange, b""),
+        (
+            b"Etc/UTC,0\nEtc/UTC,0\nEtc/UTC,0\n",
+            2,
+            3,
+            RowKind::TooManyRows,
+            two,
+        ),
+        (
+            b"Etc/UTC,0\nx\nEtc/UTC,0\n",
+            1,
+            2,
+            RowKind::TooManyRows,
+            one,
+        ),
+    ];
+    for (column, max_rows, row, kind, text) in rows {
+        let want = (Err(RunStop::Row { row, kind }), text);
+        expect(&rt, alloc, &files, column, max_rows, want)?;
+    }
+    Ok(())
+}

@@ -1,0 +1,275 @@
+//! Readers and writers that fail, and workers at the gate.
+
+use super::{THREE_ROWS, UTC, files_of};
+use crate::*;
+use std::alloc::Global;
+use std::io::{self, ErrorKind, Read, Write};
+use std::process::Abort;
+use std::sync::Wait;
+use std::sync::atomic::{AtomicU64, Ordering};
+use std::test::Fail;
+use std::thread;
+use std::thread::Threads;
+use zic_bulk::{Files, Plan, RunStop};
+use zic_counted::Counted;
+use zic_pieces::{Gate, Open};
+
+const THREE: &[u8; 30] = b"Etc/UTC,0\nEtc/UTC,0\nEtc/UTC,0\n";
+
+/// What a reader does where it has given its text.
+#[derive(Clone, Copy, Debug)]
+enum Then {
+    End,
+    Repeat,
+    /// Fails once, and gives the text again.
+    Fail(ErrorKind),
+}
+
+/// A reader that gives one byte of a text at a time.
+#[derive(Drop)]
+struct Slow<'a> {
+    text: &'a [u8],
+    rest: &'a [u8],
+    then: Then,
+}
+
+impl<'a> Slow<'a> {
+    fn new(text: &'a [u8], then: Then) -> Slow<'a> {
+        Slow {
+            text,
+            rest: text,
+            then,
+        }
+    }
+}
+
+impl Read for Slow<'_> {
+    fn read(&mut self, buf: &mut [u8]) -> io::Result<usize> {
+        if self.rest.is_empty() {
+            match self.then {
+                Then::End => return Ok(0),
+                Then::Repeat => self.rest = self.text,
+                Then::Fail(kind) => {
+                    self.then = Then::Repeat;
+                    return Err(io::Error::from(kind));
+                }
+            }
+        }
+        let Some((first, rest)) = self.rest.split_first() else {
+            return Ok(0);
+        };
+        if buf.is_empty() {
+            return Ok(0);
+        }
+        buf[0] = *first;
+        self.rest = rest;
+        Ok(1)
+    }
+}
+
+/// How a writer fails.
+#[derive(Clone, Copy, Debug)]
+enum Defect {
+    /// It takes so many bytes, and then fails.
+    Full(usize),
+    /// It takes no byte.
+    Stuck,
+    /// It takes each byte, and can't pass them on.
+    Unflushed,
+}
+
+/// A writer that fails.
+#[derive(Drop)]
+struct Sink {
+    held: Vec<u8>,
+    defect: Defect,
+}
+
+impl Write for Sink {
+    fn write(&mut self, buf: &[u8]) -> io::Result<usize> {
+        let room = match self.defect {
+            Defect::Full(most) => most.saturating_sub(self.held.len()),
+            Defect::Stuck => return Ok(0),
+            Defect::Unflushed => buf.len(),
+        };
+        let n = room.min(buf.len());
+        if n == 0 {
+            return Err(io::Error::from(ErrorKind::Other));
+        }
+        self.held.extend_from_slice(&buf[..n])?;
+        Ok(n)
+    }
+
+    fn flush(&mut self) -> io::Result<()> {
+        match self.defect {
+            Defect::Unflushed => Err(io::Error::from(ErrorKind::Other)),
+            _ => Ok(()),
+        }
+    }
+}
+
+/// Checks, with pieces of 1 record and of 100, that a column is answered `WriteFailed`, and what was written.
+fn expect_write_failed<R: Threads + Wait + Sync + Abort>(
+    rt: &R,
+    alloc: Global,
+    files: &Files,
+    column: &[u8],
+    defect: Defect,
+    text: &[u8],
+) -> Result<(), Fail> {
+    for row_piece in [1, 100] {
+        let plan = Plan::new(2, 1, row_piece, 100, 1000).ok_or("no plan")?;
+        let mut reader = Counted::new(column);
+        let mut writer = Counted::new(Sink {
+            held: Vec::new(alloc),
+            defect,
+        });
+        let answer = convert(rt, alloc, files, &mut reader, &mut writer, &plan, &Open);
+        assert_eq!(rt;
+            answer,
+            Err(RunStop::WriteFailed),
+            "with {defect:?} and {row_piece}"
+        );
+        assert_eq!(rt; writer.failures(), 1, "with {defect:?} and {row_piece}");
+        let written = writer.into_inner().held;
+        assert_eq!(rt; written.as_slice(), text, "with {defect:?} and {row_piece}");
+    }
+    Ok(())
+}
+
+#[test]
+fn a_writer_fails(rt: HostRuntime) -> Result<(), Fail> {
+    let alloc = rt.alloc();
+    let files = files_of(alloc, UTC)?;
+    for most in 0..138 {
+        let text = THREE_ROWS.get(..most).ok_or("no text")?;
+        expect_write_failed(&rt, alloc, &files, THREE, Defect::Full(most), text)?;
+    }
+    let faulty = b"Etc/UTC,0\nEtc/UTC,0\nEtc/UTC,0\nEtc/UTC,x\n";
+    let rows: [(&[u8], Defect, &[u8]); 3] = [
+        (THREE, Defect::Stuck, b""),
+        (THREE, Defect::Unflushed, THREE_ROWS),
+        (faulty, Defect::Unflushed, THREE_ROWS),
+    ];
+    for (column, defect, text) in rows {
+        expect_write_failed(&rt, alloc, &files, column, defect, text)?;
+    }
+    Ok(())
+}
+
+#[test]
+fn a_reader_fails(rt: HostRuntime) -> Result<(), Fail> {
+    let alloc = rt.alloc();
+    let files = files_of(alloc, UTC)?;
+    for kind in [ErrorKind::Other, ErrorKind::Interrupted] {
+        for row_piece in [1, 100] {
+            let plan = Plan::new(2, 1, row_piece, 100, 1000).ok_or("no plan")?;
+            for given in 0..31 {
+                let text = THREE.get(..given).ok_or("no text")?;
+                let mut reader = Counted::new(Slow::new(text, Then::Fail(kind)));
+                let mut writer = Counted::new(Vec::new(alloc));
+                let answer = convert(&rt, alloc, &files, &mut reader, &mut writer, &plan, &Open);
+                assert_eq!(rt; answer, Err(RunStop::ReadFailed), "after {given}");
+                assert_eq!(rt; reader.failures(), 1, "after {given}");
+                assert_eq!(rt; reader.taken(), given as u64, "after {given}");
+                let written = writer.into_inner();
+                assert!(rt; THREE_ROWS.starts_with(&written), "after {given}");
+            }
+        }
+    }
+    Ok(())
+}
+
+#[test]
+fn readers_without_end(rt: HostRuntime) -> Result<(), Fail> {
+    let alloc = rt.alloc();
+    let files = files_of(alloc, UTC)?;
+    let rows: [(&[u8], u64, usize, RunStop, &[u8]); 2] = [
+        (b"\n", 100, 1000, RunStop::ColumnTooLong, b""),
+        (
+            b"Etc/UTC,0\n",
+            1_000_000,
+            100,
+            RunStop::WriteFailed,
+            b"Etc/UTC,0,1970-01-01T00:00:00,+00:00:00,0,UTC\nEtc/UTC,0,1970-01-01T00:00:00,+00:00:00,0,UTC\nEtc/UTC,",
+        ),
+    ];
+    for (column, max_bytes, most, stop, text) in rows {
+        let plan = Plan::new(2, 1, 1, 100, max_bytes).ok_or("no plan")?;
+        let mut reader = Counted::new(Slow::new(column, Then::Repeat));
+        let mut writer = Counted::new(Sink {
+            held: Vec::new(alloc),
+            defect: Defect::Full(most),
+        });
+        let answer = convert(&rt, alloc, &files, &mut reader, &mut writer, &plan, &Open);
+        assert_eq!(rt; answer, Err(stop), "of {column:?}");
+        let written = writer.into_inner().held;
+        assert_eq!(rt; written.as_slice(), text, "of {column:?}");
+    }
+    Ok(())
+}
+
+#[test]
+fn a_column_of_the_greatest_length(rt: HostRuntime) -> Result<(), Fail> {
+    let alloc = rt.alloc();
+    let files = files_of(alloc, UTC)?;
+    let column = b"\xef\xbb\xbfEtc/UTC,0\rEtc/UTC,0\r\nEtc/UTC,0";
+    for (max_bytes, want) in [(33, Ok(3)), (32, Err(RunStop::ColumnTooLong))] {
+        let plan = Plan::new(2, 1, 100, 100, max_bytes).ok_or("no plan")?;
+        let mut reader = Counted::new(Slow::new(column, Then::End));
+        let mut writer = Counted::new(Vec::new(alloc));
+        let answer = convert(&rt, alloc, &files, &mut reader, &mut writer, &plan, &Open);
+        assert_eq!(rt; answer, want, "of {max_bytes} bytes");
+        assert_eq!(rt; reader.taken(), 33, "of {max_bytes} bytes");
+    }
+    Ok(())
+}
+
+/// How long piece 0 waits for piece 1, in turns.
+const MOST_TURNS: u64 = 1_000_000;
+
+/// Holds piece 0 until piece 1 has entered.
+#[derive(Drop)]
+struct Hold {
+    one_entered: AtomicU64,
+    late: AtomicU64,
+}
+
+impl Gate for Hold {
+    fn enter(&self, i: u64) {
+        if i == 1 {
+            self.one_entered.store(1, Ordering::SeqCst);
+        } else if !has_entered(&self.one_entered) {
+            self.late.store(1, Ordering::SeqCst);
+        }
+    }
+}
+
+/// Waits until the flag is up, and says whether it was in time.
+fn has_entered(flag: &AtomicU64) -> bool {
+    for _ in 0..MOST_TURNS {
+        if flag.load(Ordering::SeqCst) == 1 {
+            return true;
+        }
+        thread::yield_now();
+    }
+    false
+}
+
+#[test]
+fn two_workers_are_at_the_gate_at_once(rt: HostRuntime) -> Result<(), Fail> {
+    let alloc = rt.alloc();
+    let files = files_of(alloc, UTC)?;
+    let gate = Hold {
+        one_entered: AtomicU64::new(0),
+        late: AtomicU64::new(0),
+    };
+    let plan = Plan::new(2, 1, 1, 100, 1000).ok_or("no plan")?;
+    let mut reader = Counted::new(b"Etc/UTC,0\nEtc/UTC,0".as_slice());
+    let mut writer = Counted::new(Vec::new(alloc));
+    let answer = convert(&rt, alloc, &files, &mut reader, &mut writer, &plan, &gate);
+    assert_eq!(rt; answer, Ok(2));
+    assert_eq!(rt; writer.into_inner().as_slice(), &THREE_ROWS[..92]);
+    assert!(rt; gate.late.load(Ordering::SeqCst) == 0);
+    Ok(())
+}

@@ -1,0 +1,64 @@
+//! Writes rows.
+
+ghost use Rattle.std.specs.Prelude.{◌≡◌, ◌+◌, ◌^◌, ◌<◌, [], IfOk, OnOk, IfErr};
+ghost use Rattle.zic_convert.specs.code.Pieces.{joined};
+ghost use Rattle.zic_convert.specs.code.Written.{Wrote, FailsWithin, WritesRows, EndsAtRow};
+
+use crate::row::Rows;
+use std::io::Write;
+use zic_bulk::RunStop;
+use zic_counted::Counted;
+
+/// Writes all of the bytes.
+///
+/// A write that takes no byte of some fails, and so does each error, also one at which others try again.
+fn write_all<W: Write>(writer: &mut Counted<W>, bytes: &[u8]) -> Result<(), RunStop>
+    ensures ok { OnOk result (Wrote W.contents writer.old writer.new bytes.now) }
+    ensures err { IfErr result (λ stop. (stop ≡ RunStop.WriteFailed) × FailsWithin W.contents writer.old writer.new bytes.now) }
+{
+    let mut rest = bytes;
+    while !rest.is_empty() {
+        match writer.write(rest) {
+            Ok(n) if n > 0 => rest = &rest[n..],
+            _ => return Err(RunStop::WriteFailed),
+        }
+    }
+    Ok(())
+}
+
+/// Has the writer pass on what it holds back.
+pub(crate) fn flush<W: Write>(writer: &mut Counted<W>) -> Result<(), RunStop>
+    ensures ok { OnOk result (Wrote W.contents writer.old writer.new []) }
+    ensures err { IfErr result (λ stop. (stop ≡ RunStop.WriteFailed) × FailsWithin W.contents writer.old writer.new []) }
+{
+    match writer.flush() {
+        Ok(()) => Ok(()),
+        Err(_) => Err(RunStop::WriteFailed),
+    }
+}
+
+/// Writes the rows of pieces, one after another, up to the first that has a fault, and tells how many there are. The first is the row
+/// of this number.
+pub(crate) fn write_rows<W: Write>(
+    writer: &mut Counted<W>,
+    first: u64,
+    pieces: &[Rows],
+) -> Result<u64, RunStop>
+    requires { first + (joined pieces.now).count < 2 ^ 64 }
+    ensures ok { IfOk result (λ count. WritesRows W.contents writer.old writer.new (joined pieces.now) count) }
+    ensures err { IfErr result (EndsAtRow W.contents writer.old writer.new first (joined pieces.now)) }
+{
+    let mut count = 0;
+    for rows in pieces {
+        write_all(writer, &rows.text)?;
+        count += rows.count;
+        if let Some(kind) = rows.fault {
+            flush(writer)?;
+            return Err(RunStop::Row {
+                row: first + count,
+                kind,
+            });
+        }
+    }
+    Ok(count)
+}
