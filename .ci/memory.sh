@@ -3,12 +3,8 @@
 # within 512 MiB of address space.
 set -euo pipefail
 cd "$(dirname "${BASH_SOURCE[0]}")/.."
-work=$(mktemp -d)
-trap 'rm -rf "$work"' EXIT
-if ! (cd crates/zone_changes && rt run) <crates/zone_changes/stdin >"$work/log" 2>&1; then
-    cat "$work/log" >&2
-    exit 1
-fi
+. .ci/build.sh
+build zone_changes
 # a rule each eight hours, of standard time and of saved time in turn
 awk 'BEGIN {
     split("Jan Feb Mar Apr May Jun Jul Aug Sep Oct Nov Dec", months)

@@ -1,0 +1,354 @@
+#!/usr/bin/env bash
+# Holds the built program against the words, the statuses and the files that it owes: the sources of witness/checks.txt, usage, paths
+# that can't be read or written, outputs that fail, limits, little memory, and builds that are killed. Where it runs as root, a folder
+# that may not be written is tried as nobody.
+set -euo pipefail
+cd "$(dirname "${BASH_SOURCE[0]}")/.."
+. .ci/build.sh
+build zic_main check -
+program=$PWD/crates/zic_main/out/zic_main
+table=$PWD/witness/checks.txt
+cd "$work"
+mkdir asked
+cd asked
+calls=0
+differences=0
+input=/dev/null
+
+# holds a call, of which the files ../out and ../err and the status are left, against the status and the lines that are wanted
+told() {
+    local call=$1 wanted=$2 out=$3 err=$4
+    calls=$((calls + 1))
+    printf '%s' "${out:+$out$'\n'}" >../out.wanted
+    printf '%s' "${err:+$err$'\n'}" >../err.wanted
+    [ "$status" != "$wanted" ] || ! cmp -s ../out ../out.wanted || ! cmp -s ../err ../err.wanted || return 0
+    differ "$call: status $status, '$(head -c 200 ../out)', '$(head -c 200 ../err)', and not $wanted, '$out', '$err'"
+}
+
+differ() {
+    echo "$1" >&2
+    differences=$((differences + 1))
+}
+
+ask() {
+    status=0
+    "$program" "$@" <"$input" >../out 2>../err || status=$?
+}
+
+# expect STATUS OUT ERR WORD...
+expect() {
+    ask "${@:4}"
+    told "pzic ${*:4}" "$1" "$2" "$3"
+}
+
+# the text of a usage fault, on standard error, is open
+expect_usage() {
+    ask "$@"
+    calls=$((calls + 1))
+    [ "$status" = 2 ] && [ ! -s ../out ] && [ -s ../err ] ||
+        differ "pzic $*: status $status, '$(head -c 200 ../out)', '$(head -c 200 ../err)', and not 2 with usage on standard error"
+}
+
+# the lines of `check` for the files of a tree, in the order of their names
+listing() {
+    (cd "$1" 2>../../err && find . -type f | sort | while IFS= read -r file; do
+        echo "${file#./} $(wc -c <"$file") $(tail -n 1 "$file")"
+    done) || true
+}
+
+expect_tree() {
+    local got
+    got=$(listing "$1")
+    [ "$got" = "$2" ] || differ "$1: $(printf '%s' "$got" | head -c 300), and not $(printf '%s' "$2" | head -c 300)"
+}
+
+# ------------------------------------------------------------------ the table
+
+begin_block() {
+    rm -rf tree text.*
+    texts=1 lines='' fault='' shows=() answered=
+    : >text.1
+}
+
+ask_block() {
+    local show file instant
+    if [ "$fault" ]; then status=1; else status=0; fi
+    local wanted=$status
+    if [ "$texts" = 1 ]; then
+        expect "$wanted" "$lines" "$fault" check text.1
+        input=text.1
+        expect "$wanted" "$lines" "$fault" check -
+        input=/dev/null
+    fi
+    expect "$wanted" '' "$fault" build --workers 8 --zone-piece 1 tree text.*
+    expect_tree tree "$(printf '%s' "$lines" | sort)"
+    if [ ! "$lines" ] && [ -e tree ]; then differ 'a folder was made for no file'; fi
+    for show in "${shows[@]}"; do
+        read -r file instant show <<<"$show"
+        expect 0 "$show" '' show -- "tree/$file" "$instant"
+    done
+}
+
+begin_block
+while IFS= read -r line; do
+    case $line in
+    ';'*) continue ;;
+    '') ;;
+    --)
+        texts=$((texts + 1))
+        : >"text.$texts"
+        continue
+        ;;
+    =*)
+        lines=$lines${lines:+$'\n'}${line#=} answered=1
+        continue
+        ;;
+    '! '*)
+        fault=${line#! } answered=1
+        continue
+        ;;
+    '? '*)
+        shows+=("${line#? }")
+        continue
+        ;;
+    *)
+        printf '%s\n' "$line" >>"text.$texts"
+        continue
+        ;;
+    esac
+    if [ "$answered" ]; then ask_block; fi
+    begin_block
+done < <(sed 's/^= /=/' "$table" && echo)
+
+# ------------------------------------------------------------------ limits
+
+{ printf '#%2047s\n' '' && echo 'Zone A 0 - UTC'; } >long
+expect 0 'A 111 UTC0' '' check long
+printf '#%2048s\n' '' >long
+expect 1 '' 'line 1: LineTooLong' check long
+awk 'BEGIN { for (i = 0; i < 1001; i++) print "Rule A 2000 only - Jan 1 0 0 -" }' >many
+expect 1 '' 'line 1001: TooMany' check many
+awk 'BEGIN { for (i = 0; i < 10001; i++) printf "Zone Z/%d 0 - UTC\n", i }' >many
+expect 1 '' 'line 10001: TooMany' check many
+# offsets of a second each, and a name for each
+offsets() {
+    awk -v "count=$1" 'BEGIN {
+        for (i = 0; i < count; i++) printf "%s 0:%02d:%02d - AAA%s\n", i ? "" : "Zone A", i / 60, i % 60, i < count - 1 ? " " 1970 + i : ""
+    }'
+}
+offsets 256 >many
+expect 0 "$("$program" check many)" '' check many
+offsets 257 >many
+expect 1 '' 'line 1: TooManyTypes' check many
+truncate -s 67108864 large
+expect 1 '' 'line 1: LineTooLong' check large
+truncate -s 67108865 large
+expect 3 '' 'cannot read large' check large
+expect 3 '' 'cannot read /dev/zero' check /dev/zero
+truncate -s 1048576 large
+expect 1 '' 'file: Magic' show large 0
+truncate -s 1048577 large
+expect 1 '' 'file: TooLarge' show large 0
+expect 1 '' 'file: TooLarge' show /dev/zero 0
+
+# ------------------------------------------------------------------ usage
+
+echo 'Zone Etc/UTC 0 - UTC' >plain
+expect 0 '' '' build tree plain
+file=tree/Etc/UTC
+expect_usage
+expect_usage --help
+expect_usage -h
+expect_usage help
+expect_usage frobnicate
+expect_usage check
+expect_usage check --help
+expect_usage check - -
+expect_usage check plain plain
+for option in --workers --zone-piece; do
+    for command in check 'build tree'; do
+        for number in 0 65537 x '' -1 1.0 18446744073709551616; do
+            expect_usage $command $option "$number" plain
+        done
+        expect_usage $command $option
+        expect_usage $command $option 1 $option 1 plain
+        expect 0 "$(case $command in check) echo 'Etc/UTC 111 UTC0' ;; esac)" '' $command $option +1 plain
+    done
+    expect_usage show $option 1 "$file" 0
+done
+expect_usage check --workers 65 plain
+expect_usage check --frobnicate plain
+expect 0 'Etc/UTC 111 UTC0' '' check --workers 64 --zone-piece 65536 plain
+expect_usage build
+expect_usage build tree
+expect_usage build tree - -
+expect_usage convert -
+expect_usage show
+expect_usage show "$file"
+for instant in +5 1x '' 0.5 ' 1' - -- 9223372036854775808 -1; do
+    expect_usage show "$file" "$instant"
+done
+expect_usage show -- "$file" -9223372036854775809
+expect_usage show -- "$file" --1
+expect_usage show "$file" 0 0
+expect 0 '+00:00:00 0 UTC' '' show "$file" 9223372036854775807
+expect 0 '+00:00:00 0 UTC' '' show -- "$file" -9223372036854775808
+expect 0 '+00:00:00 0 UTC' '' show "$file" -- -1
+
+# ------------------------------------------------------------------ what can't be read
+
+for path in nowhere '' . plain/nowhere; do
+    expect 3 '' "cannot read $path" check "$path"
+    expect 3 '' "cannot read $path" show "$path" 0
+    expect 3 '' "cannot read $path" build none many "$path" nowhere
+done
+input=.
+expect 3 '' 'cannot read -' check -
+expect 3 '' 'cannot read -' build none plain -
+input=/dev/null
+[ ! -e none ] || differ 'a folder was made for sources that cannot be read'
+printf '' >cut
+expect 1 '' 'file: Short' show cut 0
+head -c 110 "$file" >cut
+expect 1 '' 'file: Short' show cut 0
+{ cat "$file" && echo; } >cut
+expect 1 '' 'file: TrailingBytes' show cut 0
+# without the text of its footer a file ends with its last transition
+printf '%s\n' 'Rule US 2007 max - Mar Sun>=8 2:00 1:00 D' 'Rule US 2007 max - Nov Sun>=1 2:00 0 S' 'Zone NY -5:00 US E%sT' >eastern
+expect 0 '' '' build tree eastern
+{ head -c 169 tree/NY && printf '\n\n'; } >cut
+expect 0 '-04:00:00 1 EDT' '' show cut 1257055199
+expect 0 'unspecified' '' show cut 1257055200
+
+# ------------------------------------------------------------------ outputs that fail
+
+# the status is told of the program, and `told` reads its standard error
+: >../out
+for command in 'check plain' "show $file 0"; do
+    status=0
+    "$program" $command >&- 2>../err || status=$?
+    told "pzic $command >&-" 3 '' 'cannot write output'
+    status=0
+    "$program" $command >/dev/full 2>../err || status=$?
+    told "pzic $command >/dev/full" 3 '' 'cannot write output'
+    # a pipe that nobody reads any more
+    mkfifo pipe
+    exec 3<>pipe 4>pipe 3>&-
+    status=0
+    "$program" $command >&4 2>../err || status=$?
+    exec 4>&-
+    rm pipe
+    told "pzic $command into a closed pipe" 3 '' 'cannot write output'
+done
+: >../err
+status=0
+"$program" check nowhere 2>&- >../out || status=$?
+told 'pzic check nowhere 2>&-' 3 '' ''
+
+# ------------------------------------------------------------------ files that can't be written
+
+rm -rf tree
+printf 'Zone A 0 - AAA\nZone A/B 0 - AAA\n' >below
+expect 3 '' 'cannot write tree/A/B' build tree below
+expect_tree tree 'A 111 AAA0'
+echo text >taken
+expect 3 '' 'cannot write taken/Etc/UTC' build taken plain
+mkdir -p tree/Etc/UTC/kept
+expect 3 '' 'cannot write tree/Etc/UTC' build tree plain
+expect_tree tree 'A 111 AAA0'
+# what stands in the place of a file is replaced, and what it led to is kept
+rm -rf tree/Etc
+mkdir tree/Etc
+ln -s ../../taken tree/Etc/UTC
+expect 0 '' '' build tree plain
+expect_tree tree $'A 111 AAA0\nEtc/UTC 111 UTC0'
+[ "$(cat taken)" = text ] || differ 'a file was written through a link'
+chmod 400 tree/A
+echo 'Zone A 0 - BBB' >other
+expect 0 '' '' build tree other
+expect_tree tree $'A 111 BBB0\nEtc/UTC 111 UTC0'
+# a full disk: no file of an octet, and then none of more than 1,024, can be written
+awk 'BEGIN {
+    print "Rule B 1900 1999 - Jan 1 0 1:00 D\nRule B 1900 1999 - Jul 1 0 0 S"
+    print "Zone A 0 - AAA\nZone B 0 B B%sT\nZone C 0 - CCC"
+}' >big
+: >../out
+for kilobytes in 0 1; do
+    rm -rf tree
+    status=0
+    text=$(
+        trap '' XFSZ
+        ulimit -f "$kilobytes"
+        "$program" build tree big 2>&1
+    ) || status=$?
+    echo "$text" >../err
+    if [ "$kilobytes" = 0 ]; then name=A wanted=; else name=B wanted='A 111 AAA0'; fi
+    told "pzic build tree big, with at most $kilobytes KiB a file" 3 '' "cannot write tree/$name"
+    expect_tree tree "$wanted"
+done
+# a folder that may not be written
+rm -rf tree
+mkdir tree
+chmod 755 . .. ../..
+chmod 555 tree
+run=()
+if [ "$(id -u)" = 0 ]; then run=(setpriv --reuid 65534 --regid 65534 --clear-groups); fi
+status=0
+"${run[@]}" "$program" build tree plain >../out 2>../err || status=$?
+told 'pzic build into a folder that may not be written' 3 '' 'cannot write tree/Etc/UTC'
+chmod 755 tree
+
+# ------------------------------------------------------------------ little memory
+
+# within asks the program for what follows, within so many KiB of address space
+within() {
+    status=0
+    (ulimit -v "$1" && exec "$program" "${@:2}") <"$input" >../out 2>../err || status=$?
+}
+
+truncate -s 67108864 large
+within 60000 check large
+told 'pzic check large, within 60,000 KiB' 4 '' 'out of memory'
+# from the least in which the program starts up to what it needs
+awk 'BEGIN { for (i = 0; i < 2000; i++) printf "Zone Z/%d %d:%02d - %%z\n", i, i / 60 % 24, i % 60 }' >many
+listed=$("$program" check many)
+kilobytes=1000
+within $kilobytes check -
+while [ "$status" != 0 ]; do
+    kilobytes=$((kilobytes * 21 / 20))
+    within $kilobytes check -
+done
+for ((good = 0; good < 3;)); do
+    within $kilobytes check many
+    if [ "$status" = 0 ]; then
+        good=$((good + 1))
+        told "pzic check many, within $kilobytes KiB" 0 "$listed" ''
+    else
+        told "pzic check many, within $kilobytes KiB" 4 '' 'out of memory'
+    fi
+    kilobytes=$((kilobytes * 21 / 20))
+done
+
+# ------------------------------------------------------------------ builds that are killed
+
+start=$(date +%s%N)
+expect 0 '' '' build whole many
+took=$(($(date +%s%N) - start))
+rm -rf tree
+mkdir tree
+for ((part = 1; part <= 32; part++)); do
+    "$program" build tree many &
+    sleep "$(printf '%d.%09d' $((took * part / 32 / 1000000000)) $((took * part / 32 % 1000000000)))"
+    kill -9 $! || true
+    wait $! || true
+    find tree -type f ! -name '*~*' | while IFS= read -r name; do
+        cmp "$name" "whole/${name#tree/}" || echo "${name#tree/}" >>../broken
+    done
+done 2>../err
+[ ! -e ../broken ] || differ "after builds that were killed, files aren't whole: $(head -n 3 ../broken)"
+calls=$((calls + 1))
+expect 0 '' '' build tree many
+diff -r whole tree >&2 || differ 'a build after those that were killed leaves another tree'
+
+echo "program: $calls calls, $differences differences"
+[ "$differences" = 0 ]

@@ -1,0 +1,56 @@
+#!/usr/bin/env bash
+# Has the program build trees of the system's release of the tz database: by several numbers of workers and pieces, and of the release cut
+# into three texts, which have to be equal; and of the largest source. Then glibc, Python's zoneinfo and the kit's jiff read the tree.
+# That its files say what zic's do is a matter of .ci/files.sh. `python3` is 3.9 or later, over glibc.
+set -euo pipefail
+cd "$(dirname "${BASH_SOURCE[0]}")/.."
+. .ci/release.sh
+
+build zic_main check -
+build jiff_answers data/new_york
+program=crates/zic_main/out/zic_main
+
+same() {
+    if ! diff -r "$work/$1" "$work/$2" >"$work/log"; then
+        echo "the trees $1 and $2 differ:" >&2
+        head -n 20 "$work/log" >&2
+        exit 1
+    fi
+}
+
+# trees FROM SOURCE...: by 1 and 4 workers, and by as few and as many zones a piece, are equal, and have so many files
+trees() {
+    local workers piece name=$1
+    shift
+    "$program" build "$work/$name" "$@"
+    for workers in 1 4 64; do
+        for piece in 1 16 65536; do
+            "$program" build --workers "$workers" --zone-piece "$piece" "$work/again" "$@"
+            same "$name" again
+            rm -r "$work/again"
+        done
+    done
+    echo "trees: $(find "$work/$name" -type f | wc -l) files of $name are the same by 1, 4 and 64 workers, a zone, 16 and all of them a piece"
+}
+
+trees release "$release"
+
+# rules, zones with their continuations, and links
+awk -v "folder=$work" '/^R/ { print > (folder "/rules"); next } /^L/ { print > (folder "/links"); next } { print > (folder "/zones") }' "$release"
+"$program" build "$work/texts" "$work/rules" "$work/zones" "$work/links"
+same release texts
+echo "trees: the same of three texts, of its rules, zones and links"
+
+# the largest source: 10,000 rules of ten sets, 5,000 zones of two lines each, 5,000 links
+awk 'BEGIN {
+    for (i = 0; i < 10000; i++)
+        printf "Rule R%d %d only - %s\n", i % 10, 1500 + i / 20, int(i / 10) % 2 ? "Jul 1 0:00 0 S" : "Jan 1 0:00 1:00 D"
+    for (i = 0; i < 5000; i++)
+        printf "Zone Area%d/City%d %d:%02d - LMT 1900\n0 R%d X%%sT\nLink Area%d/City%d Alias%d/City%d\n", i % 50, i, i / 60 % 24, i % 60, i % 10, i % 50, i, i % 50, i
+}' >"$work/largest.zi"
+trees largest "$work/largest.zi"
+
+"$program" build "$work/worked" witness/worked.zi
+for tree in worked release; do
+    python3 witness/trees.py "$work/$tree" crates/jiff_answers/out/jiff_answers | sed "s/^/trees, $tree: /"
+done

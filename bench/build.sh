@@ -1,0 +1,98 @@
+#!/bin/sh
+# Times whole runs of the program beside the system's zic in its slim form, in turn, on a file system in memory where there is one: `build`
+# by 1, 2 and 4 workers, and `check`, of the system's release of the tz database and of two sources at the limits, 10,000 zones of one
+# line, and 10,000 rules with 10,000 lines of 5,000 zones. Prints the milliseconds of the best of five runs and the most memory of
+# one. Then, of the release, where the time of one worker goes. It needs `rt`, `zic`, GNU time and the release.
+set -eu
+cd "$(dirname "$0")/.."
+PATH=$PATH:/usr/sbin
+if [ -d /dev/shm ]; then work=$(mktemp -d -p /dev/shm); else work=$(mktemp -d); fi
+trap 'rm -rf "$work"' EXIT
+release=/usr/share/zoneinfo/tzdata.zi
+program=crates/zic_main/out/zic_main
+
+build() {
+    (cd "crates/$1" && if [ "$1" = zic_main ]; then rt run -- check -; else rt run; fi) </dev/null >"$work/build.log" 2>&1 || {
+        cat "$work/build.log" >&2
+        exit 1
+    }
+}
+
+build zic_main
+build source_counts
+build zone_changes
+build file_bench
+awk 'BEGIN { for (i = 0; i < 10000; i++) printf "Zone Area%d/City%d %d:%02d - %%z\n", i % 50, i, i / 60 % 24, i % 60 }' >"$work/zones"
+awk 'BEGIN {
+    for (i = 0; i < 10000; i++)
+        printf "Rule R%d %d only - %s\n", i % 10, 1500 + i / 20, int(i / 10) % 2 ? "Jul 1 0:00 0 S" : "Jan 1 0:00 1:00 D"
+    for (i = 0; i < 5000; i++)
+        printf "Zone Area%d/City%d %d:%02d - LMT 1900\n0 R%d X%%sT\n", i % 50, i, i / 60 % 24, i % 60, i % 10
+}' >"$work/lines"
+
+# runs a command, and keeps its nanoseconds in the file $1 where they are the fewest
+once() {
+    kept=$work/best.$1
+    shift
+    rm -rf "$work/tree"
+    start=$(date +%s%N)
+    "$@" >"$work/out"
+    took=$(($(date +%s%N) - start))
+    if [ ! -f "$kept" ] || [ "$took" -lt "$(cat "$kept")" ]; then echo "$took" >"$kept"; fi
+}
+
+show() {
+    printf '%s: %d.%03d ms' "$1" $(($2 / 1000000)) $(($2 / 1000 % 1000))
+}
+
+# has `once` or `memory` run what a name stands for, of a source
+call() {
+    case $2 in
+    zic) "$1" "$2" zic -b slim -d "$work/tree" "$3" ;;
+    build*) "$1" "$2" "$program" build --workers "${2#build}" "$work/tree" "$3" ;;
+    check*) "$1" "$2" "$program" check --workers "${2#check}" "$3" ;;
+    esac
+}
+
+# the most memory of one run, in MB
+memory() {
+    shift
+    rm -rf "$work/tree"
+    command time -f %M -o "$work/memory" "$@" >"$work/out"
+    echo ", $(($(tail -n 1 "$work/memory") / 1000)) MB"
+}
+
+calls='zic build1 build2 build4 check1 check4'
+for source in "$release" "$work/zones" "$work/lines"; do
+    rm -f "$work"/best.*
+    for _ in 1 2 3 4 5; do
+        for name in $calls; do call once "$name" "$source"; done
+    done
+    for name in $calls; do
+        show "$(basename "$source"), $name" "$(cat "$work/best.$name")"
+        call memory "$name" "$source"
+    done
+done
+
+# how long a command takes over the release, the best of five, in nanoseconds
+best() {
+    rm -f "$work/best.part"
+    for _ in 1 2 3 4 5; do once part "$@" <"$release"; done
+    cat "$work/best.part"
+}
+
+# once: the difference that so many times make
+part() {
+    name=$1 many=$2
+    shift 2
+    show "$name" $((($(best "$@" "$many") - $(best "$@" 0)) / many))
+    echo
+}
+
+echo 'Of tzdata.zi, on one thread:'
+part 'its source read' 20 crates/source_counts/out/source_counts
+part 'the timelines of its zones' 20 crates/zone_changes/out/zone_changes
+show 'its source read, timelines, footers and tables, in one run' "$(best crates/file_bench/out/file_bench write 0)"
+echo
+part 'the octets of its tables' 1000 crates/file_bench/out/file_bench write
+part 'all files read back' 1000 crates/file_bench/out/file_bench read
