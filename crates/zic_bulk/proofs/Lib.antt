@@ -9,3 +9,4 @@ pub mod Lists
 pub mod NamesOf
 pub mod SoundFiles
 pub mod OneFiles
+pub mod OneFault

@@ -1,13 +1,12 @@
 -- A source has one list of files, and with files no fault; and so have texts.
-use Rattle.std.proofs.Common.{◌≡◌, ◌<◌, ℕ, List, length, inl, inr, refl, sym, ap, subst, ◌∙◌, arith}
-use Rattle.std.specs.Prelude.{ℤ, pos, ◌+ℤ◌, All, Contains, slice_get}
+use Rattle.std.proofs.Common.{◌≡◌, ◌<◌, ℕ, List, length, inl, inr, sym, ap, subst, ◌∙◌, arith}
+use Rattle.std.specs.Prelude.{All, Contains, slice_get}
 use Rattle.std.specs.List.{AllZip}
 use Rattle.std.proofs.lemmas.List.Elements.{All-contains}
 use Rattle.std.proofs.lemmas.Option.{same_Some, slice_get_within}
 use Rattle.zic_base.specs.Place.{IsBefore}
 use Rattle.zic_base.specs.declared.place.Place.{Place}
 use Rattle.zic_lines.specs.declared.link.Link.{Link}
-use Rattle.zic_lines.specs.declared.rules.Rules.{Rules}
 use Rattle.zic_source.specs.Event.{events_of}
 use Rattle.zic_source.specs.Links.{EndsAt}
 use Rattle.zic_source.specs.Sound.{IsSoundSource}
@@ -17,15 +16,11 @@ use Rattle.zic_source.proofs.faults.FirstFault.{source_has_no_fault}
 use Rattle.zic_source.proofs.faults.Order.{before_before, not_before_itself}
 use Rattle.zic_source.proofs.reading.Once.{read_once}
 use Rattle.zic_source.proofs.sound.Sources.{source_is_sound}
-use Rattle.zic_occurrences.specs.Occurrence.{year_second}
-use Rattle.zic_states.specs.End.{IsEnd, IsEndBy}
-use Rattle.zic_states.specs.Zone.{Zone}
 use Rattle.zic_states.proofs.Lines.{orderly}
 use Rattle.zic_stretches.specs.Stretch.{zone_of}
 use Rattle.zic_rules.specs.Timeline.{IsWhole}
-use Rattle.zic_posix.specs.Footer.{TzString}
-use Rattle.zic_footer.specs.Making.{IsMade}
 use Rattle.zic_image.specs.Image.{FileImage, IsImageOf}
+use Rattle.zic_image.proofs.OneFault.{has_end}
 use Rattle.zic_image.proofs.OneImage.{one_image, images_without_fault}
 use Rattle.zic_bulk.specs.Files.{File, AreImagesOf, IsFileAt, IsFileOfZone, IsFileOfLink, AreFilesOf, IsFaultOfFiles}
 use Rattle.zic_bulk.specs.Laws.{TextsHaveOneListOfFiles, NoFilesHaveAFault}
@@ -33,18 +28,8 @@ use Rattle.zic_bulk.proofs.Entries.{some_of}
 use Rattle.zic_bulk.proofs.Lists.{same_lists, one_zip, zipped, one_rising, one_by_key}
 use Rattle.zic_bulk.proofs.NamesOf.{one_zone}
 
--- a zone with a footer has an explicit end
-has_end : (zone : Zone) (f : TzString) → IsMade zone f → (end : ℤ) × IsEnd zone end
-has_end zone f (inl (state, one, standard, is)) = (one.end, one.is_end)
-has_end zone f (inr (offset, starting, ending, turns, is)) =
-    let by = turns.by in
-    let last = by.last_set in
-    let end = year_second (by.last +ℤ pos 3) in
-    let by_set = subst (λ (says : Rules). IsEndBy zone by.number says end) (sym last.has_set) (by.last, last.last_year, refl) in
-    (end, (by.number, by.line, last.is_last, by_set))
-
 module _ (source : SourceLines) (sound : IsSoundSource source) where
-  is_whole : (n : ℕ) (image : FileImage) → n < length source.zones → IsImageOf (zone_of source n) image → IsWhole (zone_of source n)
+  pub is_whole : (n : ℕ) (image : FileImage) → n < length source.zones → IsImageOf (zone_of source n) image → IsWhole (zone_of source n)
   is_whole n image is_zone is = record {
     source = sound;
     is_zone = is_zone;

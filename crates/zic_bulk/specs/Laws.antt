@@ -19,3 +19,7 @@ TextsHaveOneListOfFiles = (texts : List (List ℕ)) (a b : List File) → AreFil
 abbrev pub NoFilesHaveAFault : Type 0
 NoFilesHaveAFault =
     (texts : List (List ℕ)) (files : List File) (fault : Fault) → AreFilesOfTexts texts files → IsFaultOfTexts texts fault → ⊥
+
+-- Texts have at most one fault.
+abbrev pub TextsHaveOneFault : Type 0
+TextsHaveOneFault = (texts : List (List ℕ)) (a b : Fault) → IsFaultOfTexts texts a → IsFaultOfTexts texts b → a ≡ b

@@ -1,6 +1,6 @@
 //! Laws of files, each the contract of a function. No function here does anything.
 
-ghost use Rattle.zic_bulk.specs.Laws.{FilesAreSound, TextsHaveOneListOfFiles, NoFilesHaveAFault};
+ghost use Rattle.zic_bulk.specs.Laws.{FilesAreSound, TextsHaveOneListOfFiles, NoFilesHaveAFault, TextsHaveOneFault};
 
 /// The files of a sound source are sound: their names differ, and each tells local time at every instant, within the limits.
 pub fn files_are_sound()
@@ -15,4 +15,9 @@ pub fn texts_have_one_list_of_files()
 /// No texts have both files and a fault.
 pub fn no_files_have_a_fault()
     ensures { NoFilesHaveAFault }
+{}
+
+/// Texts have at most one fault.
+pub fn texts_have_one_fault()
+    ensures { TextsHaveOneFault }
 {}

@@ -4,5 +4,6 @@ pub mod Instants
 pub mod ChangeBounds
 pub mod Files
 pub mod OneImage
+pub mod OneFault
 pub mod Images
 pub mod Faults

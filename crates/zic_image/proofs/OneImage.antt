@@ -69,7 +69,7 @@ module _ (zone : Zone) (whole : IsWhole zone) where
       all.all n rule (subst (λ (x : List ℕ). IsMember (set_of zone.source.rules x) n rule) named member) continues
 
   -- a zone without two rules that go on has no two
-  not_both : (standard year : ℤ) (tails : List TailRule) → HasConstantTail zone → IsTailBy zone standard year tails → ⊥
+  pub not_both : (standard year : ℤ) (tails : List TailRule) → HasConstantTail zone → IsTailBy zone standard year tails → ⊥
   not_both standard year tails few by =
       let same = same_line by.number few.number by.line few.line by.last_set.is_last few.last in
       let has_set = ap (λ (l : ZoneLine). l.rules) (sym same) ∙ by.last_set.has_set in
@@ -111,7 +111,7 @@ module _ (zone : Zone) (whole : IsWhole zone) where
 
   -- ---- a footer, or a fault
 
-  no_fault_of_footer : (f : TzString) → IsMade zone f → (place : Place) (fault : Fault) → IsFaultOfFooter zone place fault → ⊥
+  pub no_fault_of_footer : (f : TzString) → IsMade zone f → (place : Place) (fault : Fault) → IsFaultOfFooter zone place fault → ⊥
   no_fault_of_footer f (inl (a, one, standard, is)) place fault (inl (kind, (b, other, daylight))) =
       let same = ap (λ (s : Shown). s.daylight) (one_for_ever a b one other) in absurd cc
   no_fault_of_footer f (inl (a, one, standard, is)) place fault (inr (kind, none)) = not_both none.standard none.year none.tails one.few none.by
@@ -124,10 +124,10 @@ module _ (zone : Zone) (whole : IsWhole zone) where
 
   module _ (a b : Shown) (xs ys : List of_zone.Change) (first_a : of_zone.IsFirstState zone a) (first_b : of_zone.IsFirstState zone b)
       (are_xs : of_zone.AreChanges zone xs) (are_ys : of_zone.AreChanges zone ys) where
-    one_list : xs ≡ ys
+    pub one_list : xs ≡ ys
     one_list = one_list_of_changes zone whole.orderly xs ys are_xs are_ys
 
-    one_first : a ≡ b
+    pub one_first : a ≡ b
     one_first =
         let (end, is_end) = whole.has_end in
         one_first_state zone whole.orderly (has_beginning zone end xs is_end are_xs) a b first_a first_b

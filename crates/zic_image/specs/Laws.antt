@@ -1,6 +1,7 @@
 -- Laws of images: each is the contract of a function of the module `laws`.
-use Rattle.std.specs.Prelude.{◌≡◌}
+use Rattle.std.specs.Prelude.{◌≡◌, ◌<◌, length}
 use Rattle.zic_base.specs.declared.fault.Fault.{Fault}
+use Rattle.zic_source.specs.Sound.{IsSoundSource}
 use Rattle.zic_states.specs.Zone.{Zone}
 use Rattle.zic_rules.specs.Timeline.{IsWhole}
 use Rattle.zic_image.specs.Image.{FileImage, IsImageOf, ReadsAs, IsFaultOfZone}
@@ -17,3 +18,9 @@ OneImage = (zone : Zone) → IsWhole zone → (a b : FileImage) → IsImageOf zo
 abbrev pub ImagesHaveNoFault : Type 0
 ImagesHaveNoFault =
     (zone : Zone) → IsWhole zone → (image : FileImage) → IsImageOf zone image → (fault : Fault) → IsFaultOfZone zone fault → ⊥
+
+-- A zone of a sound source has at most one fault.
+abbrev pub OneFaultOfZone : Type 0
+OneFaultOfZone =
+    (zone : Zone) → IsSoundSource zone.source → zone.number < length zone.source.zones
+    → (a b : Fault) → IsFaultOfZone zone a → IsFaultOfZone zone b → a ≡ b
