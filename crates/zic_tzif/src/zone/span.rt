@@ -51,3 +51,6 @@ impl Zone {
         }
     }
 }
+
+#[cfg(test)]
+mod tests;
