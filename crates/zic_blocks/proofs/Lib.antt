@@ -1,0 +1,5 @@
+pub mod Ranges
+pub mod Searched
+pub mod Cuts
+pub mod Taking
+pub mod Giving
