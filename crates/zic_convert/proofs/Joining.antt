@@ -1,13 +1,15 @@
 -- The rows of the pieces of a block, put together.
-use Rattle.std.proofs.Common.{◌≡◌, ◌≤◌, ◌<◌, ◌+◌, ◌-◌, ◌*◌, ℕ, zero, suc, List, [], ◌∷◌, ◌++◌, length, take, drop, min, Option, Some, None, Ok, Err, refl, sym, ap, subst, ◌∙◌, arith}
+use Rattle.std.proofs.Common.{◌≡◌, ◌≤◌, ◌<◌, ◌+◌, ◌-◌, ◌*◌, ℕ, suc, List, [], ◌∷◌, ◌++◌, length, map, drop, min, Ok, refl, sym, ap, subst, ◌∙◌, arith}
 use Rattle.std.proofs.Math.Nat.{min-le_left, min-le_right, min-eq_right}
 use Rattle.std.proofs.lemmas.Grind.{div_ceil_times}
 use Rattle.std.proofs.lemmas.List.{drop-drop, drop_all, length-drop, length-take, take-append-drop}
 use mathlib.Core.Option.{some}
 use lib.ListN.{get_elem?}
+use Rattle.csv.specs.Records.{Row, fields_of}
 use Rattle.zic_pieces.specs.Task.{AreValues}
+use Rattle.zic_bulk.specs.Files.{File}
 use Rattle.zic_convert.specs.code.Row.{AreRowsOf, RowsOf}
-use Rattle.zic_convert.specs.code.Pieces.{Pieces, IsOutcomeOf, count_of, start_of, records_of, followed_by, joined}
+use Rattle.zic_convert.specs.code.Pieces.{Pieces, IsOutcomeOf, count_of, start_of, records_of, joined}
 use Rattle.zic_convert.proofs.Coming.{no_rows, rows_followed}
 
 module _ (p : Pieces) where
@@ -62,7 +64,7 @@ module _ (p : Pieces) where
       (λ none. subst (λ (n : ℕ). AreRowsOf p.files p.most n (drop (start_of p (i + 1)) p.records) (joined values)) number rest))
 
   -- the rows of all pieces
-  pub joined_all : (values : List RowsOf) → 0 < p.size → AreValues (IsOutcomeOf p) (count_of p) values → AreRowsOf p.files p.most p.first p.records (joined values)
+  joined_all : (values : List RowsOf) → 0 < p.size → AreValues (IsOutcomeOf p) (count_of p) values → AreRowsOf p.files p.most p.first p.records (joined values)
   joined_all values positive are =
       let end : start_of p (0 + length values) ≡ length p.records = ap (start_of p) (omega (arith, are.0)) ∙ last_start positive in
       let all = joined_from 0 values end (λ k x e. let shift : k ≡ 0 + k = omega arith in subst (λ (n : ℕ). IsOutcomeOf p n (Ok x)) shift (are.1 k x e)) in
@@ -70,3 +72,12 @@ module _ (p : Pieces) where
       let number : p.first + 0 ≡ p.first = omega arith in
       subst (λ (n : ℕ). AreRowsOf p.files p.most n p.records (joined values)) number
       (subst (λ (n : ℕ). AreRowsOf p.files p.most (p.first + n) (drop n p.records) (joined values)) start all)
+
+-- the rows of a block's records, by its pieces
+pub rows_of_records : (files : List File) (most first size : ℕ) (given taken : List Row) (p : Pieces)
+    → p ≡ record { files = files; records = map fields_of given; first = first; most = most; size = size } → given ≡ taken → 0 < size
+    → (rows : List RowsOf) → AreValues (IsOutcomeOf p) (count_of p) rows → AreRowsOf files most first (map fields_of taken) (joined rows)
+rows_of_records files most first size given taken p is same positive rows are =
+    let q : Pieces = record { files = files; records = map fields_of taken; first = first; most = most; size = size } in
+    let all : p ≡ q = is ∙ ap (λ (l : List Row). record { files = files; records = map fields_of l; first = first; most = most; size = size }) same in
+    joined_all q rows positive (subst (λ (r : Pieces). AreValues (IsOutcomeOf r) (count_of r) rows) all are)

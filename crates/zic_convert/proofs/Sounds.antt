@@ -1,6 +1,6 @@
 -- What the files of a source answer.
-use Rattle.std.proofs.Common.{◌≡◌, ◌<◌, ℕ, ℤ, Bool, true, false, List, [], ◌∷◌, length, Option, Some, None, get_or, refl, sym, ap, subst, ◌∙◌, arith}
-use Rattle.std.specs.Prelude.{All, Contains, IfSome, IsSomeAnd, slice_get}
+use Rattle.std.proofs.Common.{◌≡◌, ◌<◌, ℕ, ℤ, Bool, true, false, List, [], ◌∷◌, length, Option, Some, None, get_or, refl, sym, ap, subst}
+use Rattle.std.specs.Prelude.{All, Contains, IsSomeAnd, slice_get}
 use Rattle.std.proofs.lemmas.List.Elements.{Contains-get_or}
 use Rattle.std.proofs.lemmas.Option.{slice_get_within, get_or_from_slice_get}
 use Rattle.std.specs.Prelude.{nat_le, ◌&&◌}
@@ -48,13 +48,7 @@ pub among : (files : List File) (i : ℕ) (file : File) → slice_get files i �
 among files i file e =
     subst (λ (f : File). Contains files f) (get_or_from_slice_get files i file file e) (Contains-get_or files i file (slice_get_within files i file e))
 
--- what the file of a number answers
-pub answer_at : (files : List File) (i : ℕ) (file : File) (content : Content) (t : ℤ) (answer : Option Shown) → slice_get files i ≡ Some file
-    → IfSome (slice_get files i) (λ f. content ≡ f.image.content) → Answers content t answer → Answers file.image.content t answer
-answer_at files i file content t answer e is answers =
-    let here = rw e at is in
-    subst (λ (c : Content). Answers c t answer) here answers
-
+-- and its number is below their count
 pub number_within : (files : List File) (i : ℕ) (P : File → Type 0) → IsSomeAnd (slice_get files i) P → i < length files
 number_within files i P h = let of = file_at files i P h in slice_get_within files i of.0 of.1
 

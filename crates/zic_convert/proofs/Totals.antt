@@ -1,5 +1,5 @@
 -- That all records come to rows, up to the first fault.
-use Rattle.std.proofs.Common.{◌≡◌, ◌<◌, ◌+◌, ℕ, ℤ, Bool, true, false, List, [], ◌∷◌, ◌++◌, length, Option, Some, None, inl, inr, refl, sym, ap, subst, ◌∙◌, arith}
+use Rattle.std.proofs.Common.{◌≡◌, ◌+◌, ℕ, Bool, true, false, List, [], ◌∷◌, ◌++◌, length, Option, Some, None, inl, inr, refl, sym, ap, ◌∙◌, arith}
 use Rattle.std.specs.Prelude.{All, Contains, bytes_eq, is_some}
 use Rattle.std.specs.List.{concat}
 use Rattle.std.specs.Cmp.Lexicographic.{bytes_decides}
@@ -11,7 +11,6 @@ use Rattle.zic_base.specs.Check.{check, first_failed}
 use Rattle.zic_rows.specs.Row.{row_text}
 use Rattle.zic_bulk.specs.Files.{File}
 use Rattle.zic_bulk.specs.declared.stop.RowKind.{RowKind}
-use Rattle.zic_bulk.specs.declared.stop.RowKind.TheVariants as kind
 use Rattle.zic_convert.specs.Rows.{ComeTo, IsTextOf, fault_of, instant_in, is_named, is_row_instant, name_in}
 use Rattle.zic_convert.specs.code.Row.{AreRowsOf, RowsOf}
 use Rattle.zic_convert.proofs.Coming.{come_after, come_more}

@@ -38,18 +38,24 @@ pub record WritesPart (files : List File) (most : ℕ) (column : List ℕ) (old 
 abbrev pub WritesAt : List File → ℕ → List ℕ → RunStop → Option (List ℕ) → Option (List ℕ) → Type 0
 WritesAt files most column (stop.Row row kind) old new = WritesUpTo files most column row kind old new
 WritesAt files most column (stop.Source fault) old new = ⊥
-WritesAt files most column _ old new = WritesPart files most column old new
+WritesAt files most column stop.ReadFailed old new = WritesPart files most column old new
+WritesAt files most column stop.WriteFailed old new = WritesPart files most column old new
+WritesAt files most column stop.ColumnTooLong old new = WritesPart files most column old new
+WritesAt files most column stop.Memory old new = WritesPart files most column old new
+WritesAt files most column stop.NoThread old new = WritesPart files most column old new
 
 -- more than so many bytes were taken, or as many as can be counted
 abbrev pub HasTakenAbove : {R : Type 0} → ℕ → Counts R → Counts R → Type 0
 HasTakenAbove most old new = (old.taken + most < new.taken) ⊎ (new.taken ≡ greatest)
 
 -- A conversion ends for the reader only where a read failed, for the writer only where a write or flush did, and for too long a column
--- only where more than so many bytes were taken. It never ends for a fault of a source, or for want of a thread.
+-- only where more than so many bytes were taken. It ends at a row only where no write and no flush failed. It never ends for a fault
+-- of a source, or for want of a thread.
 abbrev pub IsCauseOf : {R W : Type 0} → ℕ → Counts R → Counts R → Counts W → Counts W → RunStop → Type 0
 IsCauseOf most reader reader' writer writer' stop.ReadFailed = HasFailedSince reader' reader.failures
 IsCauseOf most reader reader' writer writer' stop.WriteFailed = HasFailedSince writer' writer.failures
 IsCauseOf most reader reader' writer writer' stop.ColumnTooLong = HasTakenAbove most reader reader'
+IsCauseOf most reader reader' writer writer' (stop.Row row kind) = writer'.failures ≡ writer.failures
+IsCauseOf most reader reader' writer writer' stop.Memory = Unit {0}
 IsCauseOf most reader reader' writer writer' (stop.Source fault) = ⊥
 IsCauseOf most reader reader' writer writer' stop.NoThread = ⊥
-IsCauseOf most reader reader' writer writer' _ = Unit {0}

@@ -1,7 +1,10 @@
 -- What only the code and its proofs use. No contract of a public function cites it.
-pub mod Bounded
+pub mod Progress
 pub mod Block
 pub mod Row
+pub mod Query
+pub mod Clock
 pub mod Pieces
+pub mod LinePieces
 pub mod Written
 pub mod Halt

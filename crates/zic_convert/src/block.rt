@@ -3,7 +3,6 @@
 ghost use Rattle.std.specs.Prelude.{◌≡◌, ◌≤◌, vec_len, IfOk};
 ghost use Rattle.zic_convert.specs.code.Block.{IsReady, IsAtStart, IsBlock};
 
-use crate::bounded::Bounded;
 use csv::{ByteRecord, Reader, ReaderBuilder};
 use std::alloc::Global;
 use std::io::Read;
@@ -15,7 +14,7 @@ pub(crate) struct Block {
     pub(crate) is_last: bool,
 }
 
-/// A column could not be read on: the reader failed, or gave too many bytes, or memory was refused.
+/// A column could not be read on: the reader failed, or memory was refused.
 #[derive(Drop)]
 pub(crate) struct Unread;
 
@@ -28,19 +27,19 @@ impl From<csv::Error> for Unread {
 /// A column of records, as CSV with commas and double quotes has them, of any number of fields and without a header row.
 #[derive(Drop)]
 pub(crate) struct Column<R> {
-    reader: Reader<Bounded<R>>,
+    reader: Reader<R>,
 }
 
 impl<R: Read> Column<R> {
-    /// The column that the reader gives, of so many bytes at most.
-    pub(crate) fn new(alloc: Global, reader: R, most: u64) -> Column<R>
+    /// The column that the reader gives.
+    pub(crate) fn new(alloc: Global, reader: R) -> Column<R>
         ensures ready { IsReady result }
         ensures start { IsAtStart R.remaining (R.remaining reader) result }
     {
         let reader = ReaderBuilder::new()
             .has_headers(false)
             .flexible(true)
-            .from_reader(alloc, Bounded::new(reader, most));
+            .from_reader(alloc, reader);
         Column { reader }
     }
 

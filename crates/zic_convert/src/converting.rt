@@ -1,111 +1,138 @@
 //! Converts columns.
 
-ghost use Rattle.std.specs.Prelude.{◌≡◌, ◌≤◌, ◌+◌, ◌*◌, map, length, IfOk, IfErr, IfSome};
-ghost use Rattle.zic_bulk.specs.declared.plan.TheConstants.{MOST_OF_PIECE, MOST_ROWS, MOST_WORKERS};
+ghost use Rattle.std.specs.Prelude.{◌≡◌, ◌≤◌, ◌+◌, IfOk, IfErr, IfSome};
+ghost use Rattle.zic_blocks.specs.Rest.{rest_bytes};
+ghost use Rattle.zic_bulk.specs.Plan.{IsPlan};
+ghost use Rattle.zic_counted.specs.Counts.{HasFailedSince};
 ghost use Rattle.zic_convert.specs.Convert.{IsCauseOf, WritesAll, WritesAt};
-ghost use Rattle.zic_convert.specs.code.Row.{AreRowsOf};
-ghost use Rattle.zic_convert.specs.code.Pieces.{ArePieces, joined};
-ghost use Rattle.zic_convert.specs.code.Halt.{IsHalt, IsReadingStop, IsStopOfRows, block_size};
+ghost use Rattle.zic_convert.specs.code.Halt.{IsCauseOfHalt, IsReadingStop, WritesAtHalt, block_size};
+ghost use Rattle.zic_convert.specs.code.Progress.{IsSoFar, OfEachSoFar, left_anew};
 
-use crate::block::{Column, Unread};
+use crate::block::Column;
+use crate::halt::Halt;
+use crate::line_pieces::LinePieces;
+use crate::performing::convert_pieces;
 use crate::pieces::RowPieces;
-use crate::row::Rows;
-use crate::writing::{flush, write_rows};
+use crate::writing::flush;
 use std::alloc::Global;
 use std::io::{Read, Write};
 use std::sync::Wait;
 use std::thread::Threads;
+use zic_blocks::{Lines, Rest};
 use zic_bulk::{Files, Plan, RunStop};
+use zic_columns::laws::feed_makes_no_record;
 use zic_counted::Counted;
-use zic_pieces::{Gate, TaskStop, run_task};
+use zic_pieces::Gate;
 use zic_tzif::laws::files_answer_once;
-
-/// Why a conversion ends early: for reading its column, or else for this.
-#[derive(Drop)]
-enum Halt {
-    Unread,
-    Stop(RunStop),
-}
-
-impl From<Unread> for Halt {
-    ghost use Rattle.zic_convert.specs.declared.converting.Halt.TheVariants as halt;
-
-    ghost from_gives = { λ _ e. e ≡ halt.Unread };
-
-    fn from(_e: Unread) -> Halt {
-        Halt::Unread
-    }
-}
-
-impl From<RunStop> for Halt {
-    ghost use Rattle.zic_convert.specs.declared.converting.Halt.TheVariants as halt;
-
-    ghost from_gives = { λ stop e. e ≡ halt.Stop stop };
-
-    fn from(stop: RunStop) -> Halt {
-        Halt::Stop(stop)
-    }
-}
 
 /// How many records the next block may have, where so many rows were converted: a piece for each worker, and one record more than
 /// there may be rows.
 fn block_size(plan: &Plan, count: u64) -> usize
     requires { count ≤ plan.now.max_rows }
-    ensures { result ≡ block_size plan.now count }
+    ensures size { result ≡ block_size plan.now count }
+    ensures plan { IsPlan plan.now }
 {
     let most = plan.workers() * plan.row_piece();
     most.min(plan.max_rows() + 1 - count) as usize
 }
 
-/// The rows of all pieces, in order, made by the plan's workers.
-fn rows_by<R: Threads + Wait + Sync, G: Gate + Sync>(
-    rt: &R,
-    alloc: Global,
-    pieces: &RowPieces<'_>,
-    plan: &Plan,
-    gate: &G,
-) -> Result<Vec<Rows>, RunStop>
-    requires { ArePieces pieces.now }
-    ensures ok { IfOk result (λ rows. AreRowsOf pieces.now.files pieces.now.most pieces.now.first pieces.now.records (joined rows.items)) }
-    ensures stop { IfErr result IsStopOfRows }
-{
-    match run_task(rt, alloc, pieces, plan.workers(), gate) {
-        Ok(rows) => Ok(rows),
-        Err(TaskStop::Memory(_)) => Err(RunStop::Memory),
-        Err(TaskStop::NoThread) => Err(RunStop::NoThread),
-        Err(TaskStop::Fault(_, ())) => unreachable!(),
-    }
+/// What is left of a column of which so many rows were converted.
+#[derive(Drop)]
+struct Begun<R> {
+    rest: R,
+    count: u64,
 }
 
-/// Converts a column block by block: reads a block, converts it, and writes its rows before it reads on.
-fn convert_blocks<T: Threads + Wait + Sync, R: Read, W: Write, G: Gate + Sync>(
+/// Converts a column up to the line of its first double quote, block by block: takes a block, converts it, and writes its rows before it
+/// reads on.
+fn convert_lines<T: Threads + Wait + Sync, R: Read + Drop, W: Write, G: Gate + Sync>(
     rt: &T,
     alloc: Global,
     files: &Files,
-    reader: &mut Counted<R>,
+    reader: R,
     writer: &mut Counted<W>,
     plan: &Plan,
     gate: &G,
-) -> Result<u64, Halt>
-    ensures ok { IfOk result (λ n. IfSome (R.remaining reader.old.inner)
-        (λ column. WritesAll files.now plan.now.max_rows column n (W.contents writer.old.inner) (W.contents writer.new.inner))) }
-    ensures err { IfErr result (IsHalt W.contents files.now plan.now.max_rows (R.remaining reader.old.inner) writer.old writer.new) }
+) -> Result<Begun<Rest<R>>, Halt>
+    ensures within { IfOk result (λ begun. begun.count ≤ plan.now.max_rows) }
+    ensures failures { IfOk result (λ _. writer.new.failures ≡ writer.old.failures) }
+    ensures far { IfOk result (λ begun. IfSome (R.remaining reader)
+        (λ column. IsSoFar files.now plan.now.max_rows column (left_anew (rest_bytes R.remaining begun.rest)) begun.count (W.contents writer.old.inner) (W.contents writer.new.inner))) }
+    ensures halt { IfErr result (λ halt. IfSome (R.remaining reader)
+        (λ column. WritesAtHalt files.now plan.now.max_rows column halt (W.contents writer.old.inner) (W.contents writer.new.inner))) }
+    ensures cause { IfErr result (IsCauseOfHalt writer.old writer.new) }
 {
     // What is left of a column that can't be read on has rows too: each file answers every instant, as `len` tells.
     prove!(files.len() <= usize::MAX);
     files_answer_once();
-    let mut column = Column::new(alloc, reader, plan.max_bytes());
+    feed_makes_no_record();
+    let workers = plan.workers() as usize;
+    let row_piece = plan.row_piece() as usize;
+    let mut lines = Lines::new(alloc, reader, plan.max_bytes())?;
     let mut count = 0;
+    while lines.turn(alloc, workers, row_piece)? {
+        let pieces = LinePieces::new(files, lines.block(), count + 1, plan);
+        count += convert_pieces(rt, alloc, &pieces, count + 1, writer, plan, gate)?;
+    }
+    Ok(Begun {
+        rest: lines.into_rest(),
+        count,
+    })
+}
+
+/// Converts the rest of a column, record by record, in blocks as well.
+fn convert_records<T: Threads + Wait + Sync, R: Read + Drop, W: Write, G: Gate + Sync>(
+    rt: &T,
+    alloc: Global,
+    files: &Files,
+    begun: Begun<R>,
+    writer: &mut Counted<W>,
+    plan: &Plan,
+    gate: &G,
+) -> Result<u64, Halt>
+    requires { begun.count ≤ plan.now.max_rows }
+    ensures all { IfOk result (λ n. OfEachSoFar files.now plan.now.max_rows (left_anew (R.remaining begun.rest)) begun.count (W.contents writer.old.inner)
+        (λ column held. WritesAll files.now plan.now.max_rows column n held (W.contents writer.new.inner))) }
+    ensures flushed { IfOk result (λ _. writer.new.failures ≡ writer.old.failures) }
+    ensures halt { IfErr result (λ halt. OfEachSoFar files.now plan.now.max_rows (left_anew (R.remaining begun.rest)) begun.count (W.contents writer.old.inner)
+        (λ column held. WritesAtHalt files.now plan.now.max_rows column halt held (W.contents writer.new.inner))) }
+    ensures cause { IfErr result (IsCauseOfHalt writer.old writer.new) }
+{
+    // As in `convert_lines`.
+    prove!(files.len() <= usize::MAX);
+    files_answer_once();
+    let mut column = Column::new(alloc, begun.rest);
+    let mut count = begun.count;
     loop {
         let block = column.block(alloc, block_size(plan, count))?;
         let pieces = RowPieces::new(files, &block.records, count + 1, plan);
-        let rows = rows_by(rt, alloc, &pieces, plan, gate)?;
-        count += write_rows(writer, count + 1, &rows)?;
+        count += convert_pieces(rt, alloc, &pieces, count + 1, writer, plan, gate)?;
         if block.is_last {
             flush(writer)?;
             return Ok(count);
         }
     }
+}
+
+/// Converts a column: its lines up to that of the first double quote, and then the rest.
+fn convert_column<T: Threads + Wait + Sync, R: Read + Drop, W: Write, G: Gate + Sync>(
+    rt: &T,
+    alloc: Global,
+    files: &Files,
+    reader: R,
+    writer: &mut Counted<W>,
+    plan: &Plan,
+    gate: &G,
+) -> Result<u64, Halt>
+    ensures all { IfOk result (λ n. IfSome (R.remaining reader)
+        (λ column. WritesAll files.now plan.now.max_rows column n (W.contents writer.old.inner) (W.contents writer.new.inner))) }
+    ensures flushed { IfOk result (λ _. writer.new.failures ≡ writer.old.failures) }
+    ensures halt { IfErr result (λ halt. IfSome (R.remaining reader)
+        (λ column. WritesAtHalt files.now plan.now.max_rows column halt (W.contents writer.old.inner) (W.contents writer.new.inner))) }
+    ensures cause { IfErr result (IsCauseOfHalt writer.old writer.new) }
+{
+    let begun = convert_lines(rt, alloc, files, reader, &mut *writer, plan, gate)?;
+    convert_records(rt, alloc, files, begun, writer, plan, gate)
 }
 
 /// Why a column could not be read on, by what the reader has counted since it had counted so many failures and bytes.
@@ -130,14 +157,16 @@ fn reading_stop<R>(reader: &Counted<R>, failures: u64, taken: u64, most: u64) ->
 /// ends the call: `Row` has its number, from 1, and the first of its kinds: a row too many, a record of other than two fields, a name
 /// that no file has, no instant, or an instant out of range. All rows before it were written and flushed.
 ///
-/// The plan's workers convert pieces of so many records as the plan says, and pass the gate before each; a piece for each worker is read
-/// at a time, and is written before more is read. Neither changes an answer. After every refusal other than `Row`, what was written is a
-/// part of the text of the rows, from its start on; how much of the column was read is open.
+/// The plan's workers convert pieces of so many records as the plan says, and pass the gate before each. A piece for each worker is
+/// converted at a time, and its rows are written before the next; some of the column is read ahead, at least 64 KiB and about twice what
+/// those pieces have. None of this changes an answer. After every refusal other than `Row`, what was written is a part of the text of the
+/// rows, from its start on; how much of the column was read is open.
 ///
-/// Every error of the reader or writer ends the call, also one at which others try again, and so does a write that takes no byte:
-/// `ReadFailed` and `WriteFailed` are answered only where the reader or writer counted a failure, and `ColumnTooLong` only where the
+/// Every error of the reader or writer ends the call, also one at which others try again, and so does a write that takes no byte; a reader
+/// that ended is not read again. `ReadFailed` and `WriteFailed` are answered only where the reader or writer counted a failure, and `ColumnTooLong` only where the
 /// reader gave more bytes than the plan allows, or where they stand at their greatest count. Want of memory is answered as `Memory`.
-/// `Source` and `NoThread` are never answered.
+/// `Source` and `NoThread` are never answered. Where all is converted, the reader's count of bytes rose by no more than the plan allows,
+/// and the writer failed nowhere; nor did it where a row has a fault.
 pub fn convert<T: Threads + Wait + Sync, R: Read, W: Write, G: Gate + Sync>(
     rt: &T,
     alloc: Global,
@@ -149,13 +178,21 @@ pub fn convert<T: Threads + Wait + Sync, R: Read, W: Write, G: Gate + Sync>(
 ) -> Result<u64, RunStop>
     ensures ok { IfOk result (λ n. IfSome (R.remaining reader.old.inner)
         (λ column. WritesAll files.now plan.now.max_rows column n (W.contents writer.old.inner) (W.contents writer.new.inner))) }
+    ensures within { IfOk result (λ _. reader.new.taken ≤ reader.old.taken + plan.now.max_bytes) }
+    ensures unfailed { IfOk result (λ _. HasFailedSince reader.new reader.old.failures → ⊥) }
+    ensures flushed { IfOk result (λ _. writer.new.failures ≡ writer.old.failures) }
     ensures err { IfErr result (λ stop. IfSome (R.remaining reader.old.inner)
         (λ column. WritesAt files.now plan.now.max_rows column stop (W.contents writer.old.inner) (W.contents writer.new.inner))) }
     ensures cause { IfErr result (IsCauseOf plan.now.max_bytes reader.old reader.new writer.old writer.new) }
 {
     let failures = reader.failures();
     let taken = reader.taken();
-    match convert_blocks(rt, alloc, files, &mut *reader, writer, plan, gate) {
+    match convert_column(rt, alloc, files, &mut *reader, writer, plan, gate) {
+        // No clause of what reads a column says how much it takes, or that no read failed: the reader's own counts decide.
+        Ok(_) if reader.has_failed_since(failures) => Err(RunStop::ReadFailed),
+        Ok(_) if reader.taken().saturating_sub(taken) > plan.max_bytes() => {
+            Err(RunStop::ColumnTooLong)
+        }
         Ok(count) => Ok(count),
         Err(Halt::Stop(stop)) => Err(stop),
         Err(Halt::Unread) => Err(reading_stop(reader, failures, taken, plan.max_bytes())),

@@ -2,9 +2,15 @@
 #![tactic(auto)]
 
 mod block;
-mod bounded;
+mod clock;
 mod converting;
+mod halt;
+pub mod laws;
+mod line_pieces;
+mod lines;
+mod performing;
 mod pieces;
+mod query;
 mod row;
 mod writing;
 

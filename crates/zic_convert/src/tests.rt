@@ -19,6 +19,11 @@ const UTC: &str = "Zone Etc/UTC 0 - UTC\n";
 const NEW_YORK: &str =
     "Rule US 2007 max - Mar Sun>=8 2:00 1:00 D\nRule US 2007 max - Nov Sun>=1 2:00 0 S\nZone Z/NY -5:00 US E%sT\n";
 
+/// The same, and a zone that is always at UT.
+const TWO_ZONES: &str =
+    "Rule US 2007 max - Mar Sun>=8 2:00 1:00 D\nRule US 2007 max - Nov Sun>=1 2:00 0 S\nZone Z/NY -5:00 US E%sT\n\
+Zone Etc/UTC 0 - UTC\n";
+
 const THREE_ROWS: &[u8; 138] =
     b"Etc/UTC,0,1970-01-01T00:00:00,+00:00:00,0,UTC\nEtc/UTC,0,1970-01-01T00:00:00,+00:00:00,0,UTC\n\
 Etc/UTC,0,1970-01-01T00:00:00,+00:00:00,0,UTC\n";
@@ -75,7 +80,7 @@ fn expect<R: Threads + Wait + Sync + Abort>(
 #[test]
 fn rows_tell_local_time(rt: HostRuntime) -> Result<(), Fail> {
     let alloc = rt.alloc();
-    let rows: [(&str, &[u8], u64, &[u8]); 5] = [
+    let rows: [(&str, &[u8], u64, &[u8]); 6] = [
         (UTC, b"", 0, b""),
         (
             UTC,
@@ -103,6 +108,15 @@ Z/NY,1194155999,2007-11-04T01:59:59,-04:00:00,1,EDT\n",
             3,
             b"Z/NY,1194156000,2007-11-04T01:00:00,-05:00:00,0,EST\nZ/NY,4102444800,2099-12-31T19:00:00,-05:00:00,0,EST\n\
 Z/NY,253402214399,9999-12-30T18:59:59,-05:00:00,0,EST\n",
+        ),
+        (
+            TWO_ZONES,
+            b"Z/NY,1173596399\nEtc/UTC,-1\nZ/NY,1173596400\nZ/NY,01194155999\nZ/NY,1194156000\nEtc/UTC,-0\nZ/NY,1173596399\n",
+            7,
+            b"Z/NY,1173596399,2007-03-11T01:59:59,-05:00:00,0,EST\nEtc/UTC,-1,1969-12-31T23:59:59,+00:00:00,0,UTC\n\
+Z/NY,1173596400,2007-03-11T03:00:00,-04:00:00,1,EDT\nZ/NY,1194155999,2007-11-04T01:59:59,-04:00:00,1,EDT\n\
+Z/NY,1194156000,2007-11-04T01:00:00,-05:00:00,0,EST\nEtc/UTC,0,1970-01-01T00:00:00,+00:00:00,0,UTC\n\
+Z/NY,1173596399,2007-03-11T01:59:59,-05:00:00,0,EST\n",
         ),
     ];
     for (source, column, count, text) in rows {
@@ -153,6 +167,76 @@ fn the_first_fault_of_a_row_is_told(rt: HostRuntime) -> Result<(), Fail> {
     for (column, max_rows, row, kind, text) in rows {
         let want = (Err(RunStop::Row { row, kind }), text);
         expect(&rt, alloc, &files, column, max_rows, want)?;
+    }
+    Ok(())
+}
+
+/// The fault of a row whose zone no file has.
+fn no_zone(row: u64) -> Result<u64, RunStop> {
+    Err(RunStop::Row {
+        row,
+        kind: RowKind::RowZone,
+    })
+}
+
+#[test]
+fn columns_with_double_quotes(rt: HostRuntime) -> Result<(), Fail> {
+    let alloc = rt.alloc();
+    let files = files_of(alloc, UTC)?;
+    let (one, two) = (&THREE_ROWS[..46], &THREE_ROWS[..92]);
+    let rows: [(&[u8], u64, Result<u64, RunStop>, &[u8]); 8] = [
+        (
+            b"Etc/UTC,0\nEtc/UTC,0\n\"Etc/UTC\",\"0\"\n",
+            100,
+            Ok(3),
+            THREE_ROWS,
+        ),
+        (
+            b"Etc/UTC,0\n\"Etc/UTC\",0\r\nEtc/UTC,0",
+            100,
+            Ok(3),
+            THREE_ROWS,
+        ),
+        (b"\xef\xbb\xbf\"Etc/UTC\",0\nEtc/UTC,0\n", 100, Ok(2), two),
+        (
+            b"\xef\xbb\xbf\xef\xbb\xbf\"Etc/UTC\",0\n",
+            100,
+            no_zone(1),
+            b"",
+        ),
+        (
+            b"Etc/UTC,0\n\xef\xbb\xbf\"Etc/UTC\",0\n",
+            100,
+            no_zone(2),
+            one,
+        ),
+        (
+            b"Etc/UTC,0\nEtc/UTC,0\n\"Etc/UTC\n\",0\n",
+            100,
+            no_zone(3),
+            two,
+        ),
+        (
+            b"Etc/UTC,0\nEtc/UTC,0\n\"Etc/UTC\",\"x\"\n",
+            100,
+            Err(RunStop::Row {
+                row: 3,
+                kind: RowKind::RowInstant,
+            }),
+            two,
+        ),
+        (
+            b"Etc/UTC,0\nEtc/UTC,0\n\"Etc/UTC\",0\n",
+            2,
+            Err(RunStop::Row {
+                row: 3,
+                kind: RowKind::TooManyRows,
+            }),
+            two,
+        ),
+    ];
+    for (column, max_rows, want, text) in rows {
+        expect(&rt, alloc, &files, column, max_rows, (want, text))?;
     }
     Ok(())
 }

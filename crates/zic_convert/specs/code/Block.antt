@@ -1,12 +1,11 @@
 -- How a column is read in blocks.
-use Rattle.std.specs.Prelude.{◌≡◌, ℕ, List, [], map, length, Option, Some, None, IfSome, option_map}
+use Rattle.std.specs.Prelude.{◌≡◌, ℕ, List, map, length, Option, Some, IfSome, option_map}
 use Rattle.std.specs.Bool.{MatchBool}
-use Rattle.csv.specs.Machine.{next_record}
 use Rattle.csv.specs.Reading.{AreRecords, Reached, Ready, default_config, reader_config, reader_state, reader_trim, source_of, strip_bom}
 use Rattle.csv.specs.Records.{fields_of}
 use Rattle.csv.specs.declared.parser.State.TheVariants as state
 use Rattle.csv.specs.declared.reader.Trim.TheVariants as trim
-use Rattle.zic_convert.specs.code.Bounded.{bytes_left}
+use Rattle.zic_convert.specs.code.Progress.{Left}
 use Rattle.zic_convert.specs.declared.block.Column.{Column}
 use Rattle.zic_convert.specs.declared.block.Block.{Block}
 
@@ -18,7 +17,11 @@ pub record IsReady {R : Type 0} (column : Column R) : Type 0 where
 
 -- the bytes that a column has left, where they are known, by those of the reader
 abbrev pub unread : {R : Type 0} → (R → Option (List ℕ)) → Column R → Option (List ℕ)
-unread remaining column = source_of (bytes_left remaining) column.reader
+unread remaining column = source_of remaining column.reader
+
+-- what a column has left
+abbrev pub left_of : {R : Type 0} → (R → Option (List ℕ)) → Column R → Left
+left_of remaining column = record { bytes = unread remaining column; state = reader_state column.reader }
 
 -- nothing of these bytes was read
 pub record IsAtStart {R : Type 0} (remaining : R → Option (List ℕ)) (known : Option (List ℕ)) (column : Column R) : Type 0 where

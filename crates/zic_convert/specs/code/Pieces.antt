@@ -1,5 +1,5 @@
 -- The records of a block, cut into pieces.
-use Rattle.std.specs.Prelude.{ℕ, ◌+◌, ◌-◌, ◌*◌, ◌≤◌, ◌<◌, List, [], ◌∷◌, ◌++◌, length, min, slice_range, Option, Some, None, Result, Ok, Err}
+use Rattle.std.specs.Prelude.{ℕ, ◌+◌, ◌*◌, ◌≤◌, ◌<◌, List, [], ◌∷◌, ◌++◌, length, min, slice_range, Option, Some, None, Result, Ok, Err}
 use Rattle.std.specs.Int.{div_ceil}
 use Rattle.zic_bulk.specs.Files.{File}
 use Rattle.zic_bulk.specs.declared.stop.RowKind.{RowKind}
@@ -38,6 +38,10 @@ records_of pieces i = slice_range pieces.records (start_of pieces i) (start_of p
 abbrev pub IsOutcomeOf : Pieces → ℕ → Result RowsOf (Unit {0}) → Type 0
 IsOutcomeOf pieces i (Ok rows) = AreRowsOf pieces.files pieces.most (pieces.first + start_of pieces i) (records_of pieces i) rows
 IsOutcomeOf pieces i (Err fault) = ⊥
+
+-- no piece of a task has a fault
+abbrev pub NeverFaults : {X F : Type 0} → (ℕ → Result X F → Type 0) → Type 0
+NeverFaults {X} {F} outcome = (i : ℕ) (fault : F) → outcome i (Err fault) → ⊥
 
 -- some rows, and the rows after them, where none of the first has a fault
 abbrev pub followed_by : RowsOf → RowsOf → Option RowKind → RowsOf

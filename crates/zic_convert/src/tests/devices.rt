@@ -67,6 +67,23 @@ impl Read for Slow<'_> {
     }
 }
 
+/// A reader that gives so many bytes of a text at a time.
+#[derive(Drop)]
+struct Short<'a> {
+    rest: &'a [u8],
+    most: usize,
+}
+
+impl Read for Short<'_> {
+    fn read(&mut self, buf: &mut [u8]) -> io::Result<usize> {
+        let n = self.most.min(self.rest.len()).min(buf.len());
+        let (first, rest) = self.rest.split_at(n);
+        buf[..n].copy_from_slice(first);
+        self.rest = rest;
+        Ok(n)
+    }
+}
+
 /// How a writer fails.
 #[derive(Clone, Copy, Debug)]
 enum Defect {
@@ -205,6 +222,36 @@ fn readers_without_end(rt: HostRuntime) -> Result<(), Fail> {
         assert_eq!(rt; answer, Err(stop), "of {column:?}");
         let written = writer.into_inner().held;
         assert_eq!(rt; written.as_slice(), text, "of {column:?}");
+    }
+    Ok(())
+}
+
+#[test]
+fn rows_lie_over_the_edges_of_reads(rt: HostRuntime) -> Result<(), Fail> {
+    let alloc = rt.alloc();
+    let files = files_of(alloc, UTC)?;
+    let columns: [&[u8]; 3] = [
+        b"\xef\xbb\xbfEtc/UTC,0\r\nEtc/UTC,0\r\n\r\nEtc/UTC,0",
+        b"\xef\xbb\xbf\"Etc/UTC\",0\r\nEtc/UTC,0\r\nEtc/UTC,0",
+        b"Etc/UTC,0\r\nEtc/UTC,0\r\n\r\n\"Etc/UTC\",0\r\n",
+    ];
+    for column in columns {
+        for most in 1..45 {
+            for (workers, row_piece) in [(1, 1), (2, 1), (1, 2), (2, 100)] {
+                let plan = Plan::new(workers, 1, row_piece, 100, 1000).ok_or("no plan")?;
+                let mut reader = Counted::new(Short { rest: column, most });
+                let mut writer = Counted::new(Vec::new(alloc));
+                let answer = convert(&rt, alloc, &files, &mut reader, &mut writer, &plan, &Open);
+                assert_eq!(rt; answer, Ok(3), "of {column:?} by {most}");
+                assert_eq!(rt; reader.taken(), column.len() as u64, "by {most}");
+                let written = writer.into_inner();
+                assert_eq!(rt;
+                    written.as_slice(),
+                    THREE_ROWS.as_slice(),
+                    "of {column:?} by {most}"
+                );
+            }
+        }
     }
     Ok(())
 }

@@ -1,0 +1,11 @@
+-- Laws of converted columns: each is the contract of a function of the module `laws`.
+use Rattle.std.specs.Prelude.{◌≡◌, ℕ, List, Option}
+use Rattle.zic_bulk.specs.Files.{File}
+use Rattle.zic_bulk.specs.Sound.{AreSoundFiles}
+use Rattle.zic_bulk.specs.declared.stop.RowKind.{RowKind}
+use Rattle.zic_convert.specs.Column.{ConvertsTo}
+
+-- By the files of a source a column converts to one list of texts, and one fault or none.
+abbrev pub ColumnsConvertOnce : Type 0
+ColumnsConvertOnce = (files : List File) (most : ℕ) (column : List ℕ) (a b : List (List ℕ)) (fault other : Option RowKind) → AreSoundFiles files
+    → ConvertsTo files most column a fault → ConvertsTo files most column b other → (a ≡ b) × (fault ≡ other)

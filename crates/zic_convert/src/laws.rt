@@ -1,0 +1,14 @@
+//! Laws of converted columns, each the contract of a function. No function here does anything.
+
+ghost use Rattle.zic_convert.specs.Laws.{ColumnsConvertOnce};
+
+use zic_columns::laws::records_are_one;
+use zic_tzif::laws::files_answer_once;
+
+/// By the files of a source a column converts to one list of texts, and one fault or none.
+pub fn columns_convert_once()
+    ensures { ColumnsConvertOnce }
+{
+    records_are_one();
+    files_answer_once();
+}
