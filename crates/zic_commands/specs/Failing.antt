@@ -1,5 +1,5 @@
 -- Why commands give up.
-use Rattle.std.specs.Prelude.{◌≡◌, ◌<◌, ◌≤◌, ◌+◌, ◌==◌, ◌⊎◌, ℕ, List, [], ◌∷◌, ◌++◌, length, take, Contains, if◌then◌else◌, string_bytes, Option, IfSome}
+use Rattle.std.specs.Prelude.{◌≡◌, ◌<◌, ◌≤◌, ◌+◌, ◌==◌, ◌⊎◌, ℕ, ℤ, List, [], ◌∷◌, ◌++◌, length, take, map, if◌then◌else◌, string_bytes, Option, IfSome}
 use Rattle.zic_base.specs.declared.fault.Fault.{Fault}
 use Rattle.zic_base.specs.declared.limit.TheConstants.{LONGEST_FILE}
 use Rattle.zic_bulk.specs.Build.{AreFilesOfTexts, IsStopOfBuild}
@@ -14,6 +14,10 @@ use Rattle.zic_tzif.specs.declared.reason.ReadStop.TheVariants as reading
 use Rattle.zic_commands.specs.declared.failure.Failure.{Failure}
 use Rattle.zic_commands.specs.declared.failure.Failure.TheVariants as failures
 use Rattle.zic_commands.specs.declared.input.TheConstants.{MOST_SOURCE}
+use Rattle.zic_commands.specs.declared.sources.TheConstants.{STANDARD_INPUT}
+use Rattle.zic_commands.specs.Sources.{AreTextsOf}
+use Rattle.zic_commands.specs.Tree.{Gains, in_folder, Placed}
+use Rattle.zic_commands.specs.Output.{IsOutputOfCheck, IsOutputOfShow, WritesPart}
 
 -- the failure for a fault of a source of so many texts: with one, no text is named
 abbrev pub fault_failure : Fault → ℕ → Failure
@@ -40,9 +44,9 @@ abbrev pub IsCannotRead : List ℕ → Failure → Type 0
 IsCannotRead path (failures.CannotRead named) = string_bytes named ≡ path
 IsCannotRead path _ = ⊥
 
--- A reader gave more octets than a text of a source may have, or as many as can be counted.
-abbrev pub HasGivenTooMany : {R : Type 0} → Counts R → Counts R → Type 0
-HasGivenTooMany old new = (old.taken + MOST_SOURCE < new.taken) ⊎ (greatest ≤ new.taken)
+-- a reader gave more octets than these, or as many as can be counted
+abbrev pub HasGivenAbove : {R : Type 0} → ℕ → Counts R → Counts R → Type 0
+HasGivenAbove most old new = (old.taken + most < new.taken) ⊎ (greatest ≤ new.taken)
 
 -- why what a path names isn't read: for this reason, or want of memory
 abbrev pub IsFailureOfReading : List ℕ → Type 0 → Failure → Type 0
@@ -50,16 +54,25 @@ IsFailureOfReading path reason failure = (failure ≡ failures.Memory) ⊎ (IsCa
 
 -- why a text of a source isn't read: a read failed, or the reader gave too many octets
 abbrev pub IsFailureOfText : {R : Type 0} → List ℕ → Counts R → Counts R → Failure → Type 0
-IsFailureOfText path old new = IsFailureOfReading path (HasFailedSince new old.failures ⊎ HasGivenTooMany old new)
+IsFailureOfText path old new = IsFailureOfReading path (HasFailedSince new old.failures ⊎ HasGivenAbove MOST_SOURCE old new)
+
+-- Why the text that a word names isn't read. Of standard input the reason is known; of a file none is told, nor of the octets of one.
+abbrev pub IsFailureOfWord : {R : Type 0} → List ℕ → Counts R → Counts R → Failure → Type 0
+IsFailureOfWord word old new = IsFailureOfReading word (word ≡ STANDARD_INPUT.now → HasFailedSince new old.failures ⊎ HasGivenAbove MOST_SOURCE old new)
+
+-- that a file isn't read, for any reason, or want of memory
+abbrev pub IsFailureOfPath : List ℕ → Failure → Type 0
+IsFailureOfPath path failure = (failure ≡ failures.Memory) ⊎ IsCannotRead path failure
 
 -- why the octets of a file aren't read: a read failed
 abbrev pub IsFailureOfOctets : {R : Type 0} → List ℕ → Counts R → Counts R → Failure → Type 0
 IsFailureOfOctets path old new = IsFailureOfReading path (HasFailedSince new old.failures)
 
--- why output isn't written: a write or the flush failed
-pub record IsFailureOfOutput {W : Type 0} (old new : Counts W) (failure : Failure) : Type 0 where
+-- why such output isn't written: a write or the flush failed, and by then a part of it was written
+pub record IsFailureOfOutput {W : Type 0} (contents : W → Option (List ℕ)) (IsOutput : List ℕ → Type 0) (old new : Counts W) (failure : Failure) : Type 0 where
   pub is : failure ≡ failures.CannotWriteOutput
   pub failed : HasFailedSince new old.failures
+  pub written : WritesPart IsOutput (contents old.inner) (contents new.inner)
 
 -- why texts have no files: the end of the build of these texts, and of no others
 pub record IsFailureOfTexts (texts : List (List ℕ)) (failure : Failure) : Type 0 where
@@ -67,10 +80,12 @@ pub record IsFailureOfTexts (texts : List (List ℕ)) (failure : Failure) : Type
   pub is_stop : IsStopOfBuild texts stop
   pub is : failure ≡ run_failure stop (length texts)
 
--- Why the text that a reader has left has no files. Where what it has left isn't known, some text has none for this reason.
+-- Why the text that a reader has left, no longer than a text may be, has no files. Where what it has left isn't known, some text has
+-- none for this reason.
 pub record IsFailureOfSource (known : Option (List ℕ)) (failure : Failure) : Type 0 where
   pub text : List ℕ
   pub is_text : IfSome known (λ all. text ≡ all)
+  pub fits : length text ≤ MOST_SOURCE
   pub of_text : IsFailureOfTexts (text ∷ []) failure
 
 -- Why octets that a reader has left are no file. Where what it has left isn't known, some octets are none for this reason.
@@ -81,36 +96,58 @@ pub record IsFailureOfFile (known : Option (List ℕ)) (failure : Failure) : Typ
   pub is_fault : IsFault octets reason
   pub is : failure ≡ failures.File reason
 
--- why `check` gives up: the text can't be read, or has no files, or its lines can't be written
-abbrev pub IsFailureOfCheck : {R W : Type 0} → List ℕ → Option (List ℕ) → Counts R → Counts R → Counts W → Counts W → Failure → Type 0
-IsFailureOfCheck path known reader reader' writer writer' failure =
-    IsFailureOfText path reader reader' failure ⊎ IsFailureOfSource known failure ⊎ IsFailureOfOutput writer writer' failure
+-- why `check` gives up: the text isn't read, as it is said here, or has no files, or its lines can't be written
+abbrev pub IsFailureOfCheck : {W : Type 0} → (W → Option (List ℕ)) → (Failure → Type 0) → Option (List ℕ) → Counts W → Counts W → Failure → Type 0
+IsFailureOfCheck contents IsUnread known writer writer' failure =
+    IsUnread failure ⊎ IsFailureOfSource known failure ⊎ IsFailureOfOutput contents (IsOutputOfCheck known) writer writer' failure
 
--- why `show` gives up: the octets can't be read, or are no file, or the line can't be written
-abbrev pub IsFailureOfShow : {R W : Type 0} → List ℕ → Option (List ℕ) → Counts R → Counts R → Counts W → Counts W → Failure → Type 0
-IsFailureOfShow path known reader reader' writer writer' failure =
-    IsFailureOfOctets path reader reader' failure ⊎ IsFailureOfFile known failure ⊎ IsFailureOfOutput writer writer' failure
+-- why `show` gives up: the octets aren't read, as it is said here, or are no file, or the line can't be written
+abbrev pub IsFailureOfShow : {W : Type 0} → (W → Option (List ℕ)) → (Failure → Type 0) → Option (List ℕ) → ℤ → Counts W → Counts W → Failure → Type 0
+IsFailureOfShow contents IsUnread known instant writer writer' failure =
+    IsUnread failure ⊎ IsFailureOfFile known failure ⊎ IsFailureOfOutput contents (IsOutputOfShow known instant) writer writer' failure
 
 -- that this path can't be written
 abbrev pub IsCannotWrite : List ℕ → Failure → Type 0
 IsCannotWrite path (failures.CannotWrite named) = string_bytes named ≡ path
 IsCannotWrite path _ = ⊥
 
--- that the file of one of these can't be written into the folder, named by the folder and its name
-pub record IsUnwritten (folder : List ℕ) (files : List File) (failure : Failure) : Type 0 where
+-- Why the file of a source isn't placed in a folder: memory is wanting, or it can't be written, since the folder has no name or the
+-- tree refused the path.
+abbrev pub IsUnplaced : (List ℕ → Type 0) → List ℕ → File → Failure → Type 0
+IsUnplaced IsRefused folder file failure =
+    let path = folder ++ 47 ∷ file.name in
+    (failure ≡ failures.Memory) ⊎ (IsCannotWrite path failure × ((folder ≡ []) ⊎ IsRefused path))
+
+-- why not all files are placed in a folder: all before one are, and that one isn't
+pub record IsFailureOfFolder (IsRefused : List ℕ → Type 0) (folder : List ℕ) (files : List File) (old new : Option (List Placed)) (failure : Failure) : Type 0 where
+  pub before : List File
   pub file : File
-  pub is_file : Contains files file
-  pub named : IsCannotWrite (folder ++ 47 ∷ file.name) failure
+  pub after : List File
+  pub parts : files ≡ before ++ file ∷ after
+  pub placed : Gains old new (map (in_folder folder) before)
+  pub unplaced : IsUnplaced IsRefused folder file failure
 
--- why not all files are written into a folder: one of them can't be, or memory is wanting
-abbrev pub IsFailureOfFolder : List ℕ → List File → Failure → Type 0
-IsFailureOfFolder folder files failure = (failure ≡ failures.Memory) ⊎ IsUnwritten folder files failure
+-- the texts have files, and not all of them are placed in the folder
+pub record IsFailureOfFiles (IsRefused : List ℕ → Type 0) (texts : List (List ℕ)) (folder : List ℕ) (old new : Option (List Placed)) (failure : Failure) : Type 0 where
+  pub files : List File
+  pub are_files : AreFilesOfTexts texts files
+  pub in_folder : IsFailureOfFolder IsRefused folder files old new failure
 
--- the texts have files
-abbrev pub HaveFiles : List (List ℕ) → Type 0
-HaveFiles texts = (files : List File) × AreFilesOfTexts texts files
+-- why `build` gives up: the texts have no files, and the tree is as it was, or not all of them are placed in the folder
+abbrev pub IsFailureOfBuild : {D : Type 0} → (D → Option (List Placed)) → (D → List ℕ → Type 0) → List (List ℕ) → List ℕ → D → D → Failure → Type 0
+IsFailureOfBuild placed refused texts folder tree tree' failure =
+    (IsFailureOfTexts texts failure × (tree' ≡ tree)) ⊎ IsFailureOfFiles (refused tree') texts folder (placed tree) (placed tree') failure
 
--- why `build` gives up: the texts have no files, or not all of them are written
-abbrev pub IsFailureOfBuild : List (List ℕ) → List ℕ → Failure → Type 0
-IsFailureOfBuild texts folder failure =
-    IsFailureOfTexts texts failure ⊎ ((files : List File) × AreFilesOfTexts texts files × IsFailureOfFolder folder files failure)
+-- the text of one of these words can't be read, and the texts of all before it are read
+pub record IsUnread (words : List (List ℕ)) (input : Option (List ℕ)) (failure : Failure) : Type 0 where
+  pub before : List (List ℕ)
+  pub word : List ℕ
+  pub after : List (List ℕ)
+  pub parts : words ≡ before ++ word ∷ after
+  pub texts : List (List ℕ)
+  pub are_texts : AreTextsOf before input texts
+  pub unread : IsCannotRead word failure
+
+-- why not all texts that words name are read: one can't be, or memory is wanting
+abbrev pub IsFailureOfSources : List (List ℕ) → Option (List ℕ) → Failure → Type 0
+IsFailureOfSources words input failure = (failure ≡ failures.Memory) ⊎ IsUnread words input failure

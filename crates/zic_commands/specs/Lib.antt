@@ -1,4 +1,8 @@
 pub mod Text
+pub mod Output
+pub mod Sources
+pub mod Tree
 pub mod Words
 pub mod Failing
 pub mod Instant
+pub mod Converting

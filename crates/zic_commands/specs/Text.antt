@@ -1,5 +1,5 @@
 -- What `check` and `show` print.
-use Rattle.std.specs.Prelude.{◌≡◌, ℕ, ◌/◌, ◌%◌, ℤ, pos, int_lt, unsigned_abs, nat_lt, if◌then◌else◌, codes, List, [], ◌∷◌, ◌++◌, length, Option, Some, None}
+use Rattle.std.specs.Prelude.{◌≡◌, ◌≤◌, ℕ, ◌/◌, ◌%◌, ℤ, pos, int_lt, unsigned_abs, nat_lt, if◌then◌else◌, codes, List, [], ◌∷◌, ◌++◌, length, Option, Some, None}
 use Rattle.std.specs.Fmt.{decimal}
 use Rattle.std.specs.List.{flat_map}
 use Rattle.zic_base.specs.State.{Shown}
@@ -8,13 +8,15 @@ use Rattle.zic_tzif.specs.Answer.{Answers}
 use Rattle.zic_tzif.specs.Reading.{IsFile}
 use Rattle.zic_bulk.specs.Build.{AreFilesOfTexts}
 use Rattle.zic_bulk.specs.Files.{File}
+use Rattle.zic_commands.specs.declared.input.TheConstants.{MOST_SOURCE}
 
 -- a file's name, its number of octets and its footer, between spaces, and a newline
 abbrev pub check_line : File → List ℕ
 check_line file = file.name ++ 32 ∷ (decimal (length file.image.octets) ++ 32 ∷ (file.image.content.text ++ 10 ∷ []))
 
--- the lines for the files of a source that is one text
+-- the lines for the files of a source that is one text, no longer than a text may be
 pub record IsListing (text lines : List ℕ) : Type 0 where
+  pub fits : length text ≤ MOST_SOURCE
   pub files : List File
   pub are_files : AreFilesOfTexts (text ∷ []) files
   pub are_lines : lines ≡ flat_map check_line files

@@ -1,11 +1,12 @@
 //! `check`: compiles a source, and lists its files.
 
-ghost use Rattle.std.specs.Prelude.{◌≡◌, ◌≢◌, ◌<◌, ◌⊎◌, ℕ, List, [], ◌∷◌, ◌++◌, length, slice_get, IfOk, IfErr, IfSome, OnOk};
-ghost use Rattle.std.specs.Io.KnownBytes.{Appends};
+ghost use Rattle.std.specs.Prelude.{◌≡◌, ◌≢◌, ◌<◌, ◌≤◌, ◌⊎◌, [], ◌∷◌, ◌++◌, length, slice_get, IfOk, IfErr, IfSome, OnOk};
 ghost use Rattle.std.specs.List.{flat_map};
 ghost use Rattle.zic_counted.specs.Counts.{CountsNothing};
-ghost use Rattle.zic_commands.specs.Failing.{IsFailureOfCheck, IsFailureOfTexts};
+ghost use Rattle.zic_commands.specs.Failing.{IsFailureOfCheck, IsFailureOfText, IsFailureOfTexts};
+ghost use Rattle.zic_commands.specs.Output.{IsOutputOfCheck, Writes};
 ghost use Rattle.zic_commands.specs.declared.failure.Failure.TheVariants.{CannotWriteOutput, Memory};
+ghost use Rattle.zic_commands.specs.declared.input.TheConstants.{MOST_SOURCE};
 ghost use Rattle.zic_commands.specs.Text.{check_line, IsListing};
 
 use crate::compiling::files_of;
@@ -29,10 +30,9 @@ pub fn check<T: Threads + Wait + Sync, R: Read, W: Write>(
     reader: &mut Counted<R>,
     writer: &mut Counted<W>,
 ) -> Result<(), Failure>
-    ensures ok { OnOk result (IfSome (R.remaining reader.old.inner)
-        (λ text. (lines : List ℕ) × IsListing text lines × Appends (W.contents writer.old.inner) (W.contents writer.new.inner) lines)) }
+    ensures ok { OnOk result (Writes (IsOutputOfCheck (R.remaining reader.old.inner)) (W.contents writer.old.inner) (W.contents writer.new.inner)) }
     ensures flushed { OnOk result (CountsNothing writer.old writer.new) }
-    ensures err { IfErr result (IsFailureOfCheck path.now (R.remaining reader.old.inner) reader.old reader.new writer.old writer.new) }
+    ensures err { IfErr result (IsFailureOfCheck W.contents (IsFailureOfText path.now reader.old reader.new) (R.remaining reader.old.inner) writer.old writer.new) }
     ensures nothing { IfErr result (λ failure. failure ≢ CannotWriteOutput → writer.new ≡ writer.old) }
 {
     let text = read_source_text(alloc, path, reader)?;
@@ -47,6 +47,7 @@ fn lines_of<T: Threads + Wait + Sync>(
     plan: &Plan,
     text: Vec<u8>,
 ) -> Result<Vec<u8>, Failure>
+    requires { length text.items ≤ MOST_SOURCE }
     ensures ok { IfOk result (λ lines. IsListing text.items lines.items) }
     ensures err { IfErr result (λ failure. (failure ≡ Memory) ⊎ IsFailureOfTexts (text.items ∷ []) failure) }
 {

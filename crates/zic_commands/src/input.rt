@@ -1,13 +1,13 @@
 //! What a reader gives, up to a limit.
 
-ghost use Rattle.std.specs.Prelude.{◌≡◌, ◌<◌, ◌≤◌, ◌+◌, length, min, take, IfOk, IfErr, IfSome, OnOk};
+ghost use Rattle.std.specs.Prelude.{◌≡◌, ◌≢◌, ◌<◌, ◌≤◌, ◌+◌, length, min, take, IfOk, IfErr, IfSome, OnOk};
 ghost use Rattle.std.specs.Io.{StartsWith, appended_bytes};
 ghost use Rattle.std.specs.Io.KnownBytes.{Consumes, IsAtEnd};
 ghost use Rattle.zic_base.specs.declared.limit.TheConstants.{LONGEST_FILE};
 ghost use Rattle.zic_counted.specs.Counts.{CountsTaken, HasFailedSince, risen, greatest};
-ghost use Rattle.zic_commands.specs.Failing.{IsFailureOfText, IsFailureOfOctets};
+ghost use Rattle.zic_commands.specs.Failing.{HasGivenAbove, IsFailureOfText, IsFailureOfOctets};
 ghost use Rattle.zic_commands.specs.declared.input.TheConstants.{MOST_SOURCE};
-ghost use Rattle.zic_commands.specs.declared.input.InputStop.TheVariants.{Unreadable};
+ghost use Rattle.zic_commands.specs.declared.input.InputStop.TheVariants.{TooLong, Unreadable};
 
 use crate::failure::{Failure, cannot_read};
 use std::alloc::{AllocError, Global};
@@ -26,6 +26,8 @@ const BLOCK: usize = 16_384;
 enum InputStop {
     /// A read failed.
     Unreadable,
+    /// There are more octets than there may be.
+    TooLong,
     /// A growth of memory was refused.
     Memory,
 }
@@ -52,9 +54,9 @@ pub fn read_source_text<R: Read>(
     ensures size { IfOk result (λ text. length text.items ≤ MOST_SOURCE) }
     ensures err { IfErr result (IsFailureOfText path.now reader.old reader.new) }
 {
-    match read_up_to(alloc, reader, MOST_SOURCE as usize + 1) {
-        Ok(text) if text.len() as u64 <= MOST_SOURCE => Ok(text),
-        Ok(_) | Err(InputStop::Unreadable) => Err(cannot_read(alloc, path)),
+    match read_whole(alloc, reader, MOST_SOURCE as usize) {
+        Ok(text) => Ok(text),
+        Err(InputStop::Unreadable | InputStop::TooLong) => Err(cannot_read(alloc, path)),
         Err(InputStop::Memory) => Err(Failure::Memory),
     }
 }
@@ -70,9 +72,28 @@ pub(crate) fn read_file_octets<R: Read>(
 {
     match read_up_to(alloc, reader, LONGEST_FILE + 1) {
         Ok(octets) => Ok(octets),
-        Err(InputStop::Unreadable) => Err(cannot_read(alloc, path)),
+        Err(InputStop::Unreadable | InputStop::TooLong) => Err(cannot_read(alloc, path)),
         Err(InputStop::Memory) => Err(Failure::Memory),
     }
+}
+
+/// All octets that a reader gives, where there are no more than `most`.
+fn read_whole<R: Read>(
+    alloc: Global,
+    reader: &mut Counted<R>,
+    most: usize,
+) -> Result<Vec<u8>, InputStop>
+    requires { most < usize.MAX }
+    ensures whole { IfOk result (λ octets. IfSome (R.remaining reader.old.inner) (λ all. octets.items ≡ all)) }
+    ensures size { IfOk result (λ octets. length octets.items ≤ most) }
+    ensures failed { IfErr result (λ stop. stop ≡ Unreadable → HasFailedSince reader.new reader.old.failures) }
+    ensures long { IfErr result (λ stop. stop ≡ TooLong → HasGivenAbove most reader.old reader.new) }
+{
+    let octets = read_up_to(alloc, reader, most + 1)?;
+    if octets.len() > most {
+        return Err(InputStop::TooLong);
+    }
+    Ok(octets)
 }
 
 /// The octets that a reader gives, but no more than `limit`.
@@ -84,6 +105,7 @@ fn read_up_to<R: Read>(
     ensures octets { IfOk result (λ octets. IfSome (R.remaining reader.old.inner) (λ all. octets.items ≡ take limit all)) }
     ensures taken { IfOk result (λ octets. min reader.new.taken greatest ≡ risen reader.old.taken (length octets.items)) }
     ensures err { IfErr result (λ stop. stop ≡ Unreadable → HasFailedSince reader.new reader.old.failures) }
+    ensures all { IfErr result (λ stop. stop ≢ TooLong) }
 {
     let mut octets = Vec::new(alloc);
     let mut block = [0; BLOCK];
@@ -109,6 +131,7 @@ fn read_block<R: Read>(
     ensures consumes { OnOk result (Consumes (R.remaining reader.old.inner) (R.remaining reader.new.inner) (appended_bytes octets.old.items octets.new.items)) }
     ensures end { IfOk result (λ n. n ≡ 0 → 0 < length block.old → IsAtEnd (R.remaining reader.new.inner)) }
     ensures err { IfErr result (λ stop. stop ≡ Unreadable → HasFailedSince reader.new reader.old.failures) }
+    ensures all { IfErr result (λ stop. stop ≢ TooLong) }
 {
     match reader.read(block) {
         Ok(n) => {

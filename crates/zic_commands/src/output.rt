@@ -1,9 +1,10 @@
 //! What a command writes.
 
-ghost use Rattle.std.specs.Prelude.{◌≡◌, ◌<◌, ◌≤◌, length, take, IfOk, IfErr, OnOk};
-ghost use Rattle.std.specs.Io.KnownBytes.{Appends};
-ghost use Rattle.zic_counted.specs.Counts.{CountsNothing};
-ghost use Rattle.zic_commands.specs.Failing.{IsFailureOfOutput};
+ghost use Rattle.std.specs.Prelude.{◌≡◌, ◌<◌, ◌≤◌, length, take, IfOk, IfErr, OnOk, OnErr};
+ghost use Rattle.std.specs.Io.KnownBytes.{Appends, Keeps};
+ghost use Rattle.zic_counted.specs.Counts.{CountsNothing, HasFailedSince};
+ghost use Rattle.zic_commands.specs.Output.{AppendsPart};
+ghost use Rattle.zic_commands.specs.declared.failure.Failure.TheVariants.{CannotWriteOutput};
 
 use crate::failure::Failure;
 use std::io::Write;
@@ -13,7 +14,9 @@ use zic_counted::Counted;
 pub(crate) fn write_output<W: Write>(writer: &mut Counted<W>, octets: &[u8]) -> Result<(), Failure>
     ensures ok { OnOk result (Appends (W.contents writer.old.inner) (W.contents writer.new.inner) octets.now) }
     ensures counts { OnOk result (CountsNothing writer.old writer.new) }
-    ensures err { IfErr result (IsFailureOfOutput writer.old writer.new) }
+    ensures failure { IfErr result (λ failure. failure ≡ CannotWriteOutput) }
+    ensures failed { OnErr result (HasFailedSince writer.new writer.old.failures) }
+    ensures part { OnErr result (AppendsPart (W.contents writer.old.inner) (W.contents writer.new.inner) octets.now) }
 {
     let mut written = 0;
     for _ in 0..octets.len() {
@@ -33,7 +36,9 @@ fn write_once<W: Write>(writer: &mut Counted<W>, octets: &[u8]) -> Result<usize,
     ensures some { IfOk result (λ n. (0 < n) × (n ≤ length octets.now)) }
     ensures appends { IfOk result (λ n. Appends (W.contents writer.old.inner) (W.contents writer.new.inner) (take n octets.now)) }
     ensures counts { OnOk result (CountsNothing writer.old writer.new) }
-    ensures err { IfErr result (IsFailureOfOutput writer.old writer.new) }
+    ensures failure { IfErr result (λ failure. failure ≡ CannotWriteOutput) }
+    ensures failed { OnErr result (HasFailedSince writer.new writer.old.failures) }
+    ensures keeps { OnErr result (Keeps (W.contents writer.old.inner) (W.contents writer.new.inner)) }
 {
     match writer.write(octets) {
         Ok(n) if n > 0 => Ok(n),

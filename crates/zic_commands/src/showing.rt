@@ -1,14 +1,13 @@
 //! `show`: what a file says of an instant.
 
-ghost use Rattle.std.specs.Prelude.{◌≡◌, ◌≢◌, ◌⊎◌, ◌+◌, ℕ, List, ◌++◌, take, IfOk, IfErr, IfSome, OnOk};
-ghost use Rattle.std.specs.Io.KnownBytes.{Appends};
-ghost use Rattle.zic_base.specs.declared.limit.TheConstants.{LONGEST_FILE};
+ghost use Rattle.std.specs.Prelude.{◌≡◌, ◌≢◌, ◌⊎◌, ◌++◌, IfOk, IfErr, OnOk};
 ghost use Rattle.zic_base.specs.State.{shown};
 ghost use Rattle.zic_tzif.specs.Answer.{answered};
 ghost use Rattle.zic_tzif.specs.Reading.{IsFault};
 ghost use Rattle.zic_tzif.specs.declared.reason.Reason.{Reason};
 ghost use Rattle.zic_counted.specs.Counts.{CountsNothing};
-ghost use Rattle.zic_commands.specs.Failing.{IsFailureOfShow};
+ghost use Rattle.zic_commands.specs.Failing.{IsFailureOfOctets, IsFailureOfShow};
+ghost use Rattle.zic_commands.specs.Output.{IsOutputOfShow, Writes};
 ghost use Rattle.zic_commands.specs.declared.failure.Failure.TheVariants.{CannotWriteOutput, File, Memory};
 ghost use Rattle.zic_commands.specs.Text.{answer_line, state_line, offset_text, two_digits, IsShowing};
 
@@ -30,10 +29,9 @@ pub fn show<R: Read, W: Write>(
     instant: i64,
     writer: &mut Counted<W>,
 ) -> Result<(), Failure>
-    ensures ok { OnOk result (IfSome (R.remaining reader.old.inner)
-        (λ octets. (line : List ℕ) × IsShowing (take (LONGEST_FILE + 1) octets) instant line × Appends (W.contents writer.old.inner) (W.contents writer.new.inner) line)) }
+    ensures ok { OnOk result (Writes (IsOutputOfShow (R.remaining reader.old.inner) instant) (W.contents writer.old.inner) (W.contents writer.new.inner)) }
     ensures flushed { OnOk result (CountsNothing writer.old writer.new) }
-    ensures err { IfErr result (IsFailureOfShow path.now (R.remaining reader.old.inner) reader.old reader.new writer.old writer.new) }
+    ensures err { IfErr result (IsFailureOfShow W.contents (IsFailureOfOctets path.now reader.old reader.new) (R.remaining reader.old.inner) instant writer.old writer.new) }
     ensures nothing { IfErr result (λ failure. failure ≢ CannotWriteOutput → writer.new ≡ writer.old) }
 {
     let octets = read_file_octets(alloc, path, reader)?;

@@ -1,5 +1,6 @@
 //! The commands over readers and writers, with outside values.
 
+mod converting;
 mod folder;
 
 use crate::*;

@@ -2,11 +2,11 @@
 
 use crate::failure::Refusal;
 use clap::error::ErrorKind;
-use clap::{Arg, ArgMatches, Command, value_parser};
+use clap::{Arg, ArgAction, ArgMatches, Command, value_parser};
 use std::alloc::{AllocError, Global};
-use std::env;
 use std::rt::Env;
-use zic_bulk::{MOST_BYTES, MOST_ROWS, Plan};
+use std::{env, io};
+use zic_bulk::Plan;
 use zic_commands::{Failure, STANDARD_INPUT, parse_instant};
 
 /// What the program is asked to do.
@@ -23,6 +23,13 @@ pub enum Request {
         sources: Vec<String>,
         plan: Plan,
     },
+    /// Compile a source, and convert a column by its files.
+    Convert {
+        source: String,
+        plan: Plan,
+        /// Whether it tells how many rows there are so far.
+        progress: bool,
+    },
     /// Tell what a file says of an instant.
     Show {
         file: String,
@@ -33,10 +40,15 @@ pub enum Request {
 /// What the words of the process ask for.
 pub fn requested<R: Env + AllocGlobal>(rt: &R) -> Result<Request, Refusal> {
     let alloc = rt.alloc();
-    let Ok(words) = env::args(rt) else {
-        return Err(usage(alloc, "the words are not all text"));
+    let given = match env::args(rt) {
+        Ok(given) => given,
+        Err(e) if e.kind() == io::ErrorKind::OutOfMemory => return Err(Failure::Memory.into()),
+        Err(_) => return Err(usage(alloc, "the words are not all text")),
     };
-    let words: Vec<String> = words.collect(alloc)?;
+    let mut words = Vec::new(alloc);
+    for word in given {
+        words.push(word)?;
+    }
     parse(alloc, &words)
 }
 
@@ -51,6 +63,7 @@ pub fn parse(alloc: Global, words: &[String]) -> Result<Request, Refusal> {
     match matches.subcommand() {
         Some(("check", m)) => check(alloc, m),
         Some(("build", m)) => build(alloc, m),
+        Some(("convert", m)) => convert(alloc, m),
         Some(("show", m)) => show(alloc, m),
         _ => Err(usage(alloc, "no such command")),
     }
@@ -65,6 +78,7 @@ fn commands<'a>(alloc: Global) -> Result<Command<'a>, AllocError> {
         .disable_help_subcommand(true)
         .subcommand(check_command(alloc)?)?
         .subcommand(build_command(alloc)?)?
+        .subcommand(convert_command(alloc)?)?
         .subcommand(show_command(alloc)?)
 }
 
@@ -94,6 +108,35 @@ fn build_command<'a>(alloc: Global) -> Result<Command<'a>, AllocError> {
     with_plan(alloc, command)
 }
 
+fn convert_command<'a>(alloc: Global) -> Result<Command<'a>, AllocError> {
+    let source = Arg::new(alloc, "SOURCE").required(true).help(
+        "A file of Rule, Zone and Link lines; standard input is the column",
+    );
+    let row_piece = option(alloc, "row-piece", "1024").help(
+        "How many rows a thread takes at a time, 1 to 65536",
+    );
+    let max_rows = option(alloc, "max-rows", "100000000").help(
+        "How many rows there may be, 0 to 100000000",
+    );
+    let max_bytes = option(alloc, "max-bytes", "4294967296").help(
+        "How many bytes the column may have, 0 to 4294967296",
+    );
+    let progress = Arg::new(alloc, "progress")
+        .long("progress")
+        .action(ArgAction::SetTrue)
+        .help("Tells on standard error how many rows are written, and how many a second");
+    let command = Command::new(alloc, "convert")
+        .about(
+            "Compiles a source and converts the lines NAME,SECONDS of standard input to NAME,SECONDS,LOCAL TIME,OFFSET,DAYLIGHT,ABBREVIATION",
+        )
+        .arg(source)?;
+    with_plan(alloc, command)?
+        .arg(row_piece)?
+        .arg(max_rows)?
+        .arg(max_bytes)?
+        .arg(progress)
+}
+
 fn show_command<'a>(alloc: Global) -> Result<Command<'a>, AllocError> {
     let file = Arg::new(alloc, "FILE")
         .required(true)
@@ -111,19 +154,20 @@ fn show_command<'a>(alloc: Global) -> Result<Command<'a>, AllocError> {
 
 /// The command with the options that say how work is shared.
 fn with_plan<'a>(alloc: Global, command: Command<'a>) -> Result<Command<'a>, AllocError> {
-    let workers = Arg::new(alloc, "workers")
-        .long("workers")
-        .value_name("N")
-        .value_parser(value_parser!(u64))
-        .default_value("4")
-        .help("How many threads compile, 1 to 64");
-    let zone_piece = Arg::new(alloc, "zone-piece")
-        .long("zone-piece")
-        .value_name("N")
-        .value_parser(value_parser!(u64))
-        .default_value("16")
-        .help("How many zones a thread takes at a time, 1 to 65536");
+    let workers = option(alloc, "workers", "4").help("How many threads work, 1 to 64");
+    let zone_piece = option(alloc, "zone-piece", "16").help(
+        "How many zones a thread takes at a time, 1 to 65536",
+    );
     command.arg(workers)?.arg(zone_piece)
+}
+
+/// An option that is a number, and what it is where it isn't given.
+fn option<'a>(alloc: Global, name: &'a str, default: &'a str) -> Arg<'a> {
+    Arg::new(alloc, name)
+        .long(name)
+        .value_name("N")
+        .value_parser(value_parser!(u64))
+        .default_value(default)
 }
 
 fn check(alloc: Global, matches: &ArgMatches<'_>) -> Result<Request, Refusal> {
@@ -153,6 +197,22 @@ fn build(alloc: Global, matches: &ArgMatches<'_>) -> Result<Request, Refusal> {
     })
 }
 
+fn convert(alloc: Global, matches: &ArgMatches<'_>) -> Result<Request, Refusal> {
+    let source = word(alloc, matches, "SOURCE")?;
+    if source.as_str() == STANDARD_INPUT {
+        return Err(usage(
+            alloc,
+            "standard input is the column, and can't be the SOURCE",
+        ));
+    }
+    let plan = column_plan(alloc, matches)?;
+    Ok(Request::Convert {
+        source,
+        plan,
+        progress: matches.get_flag("progress"),
+    })
+}
+
 fn show(alloc: Global, matches: &ArgMatches<'_>) -> Result<Request, Refusal> {
     let file = word(alloc, matches, "FILE")?;
     let Some(instant) = matches.get_str("INSTANT") else {
@@ -164,14 +224,11 @@ fn show(alloc: Global, matches: &ArgMatches<'_>) -> Result<Request, Refusal> {
     Ok(Request::Show { file, instant })
 }
 
-/// How the options share work.
+/// How work is shared, where there is no column.
 fn plan(alloc: Global, matches: &ArgMatches<'_>) -> Result<Plan, Refusal> {
-    let workers = matches.get_one::<u64>("workers");
-    let zone_piece = matches.get_one::<u64>("zone-piece");
-    let (Some(workers), Some(zone_piece)) = (workers, zone_piece) else {
-        return Err(usage(alloc, "an option has no number"));
-    };
-    match Plan::new(workers, zone_piece, ROW_PIECE, MOST_ROWS, MOST_BYTES) {
+    let workers = number(alloc, matches, "workers")?;
+    let zone_piece = number(alloc, matches, "zone-piece")?;
+    match Plan::new(workers, zone_piece, 1, 0, 0) {
         Some(plan) => Ok(plan),
         None => Err(usage(
             alloc,
@@ -180,8 +237,29 @@ fn plan(alloc: Global, matches: &ArgMatches<'_>) -> Result<Plan, Refusal> {
     }
 }
 
-/// How many rows a piece has.
-const ROW_PIECE: u64 = 1024;
+/// How work is shared, and how many rows and bytes a column may have.
+fn column_plan(alloc: Global, matches: &ArgMatches<'_>) -> Result<Plan, Refusal> {
+    let workers = number(alloc, matches, "workers")?;
+    let zone_piece = number(alloc, matches, "zone-piece")?;
+    let row_piece = number(alloc, matches, "row-piece")?;
+    let max_rows = number(alloc, matches, "max-rows")?;
+    let max_bytes = number(alloc, matches, "max-bytes")?;
+    match Plan::new(workers, zone_piece, row_piece, max_rows, max_bytes) {
+        Some(plan) => Ok(plan),
+        None => Err(usage(
+            alloc,
+            "--workers is 1 to 64, --zone-piece and --row-piece are 1 to 65536, --max-rows is at most 100000000, and --max-bytes is at most 4294967296",
+        )),
+    }
+}
+
+/// The number of an option.
+fn number(alloc: Global, matches: &ArgMatches<'_>, id: &str) -> Result<u64, Refusal> {
+    match matches.get_one::<u64>(id) {
+        Some(number) => Ok(number),
+        None => Err(usage(alloc, "an option has no number")),
+    }
+}
 
 /// The word for what is required.
 fn word(alloc: Global, matches: &ArgMatches<'_>, id: &str) -> Result<String, Refusal> {

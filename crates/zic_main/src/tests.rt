@@ -33,6 +33,20 @@ fn asked(alloc: Global, line: &str) -> Result<String, Fail> {
             write!(text, " by {workers} of {piece}")?;
             Ok(text)
         }
+        Ok(
+            Request::Convert {
+                source,
+                plan,
+                progress,
+            },
+        ) => {
+            let (workers, zones) = (plan.workers(), plan.zone_piece());
+            let (rows, most, bytes) = (plan.row_piece(), plan.max_rows(), plan.max_bytes());
+            let told = if progress { ", told" } else { "" };
+            Ok(format!(in alloc;
+                "convert {source} by {workers} of {zones} and {rows}, {most} rows in {bytes}{told}"
+            )?)
+        }
         Ok(Request::Show { file, instant }) => Ok(format!(in alloc; "show {file} {instant}")?),
         Err(refusal) => {
             let status = refusal.status();
@@ -70,7 +84,32 @@ fn words_are_a_request_or_a_usage_fault(rt: HostRuntime) -> Result<(), Fail> {
         ("pzic show f 9223372036854775808", "status 2"),
         ("pzic show --workers 1 f 1", "status 2"),
         ("pzic show f", "status 2"),
+        (
+            "pzic convert a",
+            "convert a by 4 of 16 and 1024, 100000000 rows in 4294967296",
+        ),
+        (
+            "pzic convert --workers 1 --zone-piece 2 a --row-piece 65536 --max-rows 0 --max-bytes 0",
+            "convert a by 1 of 2 and 65536, 0 rows in 0",
+        ),
+        (
+            "pzic convert --progress a --workers 64",
+            "convert a by 64 of 16 and 1024, 100000000 rows in 4294967296, told",
+        ),
+        ("pzic convert --progress=1 a", "status 2"),
+        ("pzic convert --progress --progress a", "status 2"),
+        ("pzic check --progress a", "status 2"),
         ("pzic convert -", "status 2"),
+        ("pzic convert", "status 2"),
+        ("pzic convert a b", "status 2"),
+        ("pzic convert --row-piece 0 a", "status 2"),
+        ("pzic convert --row-piece 65537 a", "status 2"),
+        ("pzic convert --max-rows 100000001 a", "status 2"),
+        ("pzic convert --max-bytes 4294967297 a", "status 2"),
+        ("pzic convert --workers 65 a", "status 2"),
+        ("pzic build --row-piece 1 D a", "status 2"),
+        ("pzic check --max-rows 1 a", "status 2"),
+        ("pzic show --max-bytes 1 f 1", "status 2"),
         ("pzic --help", "status 2"),
         ("pzic check --help", "status 2"),
         ("pzic", "status 2"),

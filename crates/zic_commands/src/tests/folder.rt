@@ -9,13 +9,14 @@ use std::io::{self, ErrorKind, Read, Seek, SeekFrom, Write};
 use std::sync::Wait;
 use std::test::Fail;
 use std::thread::Threads;
+use zic_counted::Counted;
 
 /// Notes calls, of which one fails.
 #[derive(Clone, Copy)]
-struct Log<'a> {
-    alloc: Global,
-    calls: &'a RefCell<String>,
-    fails: &'a str,
+pub(super) struct Log<'a> {
+    pub(super) alloc: Global,
+    pub(super) calls: &'a RefCell<String>,
+    pub(super) fails: &'a str,
 }
 
 impl<'a> Log<'a> {
@@ -35,14 +36,14 @@ impl<'a> Log<'a> {
 
 /// A file system in which each file that is opened has the same octets.
 #[derive(Drop)]
-struct Disk<'a> {
-    log: Log<'a>,
-    octets: &'a [u8],
+pub(super) struct Disk<'a> {
+    pub(super) log: Log<'a>,
+    pub(super) octets: &'a [u8],
 }
 
 /// A file of it.
 #[derive(Drop)]
-struct DiskFile<'a> {
+pub(super) struct DiskFile<'a> {
     log: Log<'a>,
     octets: &'a [u8],
 }
@@ -171,13 +172,32 @@ fn built<T: Threads + Wait + Sync>(
     for word in words.split_whitespace() {
         sources.push(String::from_str(alloc, word)?)?;
     }
-    let mut reader = input.as_bytes();
-    let done = build_sources(rt, alloc, &plan(2)?, &disk, &mut reader, folder, &sources);
+    let done = build_words(rt, alloc, &disk, input, folder, &sources);
     let mut told_calls = calls.into_inner();
-    if let Err(failure) = done {
+    if let Err(failure) = done? {
         told_calls.push_str(told(alloc, failure)?.as_str())?;
     }
     Ok(told_calls)
+}
+
+/// What `build` of the words comes to. The word `-` is this input.
+fn build_words<T: Threads + Wait + Sync>(
+    rt: &T,
+    alloc: Global,
+    disk: &Disk<'_>,
+    input: &str,
+    folder: &str,
+    words: &[String],
+) -> Result<Result<(), Failure>, Fail> {
+    let mut reader = Counted::new(input.as_bytes());
+    let plan = plan(2)?;
+    Ok(match read_sources(alloc, disk, &mut reader, words) {
+        Ok(texts) => {
+            let mut tree = crate::Disk::new(alloc, disk);
+            build(rt, alloc, &plan, &texts, &mut tree, folder)
+        }
+        Err(failure) => Err(failure),
+    })
 }
 
 #[test]
@@ -264,11 +284,12 @@ fn check_and_show_open_their_words(rt: HostRuntime) -> Result<(), Fail> {
         log,
         octets: b"Zone Etc/UTC 0 - UTC",
     };
-    let (plan, mut out) = (plan(1)?, Vec::new(alloc));
-    let mut input = b"Zone A 0 - UTC".as_slice();
+    let plan = plan(1)?;
+    let mut out = Counted::new(Vec::new(alloc));
+    let mut input = Counted::new(b"Zone A 0 - UTC".as_slice());
     for word in ["a", "-", "none"] {
         if let Err(failure) = check_source(&rt, alloc, &plan, &source, &mut input, word, &mut out) {
-            out.extend_from_slice(told(alloc, failure)?.as_bytes())?;
+            out.write_all(told(alloc, failure)?.as_bytes())?;
         }
     }
     let file = Disk {
@@ -277,11 +298,11 @@ fn check_and_show_open_their_words(rt: HostRuntime) -> Result<(), Fail> {
     };
     for word in ["f", "none"] {
         if let Err(failure) = show_file(alloc, &file, word, 0, &mut out) {
-            out.extend_from_slice(told(alloc, failure)?.as_bytes())?;
+            out.write_all(told(alloc, failure)?.as_bytes())?;
         }
     }
     assert_eq!(rt;
-        str::from_utf8(&out).ok(),
+        str::from_utf8(&out.into_inner()).ok(),
         Some(
             "Etc/UTC 111 UTC0\nA 111 UTC0\ncannot read none, status 3+00:00:00 0 UTC\ncannot read none, status 3"
         )

@@ -1,4 +1,4 @@
-use Rattle.std.proofs.Common.{◌≡◌, ◌+◌, ◌≤◌, length, min}
+use Rattle.std.proofs.Common.{◌≡◌, ◌≤◌, length, min}
 use Rattle.std.specs.Io.KnownBytes.{Consumes}
 use Rattle.zic_counted.specs.Counts.{risen, greatest}
 use Rattle.zic_commands.proofs.input.read_up_to.Given as goal

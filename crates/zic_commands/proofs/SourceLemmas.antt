@@ -1,0 +1,81 @@
+-- What the words for sources and files name.
+use Rattle.std.proofs.Common.{◌≡◌, ◌≢◌, ◌⊎◌, ◌≤◌, ℕ, ℤ, inl, inr, Bool, true, false, List, [], ◌∷◌, ◌++◌, length, Option, None, ◌∙◌, refl, sym}
+use Rattle.std.specs.Prelude.{IfSome, bytes_eq, if◌then◌else◌}
+use Rattle.std.proofs.lemmas.Bool.{cases_Bool, true≢false}
+use Rattle.std.proofs.lemmas.Slice.Eq.{bytes_eq-Decides}
+use Rattle.zic_counted.specs.Counts.{Counts}
+use Rattle.zic_commands.specs.Failing.{IsFailureOfOctets, IsFailureOfPath, IsFailureOfShow, IsFailureOfSources, IsFailureOfWord}
+use Rattle.zic_commands.specs.Output.{IsOutputOfShow, Writes}
+use Rattle.zic_commands.specs.Sources.{known_of, known_after, AreTextsOf, IsTextOf}
+use Rattle.zic_commands.specs.declared.failure.Failure.{Failure}
+use Rattle.zic_commands.specs.declared.input.TheConstants.{MOST_SOURCE}
+use Rattle.zic_commands.specs.declared.sources.TheConstants.{STANDARD_INPUT}
+
+-- octets that a reader gave are some octets
+pub show_some : (known : Option (List ℕ)) (instant : ℤ) (old new : Option (List ℕ)) → Writes (IsOutputOfShow known instant) old new → Writes (IsOutputOfShow None instant) old new
+show_some known instant old new w = record { output = w.output; is_output = record { octets = w.is_output.octets; is_front = tt; is_showing = w.is_output.is_showing }; wrote = w.wrote }
+
+-- why `show` of a file gives up
+pub show_path : {R W : Type 0} (contents : W → Option (List ℕ)) (path : List ℕ) (reader reader' : Counts R) (known : Option (List ℕ)) (instant : ℤ) (writer writer' : Counts W) (failure : Failure)
+    → IsFailureOfShow contents (IsFailureOfOctets path reader reader') known instant writer writer' failure → IsFailureOfShow contents (IsFailureOfPath path) None instant writer writer' failure
+show_path contents path reader reader' known instant writer writer' failure (inl (inl memory)) = inl (inl memory)
+show_path contents path reader reader' known instant writer writer' failure (inl (inr unread)) = inl (inr unread.0)
+show_path contents path reader reader' known instant writer writer' failure (inr (inl bad)) =
+    inr (inl (record { octets = bad.octets; is_front = tt; reason = bad.reason; is_fault = bad.is_fault; is = bad.is }))
+show_path contents path reader reader' known instant writer writer' failure (inr (inr o)) =
+    inr (inr (record {
+      is = o.is;
+      failed = o.failed;
+      written = record { output = o.written.output; is_output = record { octets = o.written.is_output.octets; is_front = tt; is_showing = o.written.is_output.is_showing }; wrote = o.written.wrote };
+    }))
+
+-- what is known of standard input once the texts of words were read
+abbrev pub known_afters : List (List ℕ) → Option (List ℕ) → Option (List ℕ)
+known_afters [] input = input
+known_afters (word ∷ words) input = known_afters words (known_after word input)
+
+-- nothing is known, or it is what a reader has left
+abbrev pub IsKnown : Option (List ℕ) → Option (List ℕ) → Type 0
+IsKnown known left = (known ≡ None) ⊎ (known ≡ left)
+
+-- one word more
+pub known_more : (words : List (List ℕ)) (word : List ℕ) (input : Option (List ℕ)) → known_afters (words ++ word ∷ []) input ≡ known_after word (known_afters words input)
+known_more [] word input = refl
+known_more (first ∷ words) word input = known_more words word (known_after first input)
+
+of_none : (is_input : Bool) (text : List ℕ) → IfSome (if is_input then None else None) (λ (all : List ℕ). text ≡ all)
+of_none true text = tt
+of_none false text = tt
+
+-- the text of a word, by what its reader has left
+pub text_of : (word : List ℕ) (known left : Option (List ℕ)) (text : List ℕ) → IsKnown known left → length text ≤ MOST_SOURCE → IfSome (known_of word left) (λ all. text ≡ all) → IsTextOf word known text
+text_of word known left text (inl none) fits whole = record { fits = fits; whole = rw none (of_none (bytes_eq word STANDARD_INPUT.now) text) }
+text_of word known left text (inr is) fits whole = record { fits = fits; whole = rw is whole }
+
+other_word : (word : List ℕ) → bytes_eq word STANDARD_INPUT.now ≡ false → word ≢ STANDARD_INPUT.now
+other_word word other is = true≢false (sym ((bytes_eq-Decides word STANDARD_INPUT.now).1 is) ∙ other)
+
+-- what is known after a word
+pub known_on : (word : List ℕ) (known left left' : Option (List ℕ)) → IsKnown known left → (word ≢ STANDARD_INPUT.now → left' ≡ left) → IsKnown (known_after word known) left'
+known_on word known left left' is same =
+    elim (cases_Bool (bytes_eq word STANDARD_INPUT.now)) [
+      | inl dash ↦ inl (rw dash refl)
+      | inr other ↦ rw other (elim is [
+        | inl none ↦ inl none
+        | inr here ↦ inr (here ∙ sym (same (other_word word other)))
+      ])
+    ]
+
+-- one text more
+pub text_more : (words : List (List ℕ)) (input : Option (List ℕ)) (texts : List (List ℕ)) (word text : List ℕ) → AreTextsOf words input texts → IsTextOf word (known_afters words input) text
+    → AreTextsOf (words ++ word ∷ []) input (texts ++ text ∷ [])
+text_more [] input texts word text none is = rw none (is, refl)
+text_more (first ∷ words) input [] word text are is = absurd are
+text_more (first ∷ words) input (of_first ∷ texts) word text are is = (are.0, text_more words (known_after first input) texts word text are.1 is)
+
+-- the word at which reading ends
+pub source_stop : {I : Type 0} (words before : List (List ℕ)) (word : List ℕ) (after : List (List ℕ)) (input : Option (List ℕ)) (texts : List (List ℕ)) (old new : Counts I) (failure : Failure)
+    → words ≡ before ++ word ∷ after → AreTextsOf before input texts → IsFailureOfWord word old new failure → IsFailureOfSources words input failure
+source_stop words before word after input texts old new failure parts are (inl memory) = inl memory
+source_stop words before word after input texts old new failure parts are (inr unread) =
+    inr (record { before = before; word = word; after = after; parts = parts; texts = texts; are_texts = are; unread = unread.0 })

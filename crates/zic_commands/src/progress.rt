@@ -1,0 +1,115 @@
+//! How far the writing of rows is.
+
+ghost use Rattle.std.specs.Prelude.{◌≡◌};
+
+use std::io::{self, Write};
+use std::marker::Model;
+use std::time::{Clock, Duration, Instant};
+
+/// How many milliseconds a line stands on a terminal before it is written anew.
+const PERIOD: u64 = 500;
+
+/// A writer of rows that passes each write and flush on with its answer, and tells of the rows on another writer.
+///
+/// The line has how many rows were written, and how many a second since the writer was made: `1048576 rows, 524288 rows a second`. On a
+/// terminal it is written anew about twice a second, and elsewhere just once, by [`Progress::finish`]. What can't be told is left out, and is
+/// no failure of the rows. A row ends with a line feed, and has no other.
+#[derive(Drop)]
+pub struct Progress<'a, W, C, E> {
+    inner: W,
+    clock: &'a C,
+    told: E,
+    is_terminal: bool,
+    start: Option<Instant>,
+    /// The time since the start at which the line is written anew.
+    next: Duration,
+    /// How many rows were written, or none where no write and no flush was asked for.
+    rows: Option<u64>,
+}
+
+impl<'a, W, C, E> Model for Progress<'a, W, C, E> {
+    ghost Value = { W };
+
+    ghost view = { λ progress. progress.inner };
+}
+
+impl<'a, W, C: Clock, E: Write> Progress<'a, W, C, E> {
+    /// A writer that has told of no rows.
+    pub fn new(inner: W, clock: &'a C, told: E, is_terminal: bool) -> Progress<'a, W, C, E>
+        ensures { result ≡ inner }
+    {
+        Progress {
+            inner,
+            clock,
+            told,
+            is_terminal,
+            start: Instant::now(clock).ok(),
+            next: Duration::from_millis(PERIOD),
+            rows: None,
+        }
+    }
+
+    /// Tells of the rows for the last time, and ends the line. Where no write and no flush was asked for, it tells nothing.
+    pub fn finish(&mut self)
+        ensures { self.new ≡ self.old }
+    {
+        if let Some(rows) = self.rows {
+            self.tell(rows, self.elapsed());
+            let _ = self.told.write_all(b"\n");
+        }
+    }
+
+    /// Counts the rows among bytes that were written, and tells of them on a terminal where it is time to.
+    fn count(&mut self, written: &[u8])
+        ensures { self.new ≡ self.old }
+    {
+        let ends = written.iter().filter(|byte| **byte == b'\n').count() as u64;
+        let rows = self.rows.unwrap_or(0).saturating_add(ends);
+        self.rows = Some(rows);
+        if self.is_terminal {
+            let elapsed = self.elapsed();
+            if self.next <= elapsed {
+                self.next = elapsed.saturating_add(Duration::from_millis(PERIOD));
+                self.tell(rows, elapsed);
+            }
+        }
+    }
+
+    /// The time since the start, or none where the clock fails.
+    fn elapsed(&self) -> Duration {
+        match self.start {
+            Some(start) => start.elapsed(self.clock).unwrap_or(Duration::ZERO),
+            None => Duration::ZERO,
+        }
+    }
+
+    /// Writes the line, on a terminal in place of the one that it has.
+    fn tell(&mut self, rows: u64, elapsed: Duration)
+        ensures { self.new ≡ self.old }
+    {
+        let rate = rows as u128 * 1000 / elapsed.as_millis().max(1);
+        let _ = if self.is_terminal {
+            write!(self.told, "\r{rows} rows, {rate} rows a second\x1b[K")
+        } else {
+            write!(self.told, "{rows} rows, {rate} rows a second")
+        };
+    }
+}
+
+impl<W: Write, C: Clock, E: Write> Write for Progress<'_, W, C, E> {
+    ghost contents = { W.contents };
+
+    fn write(&mut self, buf: &[u8]) -> io::Result<usize> {
+        let result = self.inner.write(buf);
+        if let Ok(n) = &result {
+            self.count(&buf[..*n]);
+        }
+        result
+    }
+
+    fn flush(&mut self) -> io::Result<()> {
+        let result = self.inner.flush();
+        self.count(&[]);
+        result
+    }
+}

@@ -1,0 +1,191 @@
+//! `convert`, and how it tells of its rows, with outside values.
+
+use super::folder::{Disk, Log};
+use super::{Broken, US, told};
+use crate::*;
+use std::alloc::Global;
+use std::cell::{Cell, RefCell};
+use std::io::{self, Read, Write};
+use std::sync::Wait;
+use std::test::Fail;
+use std::thread::Threads;
+use std::time::{Clock, Duration};
+use zic_bulk::Plan;
+use zic_counted::Counted;
+
+const UTC: &str = "Zone Etc/UTC 0 - UTC";
+
+/// What `convert` writes, and then how many rows it says there are, or the failure's text and status.
+fn converted<T: Threads + Wait + Sync, R: Read>(
+    rt: &T,
+    alloc: Global,
+    source: &str,
+    column: &mut Counted<R>,
+    (max_rows, max_bytes): (u64, u64),
+) -> Result<String, Fail> {
+    let plan = Plan::new(2, 1, 1, max_rows, max_bytes).ok_or("no plan")?;
+    let mut writer = Counted::new(Vec::new(alloc));
+    let text = Vec::from_slice(alloc, source.as_bytes())?;
+    let answer = convert(rt, alloc, &plan, text, column, &mut writer);
+    let mut text = String::from_utf8(writer.into_inner())
+        .ok()
+        .ok_or("no text")?;
+    match answer {
+        Ok(rows) => write!(text, "{rows} rows")?,
+        Err(failure) => text.push_str(told(alloc, failure)?.as_str())?,
+    }
+    Ok(text)
+}
+
+#[test]
+fn convert_writes_rows_up_to_the_first_fault(rt: HostRuntime) -> Result<(), Fail> {
+    let alloc = rt.alloc();
+    let eastern = format!(in alloc; "{US}Zone Z/NY -5:00 US E%sT")?;
+    let rows = [
+        ("", "", 0, 0, "0 rows"),
+        (
+            eastern.as_str(),
+            "Z/NY,1173596399\nZ/NY,1173596400\n",
+            2,
+            32,
+            "Z/NY,1173596399,2007-03-11T01:59:59,-05:00:00,0,EST\nZ/NY,1173596400,2007-03-11T03:00:00,-04:00:00,1,EDT\n2 rows",
+        ),
+        (
+            UTC,
+            "Etc/UTC,-1\nEtc/UTC,x\nEtc/UTC",
+            9,
+            100,
+            "Etc/UTC,-1,1969-12-31T23:59:59,+00:00:00,0,UTC\nrow 2: RowInstant, status 1",
+        ),
+        (
+            UTC,
+            "Etc/UTC,0\nEtc/UTC,0",
+            1,
+            100,
+            "Etc/UTC,0,1970-01-01T00:00:00,+00:00:00,0,UTC\nrow 2: TooManyRows, status 1",
+        ),
+        (UTC, "\n\n\n", 9, 2, "column: ColumnTooLong, status 1"),
+        (UTC, "No/Where,x", 9, 100, "row 1: RowZone, status 1"),
+    ];
+    for (source, column, max_rows, max_bytes, want) in rows {
+        let mut reader = Counted::new(column.as_bytes());
+        let got = converted(&rt, alloc, source, &mut reader, (max_rows, max_bytes))?;
+        assert_eq!(rt; got.as_str(), want, "of {column:?}");
+    }
+    Ok(())
+}
+
+#[test]
+fn convert_reads_the_column_once_the_source_has_files(rt: HostRuntime) -> Result<(), Fail> {
+    let alloc = rt.alloc();
+    let mut column = Counted::new(b"Etc/UTC,0".as_slice());
+    let fault = converted(&rt, alloc, "Zonk A 0 - UTC", &mut column, (9, 100))?;
+    assert_eq!(rt; fault.as_str(), "line 1: Keyword, status 1");
+    assert_eq!(rt; column.taken(), 0, "of the column");
+    let unread = converted(&rt, alloc, UTC, &mut Counted::new(Broken), (9, 100))?;
+    assert_eq!(rt; unread.as_str(), "cannot read column, status 3");
+    Ok(())
+}
+
+#[test]
+fn convert_tells_that_rows_are_not_written(rt: HostRuntime) -> Result<(), Fail> {
+    let alloc = rt.alloc();
+    let plan = Plan::new(2, 1, 1, 9, 100).ok_or("no plan")?;
+    let text = Vec::from_slice(alloc, UTC.as_bytes())?;
+    let mut column = Counted::new(b"Etc/UTC,0".as_slice());
+    let mut broken = Counted::new(Broken);
+    let answer = convert(&rt, alloc, &plan, text, &mut column, &mut broken);
+    let unwritten = told(alloc, answer.err().ok_or("it was written")?)?;
+    assert_eq!(rt; unwritten.as_str(), "cannot write rows, status 3");
+    assert_eq!(rt; broken.failures(), 1, "of the writer");
+    Ok(())
+}
+
+#[test]
+fn convert_opens_its_source(rt: HostRuntime) -> Result<(), Fail> {
+    let alloc = rt.alloc();
+    let calls = RefCell::new(String::new(alloc));
+    let log = Log {
+        alloc,
+        calls: &calls,
+        fails: "open none",
+    };
+    let disk = Disk {
+        log,
+        octets: UTC.as_bytes(),
+    };
+    let plan = Plan::new(2, 1, 1, 9, 100).ok_or("no plan")?;
+    let mut writer = Counted::new(Vec::new(alloc));
+    let mut input = Counted::new(b"Etc/UTC,0".as_slice());
+    let answer = convert_source(&rt, alloc, &plan, &disk, "none", &mut input, &mut writer);
+    let unread = told(alloc, answer.err().ok_or("it was read")?)?;
+    assert_eq!(rt; unread.as_str(), "cannot read none, status 3");
+    let answer = convert_source(&rt, alloc, &plan, &disk, "a", &mut input, &mut writer);
+    assert_eq!(rt; answer.ok(), Some(1));
+    assert_eq!(rt;
+        str::from_utf8(&writer.into_inner()).ok(),
+        Some("Etc/UTC,0,1970-01-01T00:00:00,+00:00:00,0,UTC\n")
+    );
+    assert_eq!(rt; calls.into_inner().as_str(), "open none\nopen a\n");
+    Ok(())
+}
+
+/// A clock that goes on by a quarter of a second at each reading.
+#[derive(Drop)]
+struct Quarters(Cell<u64>);
+
+impl Clock for Quarters {
+    fn monotonic(&self) -> io::Result<Duration> {
+        let now = self.0.get();
+        self.0.set(now.saturating_add(250));
+        Ok(Duration::from_millis(now))
+    }
+
+    fn since_1970(&self) -> io::Result<Duration> {
+        self.monotonic()
+    }
+}
+
+#[test]
+fn progress_is_told_twice_a_second_or_at_the_end(rt: HostRuntime) -> Result<(), Fail> {
+    let alloc = rt.alloc();
+    let cases = [
+        (
+            true,
+            "\r8 rows, 16 rows a second\x1b[K\r16 rows, 16 rows a second\x1b[K\r20 rows, 13 rows a second\x1b[K\r20 rows, 11 rows a second\x1b[K\n",
+        ),
+        (false, "20 rows, 80 rows a second\n"),
+    ];
+    for (is_terminal, want) in cases {
+        let clock = Quarters(Cell::new(1000));
+        let mut rows: Vec<u8> = Vec::new(alloc);
+        let mut told: Vec<u8> = Vec::new(alloc);
+        let mut progress = Progress::new(&mut rows, &clock, &mut told, is_terminal);
+        for _ in 0..5 {
+            progress.write_all(b"a,1\nb,2\nc,3\nd,4\n")?;
+        }
+        progress.flush()?;
+        progress.finish();
+        assert_eq!(rt;
+            str::from_utf8(&told).ok(),
+            Some(want),
+            "on a terminal: {is_terminal}"
+        );
+        assert_eq!(rt; rows.len(), 80, "on a terminal: {is_terminal}");
+    }
+    Ok(())
+}
+
+#[test]
+fn progress_tells_nothing_before_the_first_write(rt: HostRuntime) -> Result<(), Fail> {
+    let alloc = rt.alloc();
+    let clock = Quarters(Cell::new(0));
+    let mut told: Vec<u8> = Vec::new(alloc);
+    let mut unused = Progress::new(Broken, &clock, &mut told, true);
+    unused.finish();
+    let mut broken = Progress::new(Broken, &clock, &mut told, false);
+    assert!(rt; broken.write(b"a,1\n").is_err());
+    broken.finish();
+    assert!(rt; told.is_empty());
+    Ok(())
+}
