@@ -1,13 +1,15 @@
 #!/usr/bin/env bash
-# Holds the built program against the words, the statuses and the files that it owes: the sources of witness/checks.txt, usage, paths
-# that can't be read or written, outputs that fail, limits, little memory, and builds that are killed. Where it runs as root, a folder
-# that may not be written is tried as nobody.
+# Holds the built program against the words, the statuses, the files and the rows that it owes: the sources of witness/checks.txt, usage,
+# paths that can't be read or written, outputs that fail, limits, columns, little memory, and builds that are killed. Where it runs as
+# root, a folder that may not be written is tried as nobody. Rows are also compared with Python's zoneinfo over the files of the system's
+# zic; `python3` is 3.9 or later.
 set -euo pipefail
 cd "$(dirname "${BASH_SOURCE[0]}")/.."
 . .ci/build.sh
 build zic_main check -
 program=$PWD/crates/zic_main/out/zic_main
 table=$PWD/witness/checks.txt
+columns=$PWD/witness/records.py
 cd "$work"
 mkdir asked
 cd asked
@@ -66,7 +68,7 @@ expect_tree() {
 
 begin_block() {
     rm -rf tree text.*
-    texts=1 lines='' fault='' shows=() answered=
+    texts=1 lines='' fault='' shows=() rows='' answered=
     : >text.1
 }
 
@@ -78,6 +80,9 @@ ask_block() {
         expect "$wanted" "$lines" "$fault" check text.1
         input=text.1
         expect "$wanted" "$lines" "$fault" check -
+        cut -d , -f 1,2 <<<"$rows" >column
+        input=column
+        expect "$wanted" "$rows" "$fault" convert text.1
         input=/dev/null
     fi
     expect "$wanted" '' "$fault" build --workers 8 --zone-piece 1 tree text.*
@@ -105,6 +110,10 @@ while IFS= read -r line; do
         ;;
     '! '*)
         fault=${line#! } answered=1
+        continue
+        ;;
+    '> '*)
+        rows=$rows${rows:+$'\n'}${line#> }
         continue
         ;;
     '? '*)
@@ -166,7 +175,7 @@ expect_usage check --help
 expect_usage check - -
 expect_usage check plain plain
 for option in --workers --zone-piece; do
-    for command in check 'build tree'; do
+    for command in check 'build tree' convert; do
         for number in 0 65537 x '' -1 1.0 18446744073709551616; do
             expect_usage $command $option "$number" plain
         done
@@ -182,7 +191,29 @@ expect 0 'Etc/UTC 111 UTC0' '' check --workers 64 --zone-piece 65536 plain
 expect_usage build
 expect_usage build tree
 expect_usage build tree - -
+expect_usage convert
 expect_usage convert -
+expect_usage convert --help
+expect_usage convert plain plain
+for option in --row-piece --max-rows --max-bytes; do
+    for number in 4294967297 x '' -1 1.0 18446744073709551616; do
+        expect_usage convert $option "$number" plain
+    done
+    expect_usage convert $option
+    expect_usage convert $option 1 $option 1 plain
+    expect_usage check $option 1 plain
+    expect_usage build $option 1 tree plain
+    expect_usage show $option 1 "$file" 0
+    expect 0 '' '' convert $option +1 plain
+done
+expect_usage convert --row-piece 0 plain
+expect_usage convert --row-piece 65537 plain
+expect_usage convert --max-rows 100000001 plain
+expect_usage convert --workers 65 plain
+expect_usage convert --progress=1 plain
+expect_usage check --progress plain
+expect 0 '' '' convert --workers 64 --zone-piece 65536 --row-piece 65536 --max-rows 100000000 --max-bytes 4294967296 plain
+expect 0 '' '' convert --max-rows 0 --max-bytes 0 plain
 expect_usage show
 expect_usage show "$file"
 for instant in +5 1x '' 0.5 ' 1' - -- 9223372036854775808 -1; do
@@ -201,6 +232,7 @@ for path in nowhere '' . plain/nowhere; do
     expect 3 '' "cannot read $path" check "$path"
     expect 3 '' "cannot read $path" show "$path" 0
     expect 3 '' "cannot read $path" build none many "$path" nowhere
+    expect 3 '' "cannot read $path" convert "$path"
 done
 input=.
 expect 3 '' 'cannot read -' check -
@@ -244,6 +276,180 @@ done
 status=0
 "$program" check nowhere 2>&- >../out || status=$?
 told 'pzic check nowhere 2>&-' 3 '' ''
+
+# ------------------------------------------------------------------ columns
+
+utc=Etc/UTC,0,1970-01-01T00:00:00,+00:00:00,0,UTC
+
+# expect_rows STATUS OUT ERR TEXT WORD...: of a column that is the text, with the escapes of printf
+expect_rows() {
+    printf "$4" >column
+    input=column
+    expect "${@:1:3}" convert "${@:5}" plain
+    input=/dev/null
+}
+
+# the forms of records
+expect_rows 0 "$utc"$'\n'"$utc"$'\n'"$utc"$'\n'"$utc" '' 'Etc/UTC,0\r\rEtc/UTC,-0\r\n\n"Etc/UTC",000\n\n"Etc/UTC","0"'
+expect_rows 0 "$utc" '' '\xef\xbb\xbfEtc/UTC,0'
+expect_rows 0 "$utc" '' '\xef\xbb\xbf"Etc/UTC",0\r'
+expect_rows 0 '' '' '\xef\xbb\xbf'
+expect_rows 1 '' 'row 1: RowZone' '\xef\xbbEtc/UTC,0'
+expect_rows 1 "$utc" 'row 2: RowZone' '\xef\xbb\xbfEtc/UTC,0\n\xef\xbb\xbfEtc/UTC,0\n'
+expect_rows 0 '' '' '\n\r\n\r\r\n\n'
+for record in 'Etc/UTC' '""' '"Etc/UTC,0"' 'Etc/UTC,0,' 'Etc/UTC,0,0' ',,,' 'Etc/UTC,0,0,0'; do
+    expect_rows 1 "$utc" 'row 2: RowFields' "Etc/UTC,0\\n$record\\nEtc/UTC,x"
+done
+for name in '' No/Where UTC etc/utc ' Etc/UTC' 'Etc/UTC ' '\xff' '\x00' 'Etc"/"UTC' '"Etc/""UTC"' '"Etc/UTC\n"' '"Etc,UTC"' '"Etc/UTC" '; do
+    expect_rows 1 "$utc" 'row 2: RowZone' "Etc/UTC,0\\n$name,x\\nEtc/UTC"
+done
+for instant in '' - +1 ' 0' '0 ' 1.0 0x1 1e3 --1 1234567890123456789 -0000000000000000000 '"1""2"' '\xd9\xa1'; do
+    expect_rows 1 "$utc" 'row 2: RowInstant' "Etc/UTC,0\\nEtc/UTC,$instant\\nEtc/UTC"
+done
+for instant in -62135510401 253402214400 999999999999999999; do
+    expect_rows 1 "$utc" 'row 2: RowRange' "Etc/UTC,0\\nEtc/UTC,$instant\\nEtc/UTC"
+done
+# how many rows and bytes there may be
+expect_rows 1 "$utc"$'\n'"$utc" 'row 3: TooManyRows' 'Etc/UTC,0\nEtc/UTC,0\nEtc/UTC,0\n' --max-rows 2
+expect_rows 1 '' 'row 1: TooManyRows' 'x' --max-rows 0
+expect_rows 0 "$utc" '' 'Etc/UTC,0\n' --max-rows 1 --max-bytes 10
+expect_rows 1 '' 'column: ColumnTooLong' 'Etc/UTC,0\n' --max-bytes 9
+expect_rows 1 '' 'column: ColumnTooLong' '\n' --max-bytes 0
+# nine rows of which two have a fault, whatever the plan
+nine='Etc/UTC,0\nEtc/UTC,0\nEtc/UTC,0\nEtc/UTC,x\nEtc/UTC,0\nEtc/UTC,0\nEtc/UTC,0\nNo/Where,0\nEtc/UTC,0\n'
+for workers in 1 2 8 64; do
+    for piece in 1 2 100; do
+        expect_rows 1 "$utc"$'\n'"$utc"$'\n'"$utc" 'row 4: RowInstant' "$nine" --workers $workers --row-piece $piece
+    done
+done
+# the source comes before the column
+printf 'Zonk\n' >faulty
+printf 'x' >column
+input=column
+expect 1 '' 'line 1: Keyword' convert faulty
+expect 3 '' 'cannot read nowhere' convert nowhere
+expect_usage convert --row-piece 0 nowhere
+expect 1 '' 'row 1: RowFields' convert plain
+input=/
+expect 3 '' 'cannot read column' convert plain
+expect 3 '' 'cannot read nowhere' convert nowhere
+input=/dev/null
+status=0
+"$program" convert plain <&- >../out 2>../err || status=$?
+told 'pzic convert plain <&-' 3 '' 'cannot read column'
+
+# columns of some thousand rows, with quotes and without, whatever the plan
+printf '%s\n' 'Zone Etc/UTC 0 - UTC' 'Zone Z/I 5:30 - %z' >>eastern
+sed -i 's/^Zone NY/Zone Z\/NY/' eastern
+zic -b fat -d witnessed eastern
+for form in plain quoted; do
+    python3 "$columns" $form >column.$form
+    python3 "$columns" rows witnessed column.$form >rows.$form
+    input=column.$form
+    for workers in 1 2 8 64; do
+        for piece in 1 2 3 100 1024; do
+            ask convert --workers $workers --row-piece $piece eastern
+            cp ../out rows
+            : >../out
+            told "pzic convert --workers $workers --row-piece $piece eastern, of the $form column" 0 '' ''
+            cmp rows rows.$form >&2 || differ "the rows of the $form column differ by $workers and $piece"
+        done
+    done
+done
+# the same with a fault in row 2345 and others after it
+for form in plain quoted; do
+    python3 "$columns" $form 2345 >column
+    head -n 2344 rows.$form >rows.wanted
+    input=column
+    for workers in 1 2 8 64; do
+        for piece in 1 2 3 100; do
+            ask convert --workers $workers --row-piece $piece eastern
+            cp ../out rows
+            : >../out
+            told "pzic convert --workers $workers --row-piece $piece eastern, of a $form column" 1 '' 'row 2345: RowInstant'
+            cmp rows rows.wanted >&2 || differ "the rows before the fault differ by $workers and $piece"
+        done
+    done
+done
+input=/dev/null
+
+# a reader that is a pipe, short reads, a mark whose octets come one at a time, a writer without a reader
+mkfifo pipe
+cat column.quoted >pipe &
+input=pipe
+ask convert eastern
+cp ../out rows
+: >../out
+told 'pzic convert eastern <pipe' 0 '' ''
+cmp rows rows.quoted >&2 || differ 'the rows of a pipe differ'
+printf '\xef\xbb\xbfEtc/UTC,0\r"Etc/UTC","0"\r\n\nEtc/UTC,0' >column
+for seconds in 0 0.005; do
+    python3 "$columns" drip $seconds <column >pipe &
+    ask convert plain
+    told "pzic convert plain, an octet at a time every $seconds s" 0 "$utc"$'\n'"$utc"$'\n'"$utc" ''
+done
+rm pipe
+input=/dev/null
+yes Etc/UTC,0 | { "$program" convert plain 2>../err || echo $? >../status; } | head -c 100 >../out || true
+status=$(cat ../status)
+[ "$(cat ../out)" = "$utc"$'\n'"$utc"$'\n'Etc/UTC, ] || differ "the first rows of a column without end differ: $(cat ../out)"
+: >../out
+told 'yes Etc/UTC,0 | pzic convert plain | head -c 100' 3 '' 'cannot write rows'
+status=0
+yes '' | "$program" convert --max-bytes 100 plain >../out 2>../err || status=$?
+told 'yes "" | pzic convert --max-bytes 100 plain' 1 '' 'column: ColumnTooLong'
+: >../out
+for words in '>&-' '>/dev/full' 'into a closed pipe'; do
+    status=0
+    case $words in
+    '>&-') "$program" convert eastern <column.plain >&- 2>../err || status=$? ;;
+    '>/dev/full') "$program" convert eastern <column.plain >/dev/full 2>../err || status=$? ;;
+    *)
+        mkfifo pipe
+        exec 3<>pipe 4>pipe 3>&-
+        "$program" convert eastern <column.plain >&4 2>../err || status=$?
+        exec 4>&-
+        rm pipe
+        ;;
+    esac
+    told "pzic convert eastern $words" 3 '' 'cannot write rows'
+done
+
+# ------------------------------------------------------------------ progress
+
+# what is told of rows, whose number and the lines after it are wanted
+expect_progress() {
+    local rate='[0-9]+ rows a second'
+    grep -Exq "$2 rows, $rate" <(head -n 1 ../err) && [ "$(tail -n +2 ../err)" = "$3" ] ||
+        differ "$1: '$(cat ../err)', and not $2 rows and '$3'"
+    : >../err
+}
+
+input=column.plain
+ask convert --progress eastern
+cp ../out rows
+cmp rows rows.plain >&2 || differ 'the rows differ where progress is told'
+expect_progress 'pzic convert --progress eastern' 5000 ''
+input=/dev/null
+ask convert --progress plain
+expect_progress 'pzic convert --progress plain </dev/null' 0 ''
+expect 1 '' 'line 1: Keyword' convert --progress faulty
+printf "$nine" >column
+input=column
+ask convert plain --progress
+expect_progress 'pzic convert plain --progress' 3 'row 4: RowInstant'
+: >../out
+told 'pzic convert plain --progress' 1 '' ''
+input=/
+expect 3 '' 'cannot read column' convert --progress plain
+input=/dev/null
+# on a terminal, which has the column too
+status=0
+python3 "$columns" terminal ../out "$program" convert --progress --workers 1 --row-piece 1 plain >../err || status=$?
+line=$'\r[0-9]+ rows, [0-9]+ rows a second\x1b\\[K'
+grep -Exq "($line){2,6}" ../err || differ "on a terminal: '$(cat -v ../err)'"
+: >../err
+told 'pzic convert --progress plain, on a terminal' 0 "$utc"$'\n'"$utc"$'\n'"$utc" ''
 
 # ------------------------------------------------------------------ files that can't be written
 
@@ -328,6 +534,32 @@ for ((good = 0; good < 3;)); do
     fi
     kilobytes=$((kilobytes * 21 / 20))
 done
+
+# the column needs memory once the source has files
+kilobytes=1000
+input=/dev/null
+within $kilobytes convert plain
+while [ "$status" != 0 ]; do
+    kilobytes=$((kilobytes * 21 / 20))
+    within $kilobytes convert plain
+done
+input=column.plain
+words=(convert --workers 8 --row-piece 65536 eastern)
+for ((good = 0; good < 3;)); do
+    within $kilobytes "${words[@]}"
+    cp ../out rows
+    : >../out
+    if [ "$status" = 0 ]; then
+        good=$((good + 1))
+        told "pzic ${words[*]}, within $kilobytes KiB" 0 '' ''
+        cmp rows rows.plain >&2 || differ "within $kilobytes KiB the rows differ"
+    else
+        told "pzic ${words[*]}, within $kilobytes KiB" 4 '' 'out of memory'
+        cmp rows <(head -c "$(wc -c <rows)" rows.plain) >&2 || differ "within $kilobytes KiB the rows differ"
+    fi
+    kilobytes=$((kilobytes * 21 / 20))
+done
+input=/dev/null
 
 # ------------------------------------------------------------------ builds that are killed
 

@@ -1,11 +1,18 @@
 #!/usr/bin/env bash
-# Runs the tests of tasks of five pieces and has each growth of memory refused in turn, and then each start of a thread from
-# the first on, from the second on and so forth. Each test still has to pass. It needs `rt` and `cc`.
+# Has each growth of memory of a run refused in turn, and then each start of a thread from the first on, from the second on and so
+# forth. The runs are the tests of tasks of five pieces, which still have to pass, and commands of the program, by several numbers of
+# workers and cuttings. With a growth refused a command says `out of memory`, or the fault that it says without; it may give its whole
+# answer only where the growth was one for the start of a worker. With threads refused it gives its whole answer. It never leaves
+# other files or rows than those of its whole answer. It needs `rt`, `cc` and `addr2line`.
 set -euo pipefail
 cd "$(dirname "${BASH_SOURCE[0]}")/.."
-work=$(mktemp -d)
-trap 'rm -rf "$work"' EXIT
+. .ci/release.sh
+command -v cc >"$work/log" || install gcc
+command -v addr2line >"$work/log" || install binutils
 cc -O2 -shared -fPIC -o "$work/refuse.so" .ci/refuse.c
+
+# ------------------------------------------------------------------ tasks of five pieces
+
 if ! (cd crates/zic_pieces && rt test) >"$work/log" 2>&1; then
     cat "$work/log" >&2
     exit 1
@@ -23,4 +30,130 @@ for test in values_stand_in_order the_least_stop_decides; do
         done
         echo "$test, $kind: $((n - 1)) refused in turn"
     done
+done
+
+# ------------------------------------------------------------------ commands
+
+build zic_main check -
+program=$PWD/crates/zic_main/out/zic_main
+cd "$work"
+
+# four files of one zone
+printf '%s\n' 'Link B C' 'Link A B' 'Link Etc/UTC A' 'Zone Etc/UTC 0 - UTC' >chain
+# three zones with changes, one with a link, and six without
+{
+    printf '%s\n' 'Rule US 2007 max - Mar Sun>=8 2:00 1:00 D' 'Rule US 2007 max - Nov Sun>=1 2:00 0 S' 'Link Z/1 Z/0'
+    for zone in 1 2 3; do printf 'Zone Z/%d -%d:00 US %%z 2007 Jul 1 0:00\n-%d:00 US E%%sT\n' $zone $zone $((zone + 1)); done
+    for zone in 4 5 6 7 8 9; do printf 'Zone Z/%d %d:00 - %%z\n' $zone $zone; done
+} >zones
+# nine zones, of which the fourth has the first fault
+{
+    for zone in 1 2 3; do echo "Zone Z/$zone 0 - AAA"; done
+    echo 'Zone Z/4 1:00 1:00 XXX'
+    for zone in 5 6 7; do echo "Zone Z/$zone 0 - AAA"; done
+    echo 'Zone Z/8 0 - AB'
+    echo 'Zone Z/9 0 - AAA'
+} >faulty
+# nine rows, and then nine of which the fourth and the eighth have faults
+for row in 1 2 3 4 5 6 7 8 9; do echo 'Etc/UTC,0'; done >rows
+sed '4s/0$/x/; 8s/.*/No\/Where,0/' rows >stopped
+
+# run REFUSAL CALL: runs the program; its output, its files, its status and its words are left
+run() {
+    rm -rf tree
+    status=0
+    timeout 60 env "$1" "LD_PRELOAD=$work/refuse.so" "$program" "${@:2}" <"$input" >out 2>said || status=$?
+    mapfile -t lines <said
+    refused=()
+    words=
+    for line in "${lines[@]}"; do
+        case $line in
+        refused*) refused+=("${line#refused}") ;;
+        *) words=$words$line$'\n' ;;
+        esac
+    done
+}
+
+# the files that were written are such of the whole answer, octet for octet
+files_are_right() {
+    [ ! -e tree ] || ! diff -rq right.tree tree | grep -qv '^Only in right.tree'
+}
+
+is_whole() {
+    [ "$status" = "$right_status" ] && [ "$words" = "$right_words" ] && cmp -s out right.out &&
+        if [ -e right.tree ]; then diff -r right.tree tree >log; else [ ! -e tree ]; fi
+}
+
+is_memory() {
+    [ "$status" = 4 ] && [ "$words" = $'out of memory\n' ] && files_are_right &&
+        if [ -s out ]; then cmp -s -n "$(stat -c %s out)" out right.out; fi
+}
+
+in_start() {
+    addr2line -fe "$program" ${refused[0]} | grep -q '^std::thread::fork::'
+}
+
+fail() {
+    echo "$1: status $status, $words" >&2
+    exit 1
+}
+
+# every CALL: each refusal in turn, of growths and of starts
+every() {
+    local n whole=0
+    run REFUSE_GROWTH=0 "$@"
+    rm -rf right.tree
+    mv out right.out
+    if [ -e tree ]; then mv tree right.tree; fi
+    right_status=$status right_words=$words
+    for ((n = 1; ; n++)); do
+        run REFUSE_GROWTH=$n "$@"
+        if [ ${#refused[@]} = 0 ]; then break; fi
+        if is_memory; then continue; fi
+        is_whole && { [ "$status" = 1 ] || in_start; } || fail "$*, REFUSE_GROWTH=$n, of${refused[0]}"
+        whole=$((whole + 1))
+    done
+    growths=$((growths + n - 1)) answered=$((answered + whole))
+    for ((n = 1; ; n++)); do
+        run REFUSE_START=$n "$@"
+        if [ ${#refused[@]} = 0 ]; then break; fi
+        is_whole || fail "$*, REFUSE_START=$n"
+    done
+    starts=$((starts + n - 1))
+}
+
+# tell COMMAND
+tell() {
+    echo "$1: $growths growths refused in turn, with $answered whole answers, and starts from $starts on"
+    growths=0 answered=0 starts=0
+}
+
+growths=0 answered=0 starts=0
+input=/dev/null
+for workers in 1 2 8; do
+    for piece in 1 16; do
+        every build --workers $workers --zone-piece $piece tree chain
+    done
+done
+tell 'build of links'
+every check --workers 8 chain
+every check --workers 1 zones
+for workers in 2 8; do
+    every build --workers $workers --zone-piece 1 tree zones
+done
+tell 'check and build of zones'
+for workers in 1 8; do
+    every check --workers $workers --zone-piece 1 faulty
+done
+tell 'check of faulty zones'
+"$program" build kept zones
+every show kept/Z/1 1194156000
+tell show
+for input in rows stopped; do
+    for workers in 1 2 8; do
+        for piece in 1 100; do
+            every convert --workers $workers --zone-piece 1 --row-piece $piece chain
+        done
+    done
+    tell "convert, $input"
 done

@@ -1,10 +1,11 @@
 // Preloaded into a program, it refuses the growth of memory numbered REFUSE_GROWTH, or each start of a thread from the one
-// numbered REFUSE_START on, and says 'refused' on standard error.
+// numbered REFUSE_START on, and says on standard error 'refused', with the place in the program that asked for the growth.
 #define _GNU_SOURCE
 #include <dlfcn.h>
 #include <errno.h>
 #include <pthread.h>
 #include <stdatomic.h>
+#include <stdio.h>
 #include <stdlib.h>
 #include <unistd.h>
 
@@ -19,26 +20,30 @@ static long number(const char *name) {
     return value ? atol(value) : 0;
 }
 
-static int is_refused(int refused) {
-    if (refused) write(2, "refused\n", 8);
-    return refused;
-}
-
-static int growth_is_refused(void) {
-    return is_refused(atomic_fetch_add(&growths, 1) + 1 == number("REFUSE_GROWTH"));
+// Whether this growth is refused, which `asker` asked for.
+static int growth_is_refused(void *asker) {
+    if (atomic_fetch_add(&growths, 1) + 1 != number("REFUSE_GROWTH")) return 0;
+    Dl_info object;
+    char line[64];
+    char *base = dladdr(asker, &object) ? object.dli_fbase : NULL;
+    write(2, line, snprintf(line, sizeof line, "refused 0x%tx\n", (char *)asker - base));
+    return 1;
 }
 
 void *malloc(size_t size) {
-    return growth_is_refused() ? NULL : __libc_malloc(size);
+    return growth_is_refused(__builtin_return_address(0)) ? NULL : __libc_malloc(size);
 }
 
 void *realloc(void *block, size_t size) {
-    return growth_is_refused() ? NULL : __libc_realloc(block, size);
+    return growth_is_refused(__builtin_return_address(0)) ? NULL : __libc_realloc(block, size);
 }
 
 int pthread_create(pthread_t *thread, const pthread_attr_t *attr, void *(*body)(void *), void *arg) {
     long first = number("REFUSE_START");
-    if (is_refused(first && first <= atomic_fetch_add(&starts, 1) + 1)) return EAGAIN;
+    if (first && first <= atomic_fetch_add(&starts, 1) + 1) {
+        write(2, "refused\n", 8);
+        return EAGAIN;
+    }
     int (*create)(pthread_t *, const pthread_attr_t *, void *(*)(void *), void *) = dlsym(RTLD_NEXT, "pthread_create");
     return create(thread, attr, body, arg);
 }

@@ -1,0 +1,13 @@
+#!/usr/bin/env bash
+# Has the program convert columns of 100,000 rows over all zones and links of the system's release of the tz database, and compares each
+# row with Python's zoneinfo, over our files and those of the system's zic, and with the reader of witness/reader.py. `python3` is 3.9
+# or later.
+set -euo pipefail
+cd "$(dirname "${BASH_SOURCE[0]}")/.."
+. .ci/release.sh
+
+build zic_main check -
+program=crates/zic_main/out/zic_main
+"$program" build "$work/ours" "$release"
+zic -b fat -d "$work/fat" "$release"
+python3 witness/columns.py "$program" "$release" "$work" | sed 's/^/columns: /'
