@@ -4,21 +4,9 @@
 # line, and 10,000 rules with 10,000 lines of 5,000 zones. Prints the milliseconds of the best of five runs and the most memory of
 # one. Then, of the release, where the time of one worker goes. It needs `rt`, `zic`, GNU time and the release.
 set -eu
-cd "$(dirname "$0")/.."
-PATH=$PATH:/usr/sbin
-if [ -d /dev/shm ]; then work=$(mktemp -d -p /dev/shm); else work=$(mktemp -d); fi
-trap 'rm -rf "$work"' EXIT
-release=/usr/share/zoneinfo/tzdata.zi
+. "$(dirname "$0")/common.sh"
 program=crates/zic_main/out/zic_main
-
-build() {
-    (cd "crates/$1" && if [ "$1" = zic_main ]; then rt run -- check -; else rt run; fi) </dev/null >"$work/build.log" 2>&1 || {
-        cat "$work/build.log" >&2
-        exit 1
-    }
-}
-
-build zic_main
+build zic_main check -
 build source_counts
 build zone_changes
 build file_bench
@@ -41,10 +29,6 @@ once() {
     if [ ! -f "$kept" ] || [ "$took" -lt "$(cat "$kept")" ]; then echo "$took" >"$kept"; fi
 }
 
-show() {
-    printf '%s: %d.%03d ms' "$1" $(($2 / 1000000)) $(($2 / 1000 % 1000))
-}
-
 # has `once` or `memory` run what a name stands for, of a source
 call() {
     case $2 in
@@ -59,7 +43,7 @@ memory() {
     shift
     rm -rf "$work/tree"
     command time -f %M -o "$work/memory" "$@" >"$work/out"
-    echo ", $(($(tail -n 1 "$work/memory") / 1000)) MB"
+    echo $(($(tail -n 1 "$work/memory") / 1000))
 }
 
 calls='zic build1 build2 build4 check1 check4'
@@ -69,30 +53,21 @@ for source in "$release" "$work/zones" "$work/lines"; do
         for name in $calls; do call once "$name" "$source"; done
     done
     for name in $calls; do
-        show "$(basename "$source"), $name" "$(cat "$work/best.$name")"
-        call memory "$name" "$source"
+        show "$(basename "$source"), $name, $(call memory "$name" "$source") MB" "$(cat "$work/best.$name")"
     done
 done
-
-# how long a command takes over the release, the best of five, in nanoseconds
-best() {
-    rm -f "$work/best.part"
-    for _ in 1 2 3 4 5; do once part "$@" <"$release"; done
-    cat "$work/best.part"
-}
 
 # once: the difference that so many times make
 part() {
     name=$1 many=$2
     shift 2
     show "$name" $((($(best "$@" "$many") - $(best "$@" 0)) / many))
-    echo
 }
 
+input=$release
 echo 'Of tzdata.zi, on one thread:'
 part 'its source read' 20 crates/source_counts/out/source_counts
 part 'the timelines of its zones' 20 crates/zone_changes/out/zone_changes
 show 'its source read, timelines, footers and tables, in one run' "$(best crates/file_bench/out/file_bench write 0)"
-echo
 part 'the octets of its tables' 1000 crates/file_bench/out/file_bench write
 part 'all files read back' 1000 crates/file_bench/out/file_bench read

@@ -4,16 +4,10 @@
 # octets. Beside each stands `fields.rs` by `rustc -O`, which only takes the lines apart and counts names. It needs `rt`
 # and `rustc` on the PATH.
 set -eu
-cd "$(dirname "$0")/.."
-work=$(mktemp -d)
-trap 'rm -rf "$work"' EXIT
+. "$(dirname "$0")/common.sh"
 reader=crates/source_counts/out/source_counts
-rustc -O -o "$work/fields" bench/fields.rs
-
-(cd crates/source_counts && rt run) <crates/source_counts/stdin >"$work/build.log" 2>&1 || {
-    cat "$work/build.log" >&2
-    exit 1
-}
+build source_counts
+plain fields
 
 awk 'BEGIN { for (i = 0; i < 10000; i++) printf "Rule set%d 2000 max - Mar Sun>=8 2:00 1:00 D\n", i }' >"$work/rules"
 awk 'BEGIN { for (i = 0; i < 10000; i++) printf "Rule set%d 2000 max - Mar Sun>=8 2:00 1:00 D\n", i % 10 }' >"$work/rules of ten sets"
@@ -21,36 +15,23 @@ awk 'BEGIN { for (i = 0; i < 10000; i++) printf "Zone Area/City%d 1:00 - CET\n",
 awk 'BEGIN { print "Zone A 0 - AAA 1"; for (i = 2; i < 10000; i++) print "1:00 - CET 1990 Mar Sun>=8 2:00"; print "1:00 - CET" }' >"$work/continuations"
 awk 'BEGIN { print "Zone Name/0 1:00 - CET"; for (i = 9999; i > 0; i--) printf "Link Name/%d Name/%d\n", i - 1, i }' >"$work/chain"
 
-# how long $3 readings of file $2 by program $1 take, the best of five, in nanoseconds
-best() {
-    least=
-    for _ in 1 2 3 4 5; do
-        start=$(date +%s%N)
-        "$1" "$3" <"$2" >/dev/null
-        took=$(($(date +%s%N) - start))
-        if [ -z "$least" ] || [ "$took" -lt "$least" ]; then least=$took; fi
-    done
-    echo "$least"
-}
-
-# microseconds of one reading of file $2 by program $1: the difference that twenty make
+# microseconds of one reading of the input by program $1: the difference that twenty make
 micros() {
-    echo $((($(best "$1" "$2" 20) - $(best "$1" "$2" 0)) / 20000))
+    echo $((($(best "$1" 20) - $(best "$1" 0)) / 20000))
 }
 
-show() {
-    read=$(micros "$reader" "$2")
-    apart=$(micros "$work/fields" "$2")
+compare() {
+    input=$2
+    read=$(micros "$reader")
+    apart=$(micros "$work/fields")
     printf '%s: %d octets, read in %d.%03d ms, only taken apart in %d.%03d ms\n' "$1" "$(wc -c <"$2")" \
         $((read / 1000)) $((read % 1000)) $((apart / 1000)) $((apart % 1000))
 }
 
-if [ -f /usr/share/zoneinfo/tzdata.zi ]; then
-    show 'tzdata.zi' /usr/share/zoneinfo/tzdata.zi
-fi
+if [ -f "$release" ]; then compare 'tzdata.zi' "$release"; fi
 for kind in rules 'rules of ten sets' zones continuations chain; do
     # the same octets as comments
     sed 's/^./#/' "$work/$kind" >"$work/comments"
-    show "10,000 $kind" "$work/$kind"
-    show 'comments of as many octets' "$work/comments"
+    compare "10,000 $kind" "$work/$kind"
+    compare 'comments of as many octets' "$work/comments"
 done

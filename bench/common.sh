@@ -1,0 +1,56 @@
+# Sourced by the scripts of this folder. Goes to the top of the repository, and makes the folder $work, in memory where there is a file
+# system for it, which is removed at the end. What is run reads the file $input.
+cd "$(dirname "$0")/.."
+PATH=$PATH:/usr/sbin
+if [ -d /dev/shm ]; then work=$(mktemp -d -p /dev/shm); else work=$(mktemp -d); fi
+trap 'rm -rf "$work"' EXIT
+trap 'exit 130' INT
+trap 'exit 143' HUP TERM
+release=/usr/share/zoneinfo/tzdata.zi
+input=/dev/null
+
+# build CRATE WORD...: proves and builds a program, by its run with these words, of which $work/proved.out has the output
+build() {
+    crate=$1
+    shift
+    (cd "crates/$crate" && rt run -- "$@") <"$input" >"$work/proved.out" 2>"$work/build.log" || {
+        cat "$work/build.log" >&2
+        exit 1
+    }
+}
+
+# plain NAME: builds $work/NAME of bench/NAME.rs, in plain Rust
+plain() {
+    rustc --edition 2021 -O -o "$work/$1" "bench/$1.rs"
+}
+
+# builds $work/NAME and the program of the crate NAME_bench, which have to print the same
+side_by_side() {
+    build "$1_bench"
+    plain "$1"
+    "$work/$1" <"$input" >"$work/plain.out"
+    cmp "$work/proved.out" "$work/plain.out"
+}
+
+# best COMMAND...: how long a command takes, the best of five, in nanoseconds
+best() {
+    least=
+    for _ in 1 2 3 4 5; do
+        start=$(date +%s%N)
+        "$@" <"$input" >"$work/out"
+        took=$(($(date +%s%N) - start))
+        if [ -z "$least" ] || [ "$took" -lt "$least" ]; then least=$took; fi
+    done
+    echo "$least"
+}
+
+# show WHAT NANOSECONDS: in milliseconds
+show() {
+    printf '%s: %d.%03d ms\n' "$1" $(($2 / 1000000)) $(($2 / 1000 % 1000))
+}
+
+# show_call WHAT NANOSECONDS CALLS: the nanoseconds a call
+show_call() {
+    tenths=$(($2 * 10 / $3))
+    echo "$1: $((tenths / 10)).$((tenths % 10)) ns a call"
+}
