@@ -1,5 +1,5 @@
 -- What was placed so far.
-use Rattle.std.proofs.Common.{◌≡◌, ℕ, ◌+◌, ◌<◌, inl, inr, List, [], ◌∷◌, ◌++◌, length, map, take, drop, Option, Some, None, ◌∙◌, sym, ap, subst, arith, append_assoc, append-nil}
+use Rattle.std.proofs.Common.{◌≡◌, ◌≢◌, ℕ, ◌+◌, ◌<◌, refl, inl, inr, List, [], ◌∷◌, ◌++◌, length, map, take, drop, Option, Some, None, ◌∙◌, sym, ap, subst, arith, append_assoc, append-nil}
 use Rattle.std.specs.Prelude.{IfSome, slice_get}
 use Rattle.std.proofs.lemmas.List.{map-append}
 use Rattle.std.proofs.lemmas.Option.{slice_get_cases}
@@ -13,6 +13,11 @@ use Rattle.zic_commands.specs.declared.failure.Failure.{Failure}
 pub gains_none : (tree : Option (List Placed)) → Gains tree tree []
 gains_none None = tt
 gains_none (Some placed) = sym (append-nil placed)
+
+-- files that are not none are some
+pub some_file : (files : List File) → files ≢ [] → 0 < length files
+some_file [] filled = absurd (filled refl)
+some_file (file ∷ files) filled = omega arith
 
 -- and what it gained twice in turn it gained together
 pub gains_both : (old mid new : Option (List Placed)) (first then : List Placed) → Gains old mid first → Gains mid new then → Gains old new (first ++ then)

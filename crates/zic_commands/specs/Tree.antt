@@ -1,5 +1,5 @@
 -- What is placed into a tree of files.
-use Rattle.std.specs.Prelude.{◌≡◌, ℕ, ⊤, List, ◌∷◌, ◌++◌, map, Option, Some, None}
+use Rattle.std.specs.Prelude.{◌≡◌, ◌≢◌, ℕ, ⊤, List, [], ◌∷◌, ◌++◌, map, Option, Some, None}
 use Rattle.zic_bulk.specs.Build.{AreFilesOfTexts}
 use Rattle.zic_bulk.specs.Files.{File}
 
@@ -18,8 +18,10 @@ Gains (Some placed) (Some placed') files = placed' ≡ placed ++ files
 abbrev pub in_folder : List ℕ → File → Placed
 in_folder folder file = record { path = folder ++ 47 ∷ file.name; octets = file.image.octets }
 
--- the files of the texts were placed in the folder, in the order of the texts and their lines
+-- the files of the texts were placed in the folder, in the order of the texts and their lines; where there is a file, the folder has a
+-- name
 pub record AreBuilt (texts : List (List ℕ)) (folder : List ℕ) (old new : Option (List Placed)) : Type 0 where
   pub files : List File
   pub are_files : AreFilesOfTexts texts files
+  pub named : files ≢ [] → folder ≢ []
   pub placed : Gains old new (map (in_folder folder) files)

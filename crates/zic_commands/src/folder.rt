@@ -1,6 +1,6 @@
 //! `build`: compiles texts, and places their files in a folder.
 
-ghost use Rattle.std.specs.Prelude.{◌≡◌, ◌<◌, [], ◌∷◌, ◌++◌, map, true, length, slice_get, IfOk, IfErr, IfSome, OnOk, OnErr, string_bytes};
+ghost use Rattle.std.specs.Prelude.{◌≡◌, ◌≢◌, ◌<◌, [], ◌∷◌, ◌++◌, map, true, length, slice_get, IfOk, IfErr, IfSome, OnOk, OnErr, string_bytes};
 ghost use Rattle.zic_words.specs.Name.{is_name};
 ghost use Rattle.zic_source.specs.Texts.{texts_of};
 ghost use Rattle.zic_commands.specs.Failing.{IsFailureOfBuild, IsFailureOfFolder, IsUnplaced};
@@ -41,6 +41,7 @@ fn place_files<D: Tree>(
     folder: &str,
 ) -> Result<(), Failure>
     ensures ok { OnOk result (Gains (D.placed tree.old) (D.placed tree.new) (map (in_folder folder.now) files.now)) }
+    ensures named { OnOk result (files.now ≢ [] → folder.now ≢ []) }
     ensures err { IfErr result (IsFailureOfFolder (D.refused tree.new) folder.now files.now (D.placed tree.old) (D.placed tree.new)) }
 {
     for file in 0..files.len() {
@@ -59,6 +60,7 @@ fn place_file<D: Tree>(
 ) -> Result<(), Failure>
     requires { file < length files.now }
     ensures ok { OnOk result (IfSome (slice_get files.now file) (λ file. Gains (D.placed tree.old) (D.placed tree.new) (in_folder folder.now file ∷ []))) }
+    ensures named { OnOk result (folder.now ≢ []) }
     ensures keeps { OnErr result (Gains (D.placed tree.old) (D.placed tree.new) []) }
     ensures err { IfErr result (λ failure. IfSome (slice_get files.now file) (λ file. IsUnplaced (D.refused tree.new) folder.now file failure)) }
 {
