@@ -1,6 +1,6 @@
 -- What the words for sources and files name.
 use Rattle.std.proofs.Common.{◌≡◌, ◌≢◌, ◌⊎◌, ◌≤◌, ℕ, ℤ, inl, inr, Bool, true, false, List, [], ◌∷◌, ◌++◌, length, Option, None, ◌∙◌, refl, sym}
-use Rattle.std.specs.Prelude.{IfSome, bytes_eq, if◌then◌else◌}
+use Rattle.std.specs.Prelude.{All, IfSome, bytes_eq, if◌then◌else◌}
 use Rattle.std.proofs.lemmas.Bool.{cases_Bool, true≢false}
 use Rattle.std.proofs.lemmas.Slice.Eq.{bytes_eq-Decides}
 use Rattle.zic_counted.specs.Counts.{Counts}
@@ -73,9 +73,23 @@ text_more [] input texts word text none is = rw none (is, refl)
 text_more (first ∷ words) input [] word text are is = absurd are
 text_more (first ∷ words) input (of_first ∷ texts) word text are is = (are.0, text_more words (known_after first input) texts word text are.1 is)
 
+-- none of the words is that of standard input
+abbrev pub AreFiles : List (List ℕ) → Type 0
+AreFiles words = All (λ word. word ≢ STANDARD_INPUT.now) words
+
 -- the word at which reading ends
-pub source_stop : {I : Type 0} (words before : List (List ℕ)) (word : List ℕ) (after : List (List ℕ)) (input : Option (List ℕ)) (texts : List (List ℕ)) (old new : Counts I) (failure : Failure)
-    → words ≡ before ++ word ∷ after → AreTextsOf before input texts → IsFailureOfWord word old new failure → IsFailureOfSources words input failure
-source_stop words before word after input texts old new failure parts are (inl memory) = inl memory
-source_stop words before word after input texts old new failure parts are (inr unread) =
-    inr (record { before = before; word = word; after = after; parts = parts; texts = texts; are_texts = are; unread = unread.0 })
+pub source_stop : {I : Type 0} (words before : List (List ℕ)) (word : List ℕ) (after : List (List ℕ)) (input : Option (List ℕ)) (texts : List (List ℕ)) (first old new : Counts I)
+    (failure : Failure) → words ≡ before ++ word ∷ after → AreTextsOf before input texts → (AreFiles before → old ≡ first) → IsFailureOfWord word old new failure
+    → IsFailureOfSources words input first new failure
+source_stop words before word after input texts first old new failure parts are same (inl memory) = inl memory
+source_stop words before word after input texts first old new failure parts are same (inr unread) =
+    inr (record {
+      before = before;
+      word = word;
+      after = after;
+      parts = parts;
+      texts = texts;
+      are_texts = are;
+      unread = unread.0;
+      reason = λ dash files. rw (← same files) (unread.1 dash);
+    })

@@ -1,5 +1,5 @@
 -- Why commands give up.
-use Rattle.std.specs.Prelude.{◌≡◌, ◌<◌, ◌≤◌, ◌+◌, ◌==◌, ◌⊎◌, ℕ, ℤ, List, [], ◌∷◌, ◌++◌, length, take, map, if◌then◌else◌, string_bytes, Option, IfSome}
+use Rattle.std.specs.Prelude.{◌≡◌, ◌≢◌, ◌<◌, ◌≤◌, ◌+◌, ◌==◌, ◌⊎◌, ℕ, ℤ, List, [], ◌∷◌, ◌++◌, length, take, map, if◌then◌else◌, string_bytes, Option, IfSome, All}
 use Rattle.zic_base.specs.declared.fault.Fault.{Fault}
 use Rattle.zic_base.specs.declared.limit.TheConstants.{LONGEST_FILE}
 use Rattle.zic_bulk.specs.Build.{AreFilesOfTexts, IsStopOfBuild}
@@ -98,13 +98,13 @@ pub record IsFailureOfFile (known : Option (List ℕ)) (failure : Failure) : Typ
 
 -- why `check` gives up: the text isn't read, as it is said here, or has no files, or its lines can't be written
 abbrev pub IsFailureOfCheck : {W : Type 0} → (W → Option (List ℕ)) → (Failure → Type 0) → Option (List ℕ) → Counts W → Counts W → Failure → Type 0
-IsFailureOfCheck contents IsUnread known writer writer' failure =
-    IsUnread failure ⊎ IsFailureOfSource known failure ⊎ IsFailureOfOutput contents (IsOutputOfCheck known) writer writer' failure
+IsFailureOfCheck contents IsFailureOfInput known writer writer' failure =
+    IsFailureOfInput failure ⊎ IsFailureOfSource known failure ⊎ IsFailureOfOutput contents (IsOutputOfCheck known) writer writer' failure
 
 -- why `show` gives up: the octets aren't read, as it is said here, or are no file, or the line can't be written
 abbrev pub IsFailureOfShow : {W : Type 0} → (W → Option (List ℕ)) → (Failure → Type 0) → Option (List ℕ) → ℤ → Counts W → Counts W → Failure → Type 0
-IsFailureOfShow contents IsUnread known instant writer writer' failure =
-    IsUnread failure ⊎ IsFailureOfFile known failure ⊎ IsFailureOfOutput contents (IsOutputOfShow known instant) writer writer' failure
+IsFailureOfShow contents IsFailureOfInput known instant writer writer' failure =
+    IsFailureOfInput failure ⊎ IsFailureOfFile known failure ⊎ IsFailureOfOutput contents (IsOutputOfShow known instant) writer writer' failure
 
 -- that this path can't be written
 abbrev pub IsCannotWrite : List ℕ → Failure → Type 0
@@ -138,8 +138,9 @@ abbrev pub IsFailureOfBuild : {D : Type 0} → (D → Option (List Placed)) → 
 IsFailureOfBuild placed refused texts folder tree tree' failure =
     (IsFailureOfTexts texts failure × (tree' ≡ tree)) ⊎ IsFailureOfFiles (refused tree') texts folder (placed tree) (placed tree') failure
 
--- the text of one of these words can't be read, and the texts of all before it are read
-pub record IsUnread (words : List (List ℕ)) (input : Option (List ℕ)) (failure : Failure) : Type 0 where
+-- The text of one of these words can't be read, and the texts of all before it are read. If the word is the first for standard input, a
+-- read of it failed, or it gave too many octets. Why a file can't be read is known to no contract.
+pub record IsUnread {I : Type 0} (words : List (List ℕ)) (input : Option (List ℕ)) (old new : Counts I) (failure : Failure) : Type 0 where
   pub before : List (List ℕ)
   pub word : List ℕ
   pub after : List (List ℕ)
@@ -147,7 +148,8 @@ pub record IsUnread (words : List (List ℕ)) (input : Option (List ℕ)) (failu
   pub texts : List (List ℕ)
   pub are_texts : AreTextsOf before input texts
   pub unread : IsCannotRead word failure
+  pub reason : word ≡ STANDARD_INPUT.now → All (λ other. other ≢ STANDARD_INPUT.now) before → HasFailedSince new old.failures ⊎ HasGivenAbove MOST_SOURCE old new
 
 -- why not all texts that words name are read: one can't be, or memory is wanting
-abbrev pub IsFailureOfSources : List (List ℕ) → Option (List ℕ) → Failure → Type 0
-IsFailureOfSources words input failure = (failure ≡ failures.Memory) ⊎ IsUnread words input failure
+abbrev pub IsFailureOfSources : {I : Type 0} → List (List ℕ) → Option (List ℕ) → Counts I → Counts I → Failure → Type 0
+IsFailureOfSources words input old new failure = (failure ≡ failures.Memory) ⊎ IsUnread words input old new failure

@@ -84,7 +84,7 @@ pub fn read_sources<F: FileSystem, I: Read>(
     words: &[String],
 ) -> Result<Vec<Vec<u8>>, Failure>
     ensures ok { IfOk result (λ texts. AreTextsOf (map string_bytes words.now) (I.remaining input.old.inner) (texts_of texts.items)) }
-    ensures err { IfErr result (IsFailureOfSources (map string_bytes words.now) (I.remaining input.old.inner)) }
+    ensures err { IfErr result (IsFailureOfSources (map string_bytes words.now) (I.remaining input.old.inner) input.old input.new) }
 {
     let mut texts = Vec::new(alloc);
     for word in words {

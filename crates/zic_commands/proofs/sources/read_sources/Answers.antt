@@ -1,7 +1,9 @@
-use Rattle.std.proofs.Common.{◌≡◌, ◌+◌, [], ◌∷◌, ◌++◌, map, take, drop, string_bytes, arith, sym, ap, ◌∙◌}
+use Rattle.std.proofs.Common.{◌≡◌, ◌≢◌, ℕ, ◌+◌, List, [], ◌∷◌, ◌++◌, map, take, drop, string_bytes, arith, refl, Some, sym, ap, ◌∙◌}
 use Rattle.std.proofs.lemmas.List.{map-append}
+use Rattle.std.proofs.lemmas.List.Elements.{All-pop}
 use Rattle.std.proofs.lemmas.Result.{err_from_is_err_and}
 use Rattle.zic_source.specs.Texts.{texts_of}
+use Rattle.zic_commands.specs.declared.sources.TheConstants.{STANDARD_INPUT}
 use Rattle.zic_commands.proofs.ListLemmas.{taken, parts}
 use Rattle.zic_commands.proofs.SourceLemmas.{known_afters, known_more, known_on, source_stop, text_more, text_of}
 use Rattle.zic_commands.proofs.sources.read_sources.Goals as goal
@@ -15,7 +17,8 @@ returns-in_err-source_text-clause-err g c =
     let whole = ap (map string_bytes) (parts words l.word-index word (omega arith) (sym c.word-item.is)) ∙ map-append string_bytes (take l.word-index words) (word ∷ drop (l.word-index + 1) words) in
     let unread = rw c.as_str.ensures.value at c.in_err-source_text.ensures.err in
     rw (p.1, p.2) (source_stop (map string_bytes words) (map string_bytes (take l.word-index words)) (string_bytes word) (map string_bytes (drop (l.word-index + 1) words))
-    (g.I.Read.remaining c.args.input.now.inner) (texts_of l.texts.items) l.input c.source_text.new.input c.in_err-source_text.field-0.0 whole l.invariant.0 unread)
+    (g.I.Read.remaining c.args.input.now.inner) (texts_of l.texts.items) c.args.input.now l.input c.source_text.new.input
+    c.in_err-source_text.field-0.0 whole l.invariant.0 l.invariant.2 unread)
 
 pub loop-word-preserved : goal.loop-word-preserved
 loop-word-preserved g c =
@@ -35,4 +38,7 @@ loop-word-preserved g c =
     let known = known_afters names input in (
       rw (one_more, pushed) (text_more names input (texts_of l.texts.items) name text.items l.invariant.0 (text_of name known left text.items l.invariant.1 c.in_ok-source_text.ensures.size whole)),
       rw (one_more, known_more names name input) (known_on name known left (g.I.Read.remaining c.source_text.new.input.inner) l.invariant.1 (λ other. ap (λ r. g.I.Read.remaining r.inner) (unasked other))),
+      λ files.
+          let none = All-pop (λ (w : List ℕ). w ≢ STANDARD_INPUT.now) (names ++ name ∷ []) names (Some name) refl (rw one_more at files) in
+          unasked none.1 ∙ l.invariant.2 none.0,
     )

@@ -1,7 +1,7 @@
-use Rattle.std.proofs.Common.{map, take, string_bytes}
+use Rattle.std.proofs.Common.{◌≡◌, map, take, string_bytes}
 use Rattle.zic_source.specs.Texts.{texts_of}
 use Rattle.zic_commands.specs.Sources.{AreTextsOf}
-use Rattle.zic_commands.proofs.SourceLemmas.{known_afters, IsKnown}
+use Rattle.zic_commands.proofs.SourceLemmas.{known_afters, AreFiles, IsKnown}
 use Rattle.zic_commands.proofs.sources.read_sources.Given as goal
 
 abbrev pub invariant-loop-word : goal.invariant-loop-word
@@ -9,3 +9,4 @@ invariant-loop-word g l =
     let words = map string_bytes (take l.word-index l.words) in
     let input = g.I.Read.remaining l.fn.input.inner in
     AreTextsOf words input (texts_of l.texts.items) × IsKnown (known_afters words input) (g.I.Read.remaining l.input.inner)
+    × (AreFiles words → l.input ≡ l.fn.input)
