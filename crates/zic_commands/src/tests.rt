@@ -2,6 +2,7 @@
 
 mod converting;
 mod folder;
+mod placing;
 
 use crate::*;
 use std::alloc::Global;

@@ -1,0 +1,98 @@
+//! `build` into a tree in memory, of which contracts tell what is placed in it.
+
+ghost use Rattle.std.specs.Prelude.{map, string_bytes, Some};
+
+use super::{UTC_FILE, plan, told};
+use crate::*;
+use std::alloc::Global;
+use std::sync::Wait;
+use std::test::Fail;
+use std::thread::Threads;
+
+/// The file of `Zone Z/EST -5 - EST`, which has the parts of the one for UTC.
+const EST_FILE: &[u8; 111] =
+    b"TZif2\0\0\0\0\0\0\0\0\0\0\0\0\0\0\0\0\0\0\0\0\0\0\0\0\0\0\0\0\0\0\0\0\0\0\x01\0\0\0\x01\0\0\0\0\0\0\0TZif2\0\0\0\0\0\0\0\0\0\0\0\0\0\0\0\0\0\0\0\0\0\0\0\0\0\0\0\0\0\0\0\0\0\0\x01\0\0\0\x04\xff\xff\xb9\xb0\0\0EST\0\nEST5\n";
+
+/// Two zones, and between them a link to the second.
+const SOURCE: &str = "Zone Etc/UTC 0 - UTC\nLink Z/EST East\nZone Z/EST -5 - EST\n";
+
+/// A file that was placed.
+#[derive(Drop)]
+struct Kept {
+    path: String,
+    octets: Vec<u8>,
+}
+
+/// A tree in memory, which refuses one path.
+#[derive(Drop)]
+struct Shelf<'a> {
+    alloc: Global,
+    files: Vec<Kept>,
+    refuses: &'a str,
+}
+
+impl<'a> Tree for Shelf<'a> {
+    ghost placed = { λ shelf. Some (map (λ file. record { path = string_bytes file.path; octets = file.octets.items }) shelf.files.items) };
+
+    fn place(&mut self, path: &str, octets: &[u8]) -> Result<(), Unplaced> {
+        if path == self.refuses {
+            return Err(Unplaced::Refused);
+        }
+        let path = String::from_str(self.alloc, path)?;
+        let mut copy = Vec::new(self.alloc);
+        copy.extend_from_slice(octets)?;
+        match self.files.push(Kept { path, octets: copy }) {
+            Ok(()) => Ok(()),
+            Err(_) => Err(Unplaced::Memory),
+        }
+    }
+}
+
+/// What `build` of the source places in the folder D, and its failure's text and status, if it has one.
+fn placed<T: Threads + Wait + Sync>(
+    rt: &T,
+    alloc: Global,
+    refuses: &str,
+) -> Result<(Vec<Kept>, String), Fail> {
+    let mut text = Vec::new(alloc);
+    text.extend_from_slice(SOURCE.as_bytes())?;
+    let mut tree = Shelf {
+        alloc,
+        files: Vec::new(alloc),
+        refuses,
+    };
+    let told = match build(rt, alloc, &plan(2)?, &[text], &mut tree, "D") {
+        Ok(()) => String::new(alloc),
+        Err(failure) => told(alloc, failure)?,
+    };
+    Ok((tree.files, told))
+}
+
+#[test]
+fn files_are_placed_in_the_order_of_the_source(rt: HostRuntime) -> Result<(), Fail> {
+    let (files, told) = placed(&rt, rt.alloc(), "")?;
+    let want = [
+        ("D/Etc/UTC", UTC_FILE),
+        ("D/East", EST_FILE),
+        ("D/Z/EST", EST_FILE),
+    ];
+    assert_eq!(rt; told.as_str(), "");
+    assert_eq!(rt; files.len(), want.len());
+    for (file, (path, octets)) in files.iter().zip(want) {
+        assert_eq!(rt; file.path.as_str(), path);
+        assert_eq!(rt; &file.octets[..], octets.as_slice(), "at {path:?}");
+    }
+    Ok(())
+}
+
+#[test]
+fn a_refused_file_ends_the_command_and_is_named(rt: HostRuntime) -> Result<(), Fail> {
+    let (files, told) = placed(&rt, rt.alloc(), "D/East")?;
+    assert_eq!(rt; told.as_str(), "cannot write D/East, status 3");
+    assert_eq!(rt; files.len(), 1);
+    for file in &files {
+        assert_eq!(rt; file.path.as_str(), "D/Etc/UTC");
+        assert_eq!(rt; &file.octets[..], UTC_FILE.as_slice());
+    }
+    Ok(())
+}
