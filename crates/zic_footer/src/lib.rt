@@ -7,6 +7,3 @@ mod turns;
 
 pub use making::make;
 pub use zic_posix::{Abbr, DayRule, Dst, Edge, Footer, ParseStop, parse, print};
-
-#[cfg(test)]
-mod tests;

@@ -5,6 +5,3 @@ mod image;
 pub mod laws;
 
 pub use image::{Image, image_of};
-
-#[cfg(test)]
-mod tests;

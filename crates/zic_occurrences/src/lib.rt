@@ -7,6 +7,3 @@ mod occurrence;
 mod walk;
 
 pub use occurrence::{TimedOccurrence, last_named_year, occurrences};
-
-#[cfg(test)]
-mod tests;

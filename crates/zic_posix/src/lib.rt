@@ -23,10 +23,3 @@ pub use limit::{
 pub use parsing::{ParseStop, parse};
 pub use printing::print;
 pub use span::Span;
-
-#[cfg(test)]
-mod span_tests;
-#[cfg(test)]
-mod state_tests;
-#[cfg(test)]
-mod tests;

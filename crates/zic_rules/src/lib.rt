@@ -16,6 +16,3 @@ pub use compile::timeline;
 pub use state::Change;
 pub use tail::{Tail, TailRule};
 pub use timelines::Timeline;
-
-#[cfg(test)]
-mod tests;

@@ -14,6 +14,3 @@ pub use abbreviation::{Abbreviation, is_abbreviation};
 pub use current::{before, rule_at};
 pub use keeping::{Keeping, kept_by, kept_is_found_in_list};
 pub use until::until_instant;
-
-#[cfg(test)]
-mod tests;

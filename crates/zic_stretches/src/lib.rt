@@ -10,6 +10,3 @@ mod window;
 
 pub use stretch::{Stretch, Stretches};
 pub use walk::stretches;
-
-#[cfg(test)]
-mod tests;

@@ -10,6 +10,3 @@ mod transitions;
 pub use content::making::table;
 pub use content::{Change, LocalType, Table};
 pub use limit::{LONGEST_FOOTER, MOST_CHARACTERS, MOST_TRANSITIONS, MOST_TYPES};
-
-#[cfg(test)]
-mod tests;

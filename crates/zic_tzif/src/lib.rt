@@ -8,8 +8,6 @@ mod header;
 pub mod laws;
 mod reading;
 mod reason;
-#[cfg(test)]
-mod samples;
 mod times;
 mod transition;
 mod type_record;

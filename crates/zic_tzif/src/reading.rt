@@ -231,6 +231,3 @@ pub fn read(alloc: Global, octets: &[u8]) -> Result<Zone, ReadStop>
     }
     Ok(zone_of(alloc, &parts, footer)?)
 }
-
-#[cfg(test)]
-mod tests;

@@ -183,6 +183,3 @@ fn name_lengths(alloc: Global, names: &[u8], types: &[LocalType]) -> Result<Vec<
     }
     Ok(lengths)
 }
-
-#[cfg(test)]
-mod tests;

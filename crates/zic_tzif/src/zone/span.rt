@@ -51,6 +51,3 @@ impl Zone {
         }
     }
 }
-
-#[cfg(test)]
-mod tests;

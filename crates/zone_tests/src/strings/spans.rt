@@ -1,9 +1,9 @@
 //! How long footers mean the same. The edges are those of glibc 2.36 under such a TZ, and before 1970 and after 2370 those of the
 //! same years of its calendar, whole cycles of 400 years away; those at ties and of edges in a neighbouring year are reckoned by hand.
 
-use crate::*;
 use std::process::Abort;
 use std::test::Fail;
+use zic_posix::*;
 
 /// An instant, the first and the last of its span, and whether daylight saving time is in force.
 type Row = (i64, i64, i64, bool);

@@ -1,11 +1,11 @@
 //! FORMAT filled in, by the examples of zic(8) and by hand.
 
-use crate::format::abbreviation;
-use crate::*;
 use std::alloc::Global;
 use std::test::Fail;
 use zic_base::{Kind, Stop};
 use zic_source::{Source, read_source};
+use zic_states::format::abbreviation;
+use zic_states::*;
 use zic_words::{GREATEST_OFFSET, Letter};
 
 /// The source that this text is.

@@ -1,8 +1,9 @@
-use super::*;
-use crate::samples::{NEW_YORK, NEW_YORK_TWICE, UTC, new_york};
-use crate::zone::Answer;
+//! Files, and octets that are none.
+
+use super::samples::{NEW_YORK, NEW_YORK_TWICE, UTC, new_york};
 use std::test::*;
 use zic_base::State;
+use zic_tzif::*;
 
 /// A place, an octet put there, and why it is no file then.
 const FAULTS: [(usize, u8, Reason); 22] = [

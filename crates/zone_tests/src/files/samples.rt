@@ -1,7 +1,7 @@
 //! Files that tests read.
 
-use crate::zone::Answer;
 use zic_base::State;
+use zic_tzif::Answer;
 
 /// The file of `Zone Etc/UTC 0 - UTC`.
 pub const UTC: &[u8; 111] = b"TZif2\0\0\0\0\0\0\0\0\0\0\0\0\0\0\0\

@@ -1,7 +1,8 @@
-use super::*;
-use crate::reading::read;
-use crate::samples::{NEW_YORK, UTC, new_york};
+//! How long what files answer stays the same.
+
+use super::samples::{NEW_YORK, UTC, new_york};
 use std::test::*;
+use zic_tzif::*;
 
 /// Where the footer's text of `NEW_YORK` begins.
 const FOOTER: usize = 170;

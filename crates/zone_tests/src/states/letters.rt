@@ -1,9 +1,9 @@
 //! What RULES keep, and the letter before all occurrences.
 
-use crate::kept_by;
 use std::alloc::Global;
 use std::test::Fail;
 use zic_source::{Source, Stop, read_source};
+use zic_states::kept_by;
 
 /// A source of this text.
 fn read(alloc: Global, text: &[u8]) -> Result<Source, Fail> {

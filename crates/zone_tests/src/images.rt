@@ -1,9 +1,9 @@
 //! Files of worked examples.
 
-use crate::*;
 use std::alloc::Global;
 use std::test::Fail;
 use zic_base::{Kind, Place, State, Stop};
+use zic_image::*;
 use zic_source::read_source;
 use zic_tzif::Answer;
 

@@ -1,10 +1,10 @@
 //! Stretches, with outside values.
 
-use crate::*;
 use std::alloc::Global;
 use std::test::Fail;
 use zic_base::{Kind, Place, Stop};
 use zic_source::{Source, read_source};
+use zic_stretches::*;
 
 const UNITED_STATES: &[u8] =
     b"Rule US 2007 max - Mar Sun>=8 2:00 1:00 D\nRule US 2007 max - Nov Sun>=1 2:00 0 S\n";

@@ -4,13 +4,13 @@ ghost use Rattle.std.specs.Prelude.{IfOk};
 ghost use Rattle.zic_source.specs.Sound.{IsSoundLine};
 ghost use Rattle.zic_states.specs.Occurrences.{AreOccurrencesFor};
 
-use crate::*;
 use std::alloc::Global;
 use std::test::Fail;
 use zic_base::Stop;
 use zic_lines::{Rules, ZoneLine};
 use zic_occurrences::{TimedOccurrence, occurrences};
 use zic_source::{Source, read_source};
+use zic_states::*;
 
 /// The first rules of America/New_York that still hold.
 const RULES: &[u8] =

@@ -1,7 +1,8 @@
-use super::*;
-use crate::reading::read;
-use crate::samples::{NEW_YORK, new_york};
+//! What files answer at an instant.
+
+use super::samples::{NEW_YORK, new_york};
 use std::test::*;
+use zic_tzif::*;
 
 /// Where the footer's text of `NEW_YORK` begins.
 const FOOTER: usize = 170;

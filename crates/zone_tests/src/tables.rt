@@ -3,13 +3,13 @@
 mod limits;
 mod rows;
 
-use crate::*;
 use std::alloc::Global;
 use std::test::Fail;
 use zic_base::{Place, Stop};
 use zic_footer::make;
 use zic_rules::timeline;
 use zic_source::{Source, read_source};
+use zic_table::*;
 
 /// Where faults of the only zone are told.
 const PLACE: Place = Place { text: 1, line: 3 };

@@ -2,10 +2,10 @@
 
 ghost use Rattle.std.specs.Prelude.{◌≤◌};
 
-use super::*;
 use std::alloc::Global;
 use std::test::Fail;
 use zic_base::{Fault, Kind, Stop};
+use zic_occurrences::*;
 use zic_source::{Rules, Source, read_source};
 
 /// The source of this text.

@@ -1,10 +1,13 @@
 //! POSIX TZ strings of worked examples.
 
+mod spans;
+mod states;
+
 ghost use Rattle.std.specs.Prelude.{◌≡◌, ◌⊎◌};
 
-use super::*;
 use std::process::Abort;
 use std::test::Fail;
+use zic_posix::*;
 
 /// A text, what is printed of it, and the version that it needs.
 type Row = (&'static str, &'static str, u8);

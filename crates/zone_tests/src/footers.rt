@@ -1,9 +1,9 @@
 //! Footers of worked examples.
 
-use crate::*;
 use std::alloc::Global;
 use std::test::Fail;
 use zic_base::{Kind, Place, Stop};
+use zic_footer::*;
 use zic_rules::timeline;
 use zic_source::{Source, read_source};
 

@@ -1,8 +1,8 @@
 //! The current occurrence, of the United States' rules from 2007 on.
 
-use crate::{before, rule_at};
 use std::test::Fail;
 use zic_occurrences::TimedOccurrence;
+use zic_states::{before, rule_at};
 
 const OCCURRENCES: [TimedOccurrence; 3] = [
     TimedOccurrence {

@@ -1,7 +1,7 @@
 use Rattle.std.proofs.Common.{arith}
 use Rattle.std.proofs.lemmas.Int.{ints}
 use Rattle.zic_states.proofs.Ends.{one_end}
-use Rattle.zic_rules.proofs.tests.state_at.Goals as goal
+use Rattle.zone_tests.proofs.timelines.state_at.Goals as goal
 
 pub state-requires : goal.state-requires
 state-requires c end is =

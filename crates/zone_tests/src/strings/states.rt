@@ -1,10 +1,10 @@
 //! What footers mean. The rows are what glibc 2.36 shows under such a TZ; those at ties, before 1970, past the year 9999, and of
 //! edges in a neighbouring year, which glibc doesn't look at, are reckoned by hand.
 
-use crate::*;
 use std::process::Abort;
 use std::test::Fail;
 use zic_base::State;
+use zic_posix::*;
 
 /// What a footer shows at an instant.
 type Row = (i64, State<'static>);

@@ -4,10 +4,10 @@ mod changes;
 mod faults;
 mod tails;
 
-use crate::*;
 use std::alloc::Global;
 use std::test::Fail;
 use zic_base::{State, Stop};
+use zic_rules::*;
 use zic_source::{Source, read_source};
 
 const NO_RULES: &[u8] = b"";

@@ -1,0 +1,22 @@
+//! Tests of zones: of POSIX TZ strings, occurrences, states, stretches, timelines, footers, tables, files and images. They stand
+//! in a crate of their own, since a crate with tests is proved twice.
+#![tactic(auto)]
+
+#[cfg(test)]
+mod files;
+#[cfg(test)]
+mod footers;
+#[cfg(test)]
+mod images;
+#[cfg(test)]
+mod occurrences;
+#[cfg(test)]
+mod states;
+#[cfg(test)]
+mod stretches;
+#[cfg(test)]
+mod strings;
+#[cfg(test)]
+mod tables;
+#[cfg(test)]
+mod timelines;
