@@ -18,6 +18,3 @@ pub use files::Files;
 pub use plan::{MOST_BYTES, MOST_OF_PIECE, MOST_ROWS, MOST_WORKERS, Plan};
 pub use stop::{RowKind, RunStop};
 pub use zic_counted::Counted;
-
-#[cfg(test)]
-mod tests;

@@ -27,6 +27,3 @@ pub use progress::Progress;
 pub use showing::show;
 pub use sources::{STANDARD_INPUT, check_source, convert_source, read_sources, show_file};
 pub use tree::{Disk, Tree, Unplaced};
-
-#[cfg(test)]
-mod tests;

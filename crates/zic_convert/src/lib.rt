@@ -15,6 +15,3 @@ mod row;
 mod writing;
 
 pub use converting::convert;
-
-#[cfg(test)]
-mod tests;

@@ -2,7 +2,6 @@
 
 use super::folder::{Disk, Log};
 use super::{Broken, US, told};
-use crate::*;
 use std::alloc::Global;
 use std::cell::{Cell, RefCell};
 use std::io::{self, Read, Write};
@@ -11,6 +10,7 @@ use std::test::Fail;
 use std::thread::Threads;
 use std::time::{Clock, Duration};
 use zic_bulk::Plan;
+use zic_commands::*;
 use zic_counted::Counted;
 
 const UTC: &str = "Zone Etc/UTC 0 - UTC";

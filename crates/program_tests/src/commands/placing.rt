@@ -3,11 +3,11 @@
 ghost use Rattle.std.specs.Prelude.{map, string_bytes, Some};
 
 use super::{UTC_FILE, plan, told};
-use crate::*;
 use std::alloc::Global;
 use std::sync::Wait;
 use std::test::Fail;
 use std::thread::Threads;
+use zic_commands::*;
 
 /// The file of `Zone Z/EST -5 - EST`, which has the parts of the one for UTC.
 const EST_FILE: &[u8; 111] =

@@ -1,7 +1,6 @@
 //! `build`, and what the commands open, over a file system that notes its calls.
 
 use super::{UTC_FILE, plan, told};
-use crate::*;
 use std::alloc::{Allocator, Global};
 use std::cell::RefCell;
 use std::fs::{Files, Metadata, OpenFile, OpenOptions};
@@ -9,6 +8,7 @@ use std::io::{self, ErrorKind, Read, Seek, SeekFrom, Write};
 use std::sync::Wait;
 use std::test::Fail;
 use std::thread::Threads;
+use zic_commands::*;
 use zic_counted::Counted;
 
 /// Notes calls, of which one fails.
@@ -193,7 +193,7 @@ fn build_words<T: Threads + Wait + Sync>(
     let plan = plan(2)?;
     Ok(match read_sources(alloc, disk, &mut reader, words) {
         Ok(texts) => {
-            let mut tree = crate::Disk::new(alloc, disk);
+            let mut tree = zic_commands::Disk::new(alloc, disk);
             build(rt, alloc, &plan, &texts, &mut tree, folder)
         }
         Err(failure) => Err(failure),

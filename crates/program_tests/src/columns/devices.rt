@@ -1,7 +1,6 @@
 //! Readers and writers that fail, and workers at the gate.
 
 use super::{THREE_ROWS, UTC, files_of};
-use crate::*;
 use std::alloc::Global;
 use std::io::{self, ErrorKind, Read, Write};
 use std::process::Abort;
@@ -11,6 +10,7 @@ use std::test::Fail;
 use std::thread;
 use std::thread::Threads;
 use zic_bulk::{Files, Plan, RunStop};
+use zic_convert::*;
 use zic_counted::Counted;
 use zic_pieces::{Gate, Open};
 

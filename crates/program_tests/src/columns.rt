@@ -2,13 +2,13 @@
 
 mod devices;
 
-use crate::*;
 use std::alloc::Global;
 use std::process::Abort;
 use std::sync::Wait;
 use std::test::Fail;
 use std::thread::Threads;
 use zic_bulk::{Files, Plan, RowKind, RunStop, compile};
+use zic_convert::*;
 use zic_counted::Counted;
 use zic_pieces::Open;
 use zic_source::read_source;

@@ -4,7 +4,6 @@ mod converting;
 mod folder;
 mod placing;
 
-use crate::*;
 use std::alloc::Global;
 use std::io::{self, ErrorKind, Read, Write};
 use std::process::Abort;
@@ -12,6 +11,7 @@ use std::sync::Wait;
 use std::test::Fail;
 use std::thread::Threads;
 use zic_bulk::Plan;
+use zic_commands::*;
 use zic_counted::Counted;
 
 /// The file of `Zone Etc/UTC 0 - UTC`, as RFC 9636 has its parts: two headers, an empty first block, one local time

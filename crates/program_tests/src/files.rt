@@ -2,9 +2,9 @@
 
 mod building;
 
-use super::*;
 use std::alloc::Global;
 use std::test::Fail;
+use zic_bulk::*;
 use zic_source::{Fault, Kind, Place, Stop, read_source};
 
 /// The file of `Zone Etc/UTC 0 - UTC`, as RFC 9636 has its parts: two headers, an empty first block, one local time

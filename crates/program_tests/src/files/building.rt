@@ -1,13 +1,13 @@
 //! Files built by several workers, with outside values.
 
 use super::{UTC_FILE, listed};
-use crate::*;
 use std::alloc::Global;
 use std::sync::Wait;
 use std::sync::atomic::{AtomicU64, Ordering};
 use std::test::Fail;
 use std::thread;
 use std::thread::Threads;
+use zic_bulk::*;
 use zic_pieces::{Gate, Open};
 use zic_source::{Fault, Kind, Place};
 
