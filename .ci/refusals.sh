@@ -3,13 +3,13 @@
 # forth. The runs are the tests of tasks of five pieces, which still have to pass, and commands of the program, by several numbers of
 # workers and cuttings. With a growth refused a command says `out of memory`, or the fault that it says without; it may give its whole
 # answer only where the growth was one for the start of a worker. With threads refused it gives its whole answer. It never leaves
-# other files or rows than those of its whole answer. It needs `rt`, `cc` and `addr2line`.
+# other files or rows than those of its whole answer. A `convert` of one zone starts each worker but its own thread once, however many
+# blocks there are. It needs `rt` and `cc`.
 set -euo pipefail
 cd "$(dirname "${BASH_SOURCE[0]}")/.."
 . .ci/release.sh
 command -v cc >"$work/log" || install gcc
-command -v addr2line >"$work/log" || install binutils
-cc -O2 -shared -fPIC -o "$work/refuse.so" .ci/refuse.c
+cc -O2 -shared -fPIC -ftls-model=initial-exec -o "$work/refuse.so" .ci/refuse.c
 
 # ------------------------------------------------------------------ tasks of five pieces
 
@@ -65,10 +65,12 @@ run() {
     timeout 60 env "$1" "LD_PRELOAD=$work/refuse.so" "$program" "${@:2}" <"$input" >out 2>said || status=$?
     mapfile -t lines <said
     refused=()
+    starting=()
     words=
     for line in "${lines[@]}"; do
         case $line in
         refused*) refused+=("${line#refused}") ;;
+        start*) starting+=("${line#start}") ;;
         *) words=$words$line$'\n' ;;
         esac
     done
@@ -89,8 +91,9 @@ is_memory() {
         if [ -s out ]; then cmp -s -n "$(stat -c %s out)" out right.out; fi
 }
 
+# the growth was asked for where a thread was started after it
 in_start() {
-    addr2line -fe "$program" ${refused[0]} | grep -q '^std::thread::fork::'
+    [[ "${places[*]} " == *"${refused[0]} "* ]]
 }
 
 fail() {
@@ -101,7 +104,8 @@ fail() {
 # every CALL: each refusal in turn, of growths and of starts
 every() {
     local n whole=0
-    run REFUSE_GROWTH=0 "$@"
+    TELL_STARTS=1 run REFUSE_GROWTH=0 "$@"
+    places=("${starting[@]}")
     rm -rf right.tree
     mv out right.out
     if [ -e tree ]; then mv tree right.tree; fi
@@ -152,7 +156,9 @@ tell show
 for input in rows stopped; do
     for workers in 1 2 8; do
         for piece in 1 100; do
+            before=$starts
             every convert --workers $workers --zone-piece 1 --row-piece $piece chain
+            [ $((starts - before)) -lt "$workers" ] || fail "convert by $workers workers: $((starts - before)) starts"
         done
     done
     tell "convert, $input"

@@ -1,5 +1,6 @@
 // Preloaded into a program, it refuses the growth of memory numbered REFUSE_GROWTH, or each start of a thread from the one
 // numbered REFUSE_START on, and says on standard error 'refused', with the place in the program that asked for the growth.
+// With TELL_STARTS it says 'start' at each start of a thread, with the place that asked for the growth before it.
 #define _GNU_SOURCE
 #include <dlfcn.h>
 #include <errno.h>
@@ -15,18 +16,27 @@ extern void *__libc_realloc(void *block, size_t size);
 // How many growths and starts there were.
 static atomic_long growths, starts;
 
+// The place that asked for the last growth in this thread.
+static _Thread_local void *last_asker;
+
 static long number(const char *name) {
     const char *value = getenv(name);
     return value ? atol(value) : 0;
 }
 
-// Whether this growth is refused, which `asker` asked for.
-static int growth_is_refused(void *asker) {
-    if (atomic_fetch_add(&growths, 1) + 1 != number("REFUSE_GROWTH")) return 0;
+// Says the word, with a place in the program.
+static void tell(const char *word, void *asker) {
     Dl_info object;
     char line[64];
     char *base = dladdr(asker, &object) ? object.dli_fbase : NULL;
-    write(2, line, snprintf(line, sizeof line, "refused 0x%tx\n", (char *)asker - base));
+    write(2, line, snprintf(line, sizeof line, "%s 0x%tx\n", word, (char *)asker - base));
+}
+
+// Whether this growth is refused, which `asker` asked for.
+static int growth_is_refused(void *asker) {
+    last_asker = asker;
+    if (atomic_fetch_add(&growths, 1) + 1 != number("REFUSE_GROWTH")) return 0;
+    tell("refused", asker);
     return 1;
 }
 
@@ -39,6 +49,7 @@ void *realloc(void *block, size_t size) {
 }
 
 int pthread_create(pthread_t *thread, const pthread_attr_t *attr, void *(*body)(void *), void *arg) {
+    if (getenv("TELL_STARTS")) tell("start", last_asker);
     long first = number("REFUSE_START");
     if (first && first <= atomic_fetch_add(&starts, 1) + 1) {
         write(2, "refused\n", 8);

@@ -42,7 +42,7 @@ module _ (answers : FilesAnswerOnce) (files : List File) (sound : AreSoundFiles 
     faultless fault found is has none = (let bad = rw (is, none) at has in cc bad)
 
     -- records come to one list of texts, and one fault or none
-    once : (number : ℕ) (records : List (List (List ℕ))) (a b : List (List ℕ)) (fault other : Option RowKind)
+    pub once : (number : ℕ) (records : List (List (List ℕ))) (a b : List (List ℕ)) (fault other : Option RowKind)
         → ComeTo files most number records a fault → ComeTo files most number records b other → (a ≡ b) × (fault ≡ other)
     once number [] a b fault other come then = (come.0 ∙ sym then.0, come.1 ∙ sym then.1)
     once number (x ∷ xs) [] [] fault other come then = (refl, come.0 ∙ sym then.0)

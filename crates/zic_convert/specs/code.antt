@@ -8,3 +8,5 @@ pub mod Pieces
 pub mod LinePieces
 pub mod Written
 pub mod Halt
+pub mod Exchange
+pub mod Kept

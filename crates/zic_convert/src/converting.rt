@@ -1,16 +1,15 @@
 //! Converts columns.
 
 ghost use Rattle.std.specs.Prelude.{◌≡◌, ◌≤◌, ◌+◌, IfOk, IfErr, IfSome};
-ghost use Rattle.zic_blocks.specs.Rest.{rest_bytes};
 ghost use Rattle.zic_bulk.specs.Plan.{IsPlan};
 ghost use Rattle.zic_counted.specs.Counts.{HasFailedSince};
 ghost use Rattle.zic_convert.specs.Convert.{IsCauseOf, WritesAll, WritesAt};
 ghost use Rattle.zic_convert.specs.code.Halt.{IsCauseOfHalt, IsReadingStop, WritesAtHalt, block_size};
-ghost use Rattle.zic_convert.specs.code.Progress.{IsSoFar, OfEachSoFar, left_anew};
+ghost use Rattle.zic_convert.specs.code.Progress.{OfEachSoFar, left_anew};
 
 use crate::block::Column;
 use crate::halt::Halt;
-use crate::line_pieces::LinePieces;
+use crate::kept::{Begun, begin};
 use crate::performing::convert_pieces;
 use crate::pieces::RowPieces;
 use crate::writing::flush;
@@ -18,9 +17,7 @@ use std::alloc::Global;
 use std::io::{Read, Write};
 use std::sync::Wait;
 use std::thread::Threads;
-use zic_blocks::{Lines, Rest};
 use zic_bulk::{Files, Plan, RunStop};
-use zic_columns::laws::feed_makes_no_record;
 use zic_counted::Counted;
 use zic_pieces::Gate;
 use zic_tzif::laws::files_answer_once;
@@ -34,50 +31,6 @@ fn block_size(plan: &Plan, count: u64) -> usize
 {
     let most = plan.workers() * plan.row_piece();
     most.min(plan.max_rows() + 1 - count) as usize
-}
-
-/// What is left of a column of which so many rows were converted.
-#[derive(Drop)]
-struct Begun<R> {
-    rest: R,
-    count: u64,
-}
-
-/// Converts a column up to the line of its first double quote, block by block: takes a block, converts it, and writes its rows before it
-/// reads on.
-fn convert_lines<T: Threads + Wait + Sync, R: Read + Drop, W: Write, G: Gate + Sync>(
-    rt: &T,
-    alloc: Global,
-    files: &Files,
-    reader: R,
-    writer: &mut Counted<W>,
-    plan: &Plan,
-    gate: &G,
-) -> Result<Begun<Rest<R>>, Halt>
-    ensures within { IfOk result (λ begun. begun.count ≤ plan.now.max_rows) }
-    ensures failures { IfOk result (λ _. writer.new.failures ≡ writer.old.failures) }
-    ensures far { IfOk result (λ begun. IfSome (R.remaining reader)
-        (λ column. IsSoFar files.now plan.now.max_rows column (left_anew (rest_bytes R.remaining begun.rest)) begun.count (W.contents writer.old.inner) (W.contents writer.new.inner))) }
-    ensures halt { IfErr result (λ halt. IfSome (R.remaining reader)
-        (λ column. WritesAtHalt files.now plan.now.max_rows column halt (W.contents writer.old.inner) (W.contents writer.new.inner))) }
-    ensures cause { IfErr result (IsCauseOfHalt writer.old writer.new) }
-{
-    // What is left of a column that can't be read on has rows too: each file answers every instant, as `len` tells.
-    prove!(files.len() <= usize::MAX);
-    files_answer_once();
-    feed_makes_no_record();
-    let workers = plan.workers() as usize;
-    let row_piece = plan.row_piece() as usize;
-    let mut lines = Lines::new(alloc, reader, plan.max_bytes())?;
-    let mut count = 0;
-    while lines.turn(alloc, workers, row_piece)? {
-        let pieces = LinePieces::new(files, lines.block(), count + 1, plan);
-        count += convert_pieces(rt, alloc, &pieces, count + 1, writer, plan, gate)?;
-    }
-    Ok(Begun {
-        rest: lines.into_rest(),
-        count,
-    })
 }
 
 /// Converts the rest of a column, record by record, in blocks as well.
@@ -131,7 +84,7 @@ fn convert_column<T: Threads + Wait + Sync, R: Read + Drop, W: Write, G: Gate + 
         (λ column. WritesAtHalt files.now plan.now.max_rows column halt (W.contents writer.old.inner) (W.contents writer.new.inner))) }
     ensures cause { IfErr result (IsCauseOfHalt writer.old writer.new) }
 {
-    let begun = convert_lines(rt, alloc, files, reader, &mut *writer, plan, gate)?;
+    let begun = begin(rt, alloc, files, reader, &mut *writer, plan, gate)?;
     convert_records(rt, alloc, files, begun, writer, plan, gate)
 }
 
@@ -157,9 +110,10 @@ fn reading_stop<R>(reader: &Counted<R>, failures: u64, taken: u64, most: u64) ->
 /// ends the call: `Row` has its number, from 1, and the first of its kinds: a row too many, a record of other than two fields, a name
 /// that no file has, no instant, or an instant out of range. All rows before it were written and flushed.
 ///
-/// The plan's workers convert pieces of so many records as the plan says, and pass the gate before each. A piece for each worker is
-/// converted at a time, and its rows are written before the next; some of the column is read ahead, at least 64 KiB and about twice what
-/// those pieces have. None of this changes an answer. After every refusal other than `Row`, what was written is a part of the text of the
+/// The plan's workers convert pieces of so many records as the plan says, and pass the gate before each. The calling thread is one of
+/// them, and the others are started once for the lines before the first double quote, and from there on for each block. A piece for each
+/// worker is converted at a time, and its rows are written before the next; some of the column is read ahead, at least 64 KiB and about
+/// twice what those pieces have. None of this changes an answer. After every refusal other than `Row`, what was written is a part of the text of the
 /// rows, from its start on; how much of the column was read is open.
 ///
 /// Every error of the reader or writer ends the call, also one at which others try again, and so does a write that takes no byte; a reader

@@ -4,7 +4,10 @@
 mod block;
 mod clock;
 mod converting;
+mod exchange;
 mod halt;
+mod handing;
+mod kept;
 pub mod laws;
 mod line_pieces;
 mod lines;

@@ -1,17 +1,23 @@
 //! A block of lines, in pieces for several workers.
 
-ghost use Rattle.std.specs.Prelude.{◌≡◌, ◌≤◌, ◌+◌, length};
+ghost use Rattle.std.specs.Prelude.{◌≡◌, ◌≤◌, ◌<◌, ◌+◌, length};
 ghost use Rattle.zic_blocks.specs.Lines.{ArePiecesOf};
 ghost use Rattle.zic_bulk.specs.declared.plan.TheConstants.{MOST_ROWS, MOST_WORKERS};
+ghost use Rattle.zic_convert.specs.code.Exchange.{IsPieceOf};
 ghost use Rattle.zic_convert.specs.code.LinePieces.{AreLinePieces};
 
-use crate::lines::rows_of_lines;
-use crate::row::Rows;
-use std::alloc::Global;
 use std::marker::Model;
 use zic_blocks::Block;
 use zic_bulk::{Files, Plan};
-use zic_pieces::{PieceStop, Task};
+
+/// A piece of a block: its number in the block, the number of its first row, how many rows there may be, and its lines.
+#[derive(Clone, Copy)]
+pub(crate) struct LinePiece<'a> {
+    pub(crate) number: u64,
+    pub(crate) first: u64,
+    pub(crate) most: u64,
+    pub(crate) lines: &'a [u8],
+}
 
 /// The lines of a block, the number of its first row, how many rows there may be, and how many records a piece has.
 #[derive(Drop)]
@@ -50,35 +56,32 @@ impl<'a> LinePieces<'a> {
             size: plan.row_piece(),
         }
     }
-}
 
-impl<'a> Task for LinePieces<'a> {
-    type Out = Rows;
-
-    type Fault = ();
-
-    ghost use Rattle.std.specs.Prelude.{length};
-    ghost use Rattle.zic_convert.specs.code.LinePieces.{IsOutcomeOf};
-
-    ghost count = { λ p. length p.pieces };
-
-    ghost outcome = { IsOutcomeOf };
-
-    fn pieces(&self) -> u64 {
-        self.block.len() as u64
+    /// The files by which the lines are converted.
+    pub(crate) fn files(&self) -> &'a Files
+        ensures { result.now ≡ self.now.files }
+    {
+        self.files
     }
 
-    fn perform(&self, alloc: Global, i: u64) -> Result<Rows, PieceStop<()>> {
-        let lines = self.block.piece(i as usize);
-        match rows_of_lines(
-            alloc,
-            self.files,
-            self.most,
-            self.first + i * self.size,
-            lines,
-        ) {
-            Ok(rows) => Ok(rows),
-            Err(_) => Err(PieceStop::Memory),
+    /// How many pieces there are.
+    pub(crate) fn len(&self) -> usize
+        ensures { result ≡ length self.now.pieces }
+    {
+        self.block.len()
+    }
+
+    /// The piece of this number.
+    pub(crate) fn piece(&self, i: usize) -> LinePiece<'a>
+        requires { i < length self.now.pieces }
+        ensures { IsPieceOf self.now i result }
+    {
+        let number = i as u64;
+        LinePiece {
+            number,
+            first: self.first + number * self.size,
+            most: self.most,
+            lines: self.block.piece(i),
         }
     }
 }
