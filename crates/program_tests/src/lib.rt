@@ -5,6 +5,8 @@
 #[cfg(test)]
 mod columns;
 #[cfg(test)]
+mod command_line;
+#[cfg(test)]
 mod commands;
 #[cfg(test)]
 mod files;

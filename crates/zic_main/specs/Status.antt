@@ -1,8 +1,16 @@
--- The status with which the program ends.
+-- Why the program gives up, and the status with which it then ends.
 use Rattle.std.specs.Prelude.{ℕ}
+use Rattle.zic_command_line.specs.declared.no_request.NoRequest.{NoRequest}
+use Rattle.zic_command_line.specs.declared.no_request.NoRequest.TheVariants as reasons
+use Rattle.zic_commands.specs.declared.failure.Failure.TheVariants.{Memory}
 use Rattle.zic_commands.specs.Words.{status_of}
 use Rattle.zic_main.specs.declared.failure.Refusal.{Refusal}
 use Rattle.zic_main.specs.declared.failure.Refusal.TheVariants as refusals
+
+-- where its words ask for nothing: the text of usage, or want of memory
+abbrev pub refusal_of : NoRequest → Refusal
+refusal_of (reasons.Usage text) = refusals.Usage text
+refusal_of reasons.Memory = refusals.Command Memory
 
 -- 2 for its words, else that of the command's failure
 abbrev pub refusal_status : Refusal → ℕ

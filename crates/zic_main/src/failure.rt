@@ -1,12 +1,11 @@
 //! Why the program gives up, and the status that it then ends with.
 
 ghost use Rattle.std.specs.Prelude.{◌≡◌};
-ghost use Rattle.zic_commands.specs.declared.failure.Failure.TheVariants.{Memory};
-ghost use Rattle.zic_main.specs.Status.{refusal_status};
+ghost use Rattle.zic_main.specs.Status.{refusal_of, refusal_status};
 ghost use Rattle.zic_main.specs.declared.failure.Refusal.TheVariants.{Command};
 
-use std::alloc::{AllocError, AllocFailed};
 use thiserror::Error;
+use zic_command_line::NoRequest;
 use zic_commands::Failure;
 
 /// Why the program gives up. Its text goes to standard error.
@@ -32,26 +31,21 @@ impl Refusal {
     }
 }
 
+impl From<NoRequest> for Refusal {
+    ghost from_gives = { λ no_request e. e ≡ refusal_of no_request };
+
+    fn from(no_request: NoRequest) -> Refusal {
+        match no_request {
+            NoRequest::Usage(text) => Refusal::Usage(text),
+            NoRequest::Memory => Refusal::Command(Failure::Memory),
+        }
+    }
+}
+
 impl From<Failure> for Refusal {
     ghost from_gives = { λ failure e. e ≡ Command failure };
 
     fn from(failure: Failure) -> Refusal {
         Refusal::Command(failure)
-    }
-}
-
-impl From<AllocError> for Refusal {
-    ghost from_gives = { λ _ e. e ≡ Command Memory };
-
-    fn from(_e: AllocError) -> Refusal {
-        Refusal::Command(Failure::Memory)
-    }
-}
-
-impl<T: Drop> From<AllocFailed<T>> for Refusal {
-    ghost from_gives = { λ _ e. e ≡ Command Memory };
-
-    fn from(_e: AllocFailed<T>) -> Refusal {
-        Refusal::Command(Failure::Memory)
     }
 }

@@ -1,10 +1,8 @@
 //! `pzic`: compiles time zone source to TZif files, converts instants by them, and reads such files.
 #![tactic(auto)]
 
-mod command_line;
 mod failure;
 
-use command_line::Request;
 use failure::Refusal;
 use std::fs::Files;
 use std::io::{self, IsTerminal, Write};
@@ -14,6 +12,7 @@ use std::sync::Wait;
 use std::thread::Threads;
 use std::time::Clock;
 use zic_bulk::Plan;
+use zic_command_line::Request;
 use zic_commands::{Disk, Failure, Progress};
 use zic_counted::Counted;
 
@@ -34,7 +33,7 @@ fn run<
     let alloc = rt.alloc();
     let mut input = Counted::new(rt.reader());
     let mut output = Counted::new(io::writer(rt));
-    match command_line::requested(rt)? {
+    match zic_command_line::requested(rt)? {
         Request::Check { source, plan } => zic_commands::check_source(
             rt,
             alloc,
@@ -102,6 +101,3 @@ fn convert_telling<
     converted?;
     Ok(())
 }
-
-#[cfg(test)]
-mod tests;

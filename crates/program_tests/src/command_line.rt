@@ -1,12 +1,10 @@
 //! What the words of the command line ask for.
 
-use crate::command_line::{Request, parse};
-use crate::failure::Refusal;
 use std::alloc::Global;
 use std::test::Fail;
-use zic_commands::Failure;
+use zic_command_line::*;
 
-/// What the words ask for, or the status and the first line of what is told in place of it.
+/// What the words ask for, or that it is nothing.
 fn asked(alloc: Global, line: &str) -> Result<String, Fail> {
     let mut words = Vec::new(alloc);
     for word in line.split_whitespace() {
@@ -48,10 +46,8 @@ fn asked(alloc: Global, line: &str) -> Result<String, Fail> {
             )?)
         }
         Ok(Request::Show { file, instant }) => Ok(format!(in alloc; "show {file} {instant}")?),
-        Err(refusal) => {
-            let status = refusal.status();
-            Ok(format!(in alloc; "status {status}")?)
-        }
+        Err(NoRequest::Usage(_)) => Ok(String::from_str(alloc, "usage")?),
+        Err(NoRequest::Memory) => Err(Fail::from("out of memory")),
     }
 }
 
@@ -64,26 +60,26 @@ fn words_are_a_request_or_a_usage_fault(rt: HostRuntime) -> Result<(), Fail> {
             "check zones by 64 of 65536",
         ),
         ("pzic check --workers +4 a", "check a by 4 of 16"),
-        ("pzic check --workers 0 a", "status 2"),
-        ("pzic check --workers 65 a", "status 2"),
-        ("pzic check --zone-piece 0 a", "status 2"),
-        ("pzic check --zone-piece 65537 a", "status 2"),
-        ("pzic check --workers x a", "status 2"),
-        ("pzic check --workers 18446744073709551616 a", "status 2"),
-        ("pzic check --workers 1 --workers 1 a", "status 2"),
-        ("pzic check --row-piece 1 a", "status 2"),
-        ("pzic check", "status 2"),
-        ("pzic check a b", "status 2"),
+        ("pzic check --workers 0 a", "usage"),
+        ("pzic check --workers 65 a", "usage"),
+        ("pzic check --zone-piece 0 a", "usage"),
+        ("pzic check --zone-piece 65537 a", "usage"),
+        ("pzic check --workers x a", "usage"),
+        ("pzic check --workers 18446744073709551616 a", "usage"),
+        ("pzic check --workers 1 --workers 1 a", "usage"),
+        ("pzic check --row-piece 1 a", "usage"),
+        ("pzic check", "usage"),
+        ("pzic check a b", "usage"),
         ("pzic build D a", "build D a by 4 of 16"),
         ("pzic build --workers 1 D a - b", "build D a - b by 1 of 16"),
-        ("pzic build D - a -", "status 2"),
-        ("pzic build D", "status 2"),
+        ("pzic build D - a -", "usage"),
+        ("pzic build D", "usage"),
         ("pzic show f 12", "show f 12"),
         ("pzic show f -- -1", "show f -1"),
-        ("pzic show f +1", "status 2"),
-        ("pzic show f 9223372036854775808", "status 2"),
-        ("pzic show --workers 1 f 1", "status 2"),
-        ("pzic show f", "status 2"),
+        ("pzic show f +1", "usage"),
+        ("pzic show f 9223372036854775808", "usage"),
+        ("pzic show --workers 1 f 1", "usage"),
+        ("pzic show f", "usage"),
         (
             "pzic convert a",
             "convert a by 4 of 16 and 1024, 100000000 rows in 4294967296",
@@ -96,23 +92,23 @@ fn words_are_a_request_or_a_usage_fault(rt: HostRuntime) -> Result<(), Fail> {
             "pzic convert --progress a --workers 64",
             "convert a by 64 of 16 and 1024, 100000000 rows in 4294967296, told",
         ),
-        ("pzic convert --progress=1 a", "status 2"),
-        ("pzic convert --progress --progress a", "status 2"),
-        ("pzic check --progress a", "status 2"),
-        ("pzic convert -", "status 2"),
-        ("pzic convert", "status 2"),
-        ("pzic convert a b", "status 2"),
-        ("pzic convert --row-piece 0 a", "status 2"),
-        ("pzic convert --row-piece 65537 a", "status 2"),
-        ("pzic convert --max-rows 100000001 a", "status 2"),
-        ("pzic convert --max-bytes 4294967297 a", "status 2"),
-        ("pzic convert --workers 65 a", "status 2"),
-        ("pzic build --row-piece 1 D a", "status 2"),
-        ("pzic check --max-rows 1 a", "status 2"),
-        ("pzic show --max-bytes 1 f 1", "status 2"),
-        ("pzic --help", "status 2"),
-        ("pzic check --help", "status 2"),
-        ("pzic", "status 2"),
+        ("pzic convert --progress=1 a", "usage"),
+        ("pzic convert --progress --progress a", "usage"),
+        ("pzic check --progress a", "usage"),
+        ("pzic convert -", "usage"),
+        ("pzic convert", "usage"),
+        ("pzic convert a b", "usage"),
+        ("pzic convert --row-piece 0 a", "usage"),
+        ("pzic convert --row-piece 65537 a", "usage"),
+        ("pzic convert --max-rows 100000001 a", "usage"),
+        ("pzic convert --max-bytes 4294967297 a", "usage"),
+        ("pzic convert --workers 65 a", "usage"),
+        ("pzic build --row-piece 1 D a", "usage"),
+        ("pzic check --max-rows 1 a", "usage"),
+        ("pzic show --max-bytes 1 f 1", "usage"),
+        ("pzic --help", "usage"),
+        ("pzic check --help", "usage"),
+        ("pzic", "usage"),
     ];
     for (line, want) in cases {
         let got = asked(rt.alloc(), line)?;
@@ -133,23 +129,11 @@ fn usage_calls_the_program_pzic(rt: HostRuntime) -> Result<(), Fail> {
         for word in line.split_whitespace() {
             words.push(String::from_str(alloc, word)?)?;
         }
-        let refusal = parse(alloc, &words)
-            .err()
-            .ok_or("it was asked for something")?;
-        let text = refusal.to_string(alloc)?;
+        let Err(NoRequest::Usage(text)) = parse(alloc, &words) else {
+            return Err(Fail::from("it is no fault of usage"));
+        };
         assert!(rt; text.as_str().contains("Usage: pzic"), "at {line:?}");
         assert!(rt; !text.as_str().contains("zic_main"), "at {line:?}");
     }
-    Ok(())
-}
-
-#[test]
-fn a_failure_of_a_command_is_told_in_its_words(rt: HostRuntime) -> Result<(), Fail> {
-    let refusal = Refusal::from(Failure::CannotWriteOutput);
-    assert_eq!(rt; refusal.status(), 3);
-    assert_eq!(rt;
-        refusal.to_string(rt.alloc())?.as_str(),
-        "cannot write output"
-    );
     Ok(())
 }

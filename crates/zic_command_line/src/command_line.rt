@@ -1,13 +1,13 @@
 //! The words that the program is given.
 
-use crate::failure::Refusal;
+use crate::no_request::NoRequest;
 use clap::error::ErrorKind;
 use clap::{Arg, ArgAction, ArgMatches, Command, value_parser};
 use std::alloc::{AllocError, Global};
 use std::rt::Env;
 use std::{env, io};
 use zic_bulk::Plan;
-use zic_commands::{Failure, STANDARD_INPUT, parse_instant};
+use zic_commands::{STANDARD_INPUT, parse_instant};
 
 /// What the program is asked to do.
 #[derive(Debug, Drop)]
@@ -38,11 +38,11 @@ pub enum Request {
 }
 
 /// What the words of the process ask for.
-pub fn requested<R: Env + AllocGlobal>(rt: &R) -> Result<Request, Refusal> {
+pub fn requested<R: Env + AllocGlobal>(rt: &R) -> Result<Request, NoRequest> {
     let alloc = rt.alloc();
     let given = match env::args(rt) {
         Ok(given) => given,
-        Err(e) if e.kind() == io::ErrorKind::OutOfMemory => return Err(Failure::Memory.into()),
+        Err(e) if e.kind() == io::ErrorKind::OutOfMemory => return Err(NoRequest::Memory),
         Err(_) => return Err(usage(alloc, "the words are not all text")),
     };
     let mut words = Vec::new(alloc);
@@ -53,12 +53,12 @@ pub fn requested<R: Env + AllocGlobal>(rt: &R) -> Result<Request, Refusal> {
 }
 
 /// What these words ask for, the program's name first.
-pub fn parse(alloc: Global, words: &[String]) -> Result<Request, Refusal> {
+pub fn parse(alloc: Global, words: &[String]) -> Result<Request, NoRequest> {
     let commands = commands(alloc)?;
     let matches = match commands.try_get_matches_from(words) {
         Ok(matches) => matches,
-        Err(e) if e.kind() == ErrorKind::OutOfMemory => return Err(Failure::Memory.into()),
-        Err(e) => return Err(Refusal::Usage(e.to_string(alloc)?)),
+        Err(e) if e.kind() == ErrorKind::OutOfMemory => return Err(NoRequest::Memory),
+        Err(e) => return Err(NoRequest::Usage(e.to_string(alloc)?)),
     };
     match matches.subcommand() {
         Some(("check", m)) => check(alloc, m),
@@ -170,13 +170,13 @@ fn option<'a>(alloc: Global, name: &'a str, default: &'a str) -> Arg<'a> {
         .default_value(default)
 }
 
-fn check(alloc: Global, matches: &ArgMatches<'_>) -> Result<Request, Refusal> {
+fn check(alloc: Global, matches: &ArgMatches<'_>) -> Result<Request, NoRequest> {
     let source = word(alloc, matches, "SOURCE")?;
     let plan = plan(alloc, matches)?;
     Ok(Request::Check { source, plan })
 }
 
-fn build(alloc: Global, matches: &ArgMatches<'_>) -> Result<Request, Refusal> {
+fn build(alloc: Global, matches: &ArgMatches<'_>) -> Result<Request, NoRequest> {
     let folder = word(alloc, matches, "DIR")?;
     let Some(words) = matches.get_strs("SOURCE") else {
         return Err(usage(alloc, "no SOURCE"));
@@ -197,7 +197,7 @@ fn build(alloc: Global, matches: &ArgMatches<'_>) -> Result<Request, Refusal> {
     })
 }
 
-fn convert(alloc: Global, matches: &ArgMatches<'_>) -> Result<Request, Refusal> {
+fn convert(alloc: Global, matches: &ArgMatches<'_>) -> Result<Request, NoRequest> {
     let source = word(alloc, matches, "SOURCE")?;
     if source.as_str() == STANDARD_INPUT {
         return Err(usage(
@@ -213,7 +213,7 @@ fn convert(alloc: Global, matches: &ArgMatches<'_>) -> Result<Request, Refusal> 
     })
 }
 
-fn show(alloc: Global, matches: &ArgMatches<'_>) -> Result<Request, Refusal> {
+fn show(alloc: Global, matches: &ArgMatches<'_>) -> Result<Request, NoRequest> {
     let file = word(alloc, matches, "FILE")?;
     let Some(instant) = matches.get_str("INSTANT") else {
         return Err(usage(alloc, "no INSTANT"));
@@ -225,7 +225,7 @@ fn show(alloc: Global, matches: &ArgMatches<'_>) -> Result<Request, Refusal> {
 }
 
 /// How work is shared, where there is no column.
-fn plan(alloc: Global, matches: &ArgMatches<'_>) -> Result<Plan, Refusal> {
+fn plan(alloc: Global, matches: &ArgMatches<'_>) -> Result<Plan, NoRequest> {
     let workers = number(alloc, matches, "workers")?;
     let zone_piece = number(alloc, matches, "zone-piece")?;
     match Plan::new(workers, zone_piece, 1, 0, 0) {
@@ -238,7 +238,7 @@ fn plan(alloc: Global, matches: &ArgMatches<'_>) -> Result<Plan, Refusal> {
 }
 
 /// How work is shared, and how many rows and bytes a column may have.
-fn column_plan(alloc: Global, matches: &ArgMatches<'_>) -> Result<Plan, Refusal> {
+fn column_plan(alloc: Global, matches: &ArgMatches<'_>) -> Result<Plan, NoRequest> {
     let workers = number(alloc, matches, "workers")?;
     let zone_piece = number(alloc, matches, "zone-piece")?;
     let row_piece = number(alloc, matches, "row-piece")?;
@@ -254,7 +254,7 @@ fn column_plan(alloc: Global, matches: &ArgMatches<'_>) -> Result<Plan, Refusal>
 }
 
 /// The number of an option.
-fn number(alloc: Global, matches: &ArgMatches<'_>, id: &str) -> Result<u64, Refusal> {
+fn number(alloc: Global, matches: &ArgMatches<'_>, id: &str) -> Result<u64, NoRequest> {
     match matches.get_one::<u64>(id) {
         Some(number) => Ok(number),
         None => Err(usage(alloc, "an option has no number")),
@@ -262,7 +262,7 @@ fn number(alloc: Global, matches: &ArgMatches<'_>, id: &str) -> Result<u64, Refu
 }
 
 /// The word for what is required.
-fn word(alloc: Global, matches: &ArgMatches<'_>, id: &str) -> Result<String, Refusal> {
+fn word(alloc: Global, matches: &ArgMatches<'_>, id: &str) -> Result<String, NoRequest> {
     match matches.get_str(id) {
         Some(word) => Ok(String::from_str(alloc, word)?),
         None => Err(usage(alloc, "a word is missing")),
@@ -270,9 +270,9 @@ fn word(alloc: Global, matches: &ArgMatches<'_>, id: &str) -> Result<String, Ref
 }
 
 /// That the words can't be what they are.
-fn usage(alloc: Global, text: &str) -> Refusal {
+fn usage(alloc: Global, text: &str) -> NoRequest {
     match format!(in alloc; "error: {text}\n\nFor more information, try 'pzic --help'.\n") {
-        Ok(text) => Refusal::Usage(text),
-        Err(_) => Failure::Memory.into(),
+        Ok(text) => NoRequest::Usage(text),
+        Err(_) => NoRequest::Memory,
     }
 }

@@ -1,0 +1,8 @@
+//! What the words of the command line ask for.
+#![tactic(auto)]
+
+mod command_line;
+mod no_request;
+
+pub use command_line::{Request, parse, requested};
+pub use no_request::NoRequest;
