@@ -1,8 +1,9 @@
-//! Converted columns, with outside values.
+//! Conversion columns, with outside values.
 
 mod devices;
 
 use std::alloc::Global;
+use std::io::{Read, Write};
 use std::process::Abort;
 use std::sync::Wait;
 use std::test::Fail;
@@ -10,7 +11,7 @@ use std::thread::Threads;
 use zic_bulk::{Files, Plan, RowKind, RunStop, compile};
 use zic_convert::*;
 use zic_counted::Counted;
-use zic_pieces::Open;
+use zic_pieces::{Gate, Open};
 use zic_source::read_source;
 
 const UTC: &str = "Zone Etc/UTC 0 - UTC\n";
@@ -52,6 +53,33 @@ fn files_of(alloc: Global, text: &str) -> Result<Files, Fail> {
     Ok(compile(alloc, &source).ok().ok_or("no files")?)
 }
 
+/// What a conversion is answered, with its reader and its writer as it left them.
+#[derive(Drop)]
+struct Conversion<R, W> {
+    answer: Result<u64, RunStop>,
+    reader: Counted<R>,
+    writer: Counted<W>,
+}
+
+/// Converts the column of a reader.
+fn converted<T: Threads + Wait + Sync, R: Read, W: Write, G: Gate + Sync>(
+    rt: &T,
+    alloc: Global,
+    files: &Files,
+    (plan, gate): (&Plan, &G),
+    reader: R,
+    writer: W,
+) -> Conversion<R, W> {
+    let mut reader = Counted::new(reader);
+    let mut writer = Counted::new(writer);
+    let answer = convert(rt, alloc, files, &mut reader, &mut writer, plan, gate);
+    Conversion {
+        answer,
+        reader,
+        writer,
+    }
+}
+
 /// Checks, with each plan of so many rows at most, what a column is answered and what is written.
 fn expect<R: Threads + Wait + Sync + Abort>(
     rt: &R,
@@ -63,11 +91,13 @@ fn expect<R: Threads + Wait + Sync + Abort>(
 ) -> Result<(), Fail> {
     for (workers, row_piece) in PLANS {
         let plan = Plan::new(workers, 1, row_piece, max_rows, 1000).ok_or("no plan")?;
-        let mut reader = Counted::new(column);
-        let mut writer = Counted::new(Vec::new(alloc));
-        let answer = convert(rt, alloc, files, &mut reader, &mut writer, &plan, &Open);
-        assert_eq!(rt; answer, want, "of {column:?} by {workers} and {row_piece}");
-        let written = writer.into_inner();
+        let made = converted(rt, alloc, files, (&plan, &Open), column, Vec::new(alloc));
+        assert_eq!(rt;
+            made.answer,
+            want,
+            "of {column:?} by {workers} and {row_piece}"
+        );
+        let written = made.writer.into_inner();
         assert_eq!(rt;
             written.as_slice(),
             text,

@@ -1,6 +1,6 @@
 //! Readers and writers that fail, and workers at the gate.
 
-use super::{THREE_ROWS, UTC, files_of};
+use super::{THREE_ROWS, UTC, converted, files_of};
 use std::alloc::Global;
 use std::io::{self, ErrorKind, Read, Write};
 use std::process::Abort;
@@ -10,8 +10,6 @@ use std::test::Fail;
 use std::thread;
 use std::thread::Threads;
 use zic_bulk::{Files, Plan, RunStop};
-use zic_convert::*;
-use zic_counted::Counted;
 use zic_pieces::{Gate, Open};
 
 const THREE: &[u8; 30] = b"Etc/UTC,0\nEtc/UTC,0\nEtc/UTC,0\n";
@@ -136,19 +134,22 @@ fn expect_write_failed<R: Threads + Wait + Sync + Abort>(
 ) -> Result<(), Fail> {
     for row_piece in [1, 100] {
         let plan = Plan::new(2, 1, row_piece, 100, 1000).ok_or("no plan")?;
-        let mut reader = Counted::new(column);
-        let mut writer = Counted::new(Sink {
+        let sink = Sink {
             held: Vec::new(alloc),
             defect,
-        });
-        let answer = convert(rt, alloc, files, &mut reader, &mut writer, &plan, &Open);
+        };
+        let made = converted(rt, alloc, files, (&plan, &Open), column, sink);
         assert_eq!(rt;
-            answer,
+            made.answer,
             Err(RunStop::WriteFailed),
             "with {defect:?} and {row_piece}"
         );
-        assert_eq!(rt; writer.failures(), 1, "with {defect:?} and {row_piece}");
-        let written = writer.into_inner().held;
+        assert_eq!(rt;
+            made.writer.failures(),
+            1,
+            "with {defect:?} and {row_piece}"
+        );
+        let written = made.writer.into_inner().held;
         assert_eq!(rt; written.as_slice(), text, "with {defect:?} and {row_piece}");
     }
     Ok(())
@@ -183,13 +184,12 @@ fn a_reader_fails(rt: HostRuntime) -> Result<(), Fail> {
             let plan = Plan::new(2, 1, row_piece, 100, 1000).ok_or("no plan")?;
             for given in 0..31 {
                 let text = THREE.get(..given).ok_or("no text")?;
-                let mut reader = Counted::new(Slow::new(text, Then::Fail(kind)));
-                let mut writer = Counted::new(Vec::new(alloc));
-                let answer = convert(&rt, alloc, &files, &mut reader, &mut writer, &plan, &Open);
-                assert_eq!(rt; answer, Err(RunStop::ReadFailed), "after {given}");
-                assert_eq!(rt; reader.failures(), 1, "after {given}");
-                assert_eq!(rt; reader.taken(), given as u64, "after {given}");
-                let written = writer.into_inner();
+                let reader = Slow::new(text, Then::Fail(kind));
+                let made = converted(&rt, alloc, &files, (&plan, &Open), reader, Vec::new(alloc));
+                assert_eq!(rt; made.answer, Err(RunStop::ReadFailed), "after {given}");
+                assert_eq!(rt; made.reader.failures(), 1, "after {given}");
+                assert_eq!(rt; made.reader.taken(), given as u64, "after {given}");
+                let written = made.writer.into_inner();
                 assert!(rt; THREE_ROWS.starts_with(&written), "after {given}");
             }
         }
@@ -213,14 +213,14 @@ fn readers_without_end(rt: HostRuntime) -> Result<(), Fail> {
     ];
     for (column, max_bytes, most, stop, text) in rows {
         let plan = Plan::new(2, 1, 1, 100, max_bytes).ok_or("no plan")?;
-        let mut reader = Counted::new(Slow::new(column, Then::Repeat));
-        let mut writer = Counted::new(Sink {
+        let sink = Sink {
             held: Vec::new(alloc),
             defect: Defect::Full(most),
-        });
-        let answer = convert(&rt, alloc, &files, &mut reader, &mut writer, &plan, &Open);
-        assert_eq!(rt; answer, Err(stop), "of {column:?}");
-        let written = writer.into_inner().held;
+        };
+        let reader = Slow::new(column, Then::Repeat);
+        let made = converted(&rt, alloc, &files, (&plan, &Open), reader, sink);
+        assert_eq!(rt; made.answer, Err(stop), "of {column:?}");
+        let written = made.writer.into_inner().held;
         assert_eq!(rt; written.as_slice(), text, "of {column:?}");
     }
     Ok(())
@@ -239,12 +239,11 @@ fn rows_lie_over_the_edges_of_reads(rt: HostRuntime) -> Result<(), Fail> {
         for most in 1..45 {
             for (workers, row_piece) in [(1, 1), (2, 1), (1, 2), (2, 100)] {
                 let plan = Plan::new(workers, 1, row_piece, 100, 1000).ok_or("no plan")?;
-                let mut reader = Counted::new(Short { rest: column, most });
-                let mut writer = Counted::new(Vec::new(alloc));
-                let answer = convert(&rt, alloc, &files, &mut reader, &mut writer, &plan, &Open);
-                assert_eq!(rt; answer, Ok(3), "of {column:?} by {most}");
-                assert_eq!(rt; reader.taken(), column.len() as u64, "by {most}");
-                let written = writer.into_inner();
+                let reader = Short { rest: column, most };
+                let made = converted(&rt, alloc, &files, (&plan, &Open), reader, Vec::new(alloc));
+                assert_eq!(rt; made.answer, Ok(3), "of {column:?} by {most}");
+                assert_eq!(rt; made.reader.taken(), column.len() as u64, "by {most}");
+                let written = made.writer.into_inner();
                 assert_eq!(rt;
                     written.as_slice(),
                     THREE_ROWS.as_slice(),
@@ -263,11 +262,10 @@ fn a_column_of_the_greatest_length(rt: HostRuntime) -> Result<(), Fail> {
     let column = b"\xef\xbb\xbfEtc/UTC,0\rEtc/UTC,0\r\nEtc/UTC,0";
     for (max_bytes, want) in [(33, Ok(3)), (32, Err(RunStop::ColumnTooLong))] {
         let plan = Plan::new(2, 1, 100, 100, max_bytes).ok_or("no plan")?;
-        let mut reader = Counted::new(Slow::new(column, Then::End));
-        let mut writer = Counted::new(Vec::new(alloc));
-        let answer = convert(&rt, alloc, &files, &mut reader, &mut writer, &plan, &Open);
-        assert_eq!(rt; answer, want, "of {max_bytes} bytes");
-        assert_eq!(rt; reader.taken(), 33, "of {max_bytes} bytes");
+        let reader = Slow::new(column, Then::End);
+        let made = converted(&rt, alloc, &files, (&plan, &Open), reader, Vec::new(alloc));
+        assert_eq!(rt; made.answer, want, "of {max_bytes} bytes");
+        assert_eq!(rt; made.reader.taken(), 33, "of {max_bytes} bytes");
     }
     Ok(())
 }
@@ -312,11 +310,10 @@ fn two_workers_are_at_the_gate_at_once(rt: HostRuntime) -> Result<(), Fail> {
         late: AtomicU64::new(0),
     };
     let plan = Plan::new(2, 1, 1, 100, 1000).ok_or("no plan")?;
-    let mut reader = Counted::new(b"Etc/UTC,0\nEtc/UTC,0".as_slice());
-    let mut writer = Counted::new(Vec::new(alloc));
-    let answer = convert(&rt, alloc, &files, &mut reader, &mut writer, &plan, &gate);
-    assert_eq!(rt; answer, Ok(2));
-    assert_eq!(rt; writer.into_inner().as_slice(), &THREE_ROWS[..92]);
+    let column = b"Etc/UTC,0\nEtc/UTC,0".as_slice();
+    let made = converted(&rt, alloc, &files, (&plan, &gate), column, Vec::new(alloc));
+    assert_eq!(rt; made.answer, Ok(2));
+    assert_eq!(rt; made.writer.into_inner().as_slice(), &THREE_ROWS[..92]);
     assert!(rt; gate.late.load(Ordering::SeqCst) == 0);
     Ok(())
 }

@@ -1,6 +1,8 @@
 //! Files, and octets that are none.
 
 use super::samples::{NEW_YORK, NEW_YORK_TWICE, UTC, new_york};
+use std::alloc::Global;
+use std::process::Abort;
 use std::test::*;
 use zic_base::State;
 use zic_tzif::*;
@@ -54,6 +56,18 @@ const REASONS: [u32; 15] = [
     15099, 8040, 1020, 254, 1607, 2040, 2040, 6553, 1527, 1887, 1526, 2, 7811, 2, 0,
 ];
 
+/// Why octets are no file.
+fn stop_of(alloc: Global, octets: &[u8]) -> Option<ReadStop> {
+    read(alloc, octets).err()
+}
+
+/// Checks what a file answers, each at an instant.
+fn assert_answers(rt: &impl Abort, zone: &Zone, rows: &[(i64, Answer<'_>)]) {
+    for (t, want) in rows {
+        assert_eq!(rt; zone.at(*t), *want, "at {t}");
+    }
+}
+
 #[test]
 fn plain_file(rt: HostRuntime) -> Result<(), Fail> {
     let zone = read(rt.alloc(), UTC)?;
@@ -62,7 +76,7 @@ fn plain_file(rt: HostRuntime) -> Result<(), Fail> {
         daylight: false,
         name: b"UTC",
     };
-    assert_eq!(rt; zone.at(-1), Answer::Known(state));
+    assert_answers(&rt, &zone, &[(-1, Answer::Known(state))]);
     assert_eq!(rt; zone.footer_text(), b"UTC0".as_slice());
     assert_eq!(rt; zone.version(), 2);
     Ok(())
@@ -74,14 +88,14 @@ fn faults(rt: HostRuntime) -> Result<(), Fail> {
         let mut octets = *UTC;
         assert!(rt; place < 111);
         octets[place] = octet;
-        let stop = read(rt.alloc(), &octets).err();
+        let stop = stop_of(rt.alloc(), &octets);
         assert_eq!(rt; stop, Some(ReadStop::Bad(reason)), "octet {place}");
     }
     for (place, octet, reason) in FAULTS_WITH_TRANSITIONS {
         let mut octets = *NEW_YORK;
         assert!(rt; place < 193);
         octets[place] = octet;
-        let stop = read(rt.alloc(), &octets).err();
+        let stop = stop_of(rt.alloc(), &octets);
         assert_eq!(rt;
             stop,
             Some(ReadStop::Bad(reason)),
@@ -90,19 +104,19 @@ fn faults(rt: HostRuntime) -> Result<(), Fail> {
     }
     let mut octets = *NEW_YORK;
     octets[83..87].copy_from_slice(&[0xff; 4]);
-    let stop = read(rt.alloc(), &octets).err();
+    let stop = stop_of(rt.alloc(), &octets);
     assert_eq!(rt;
         stop,
         Some(ReadStop::Bad(Reason::Short)),
         "many transitions"
     );
     for length in 0..111 {
-        let stop = read(rt.alloc(), &UTC[..length]).err();
+        let stop = stop_of(rt.alloc(), &UTC[..length]);
         assert_eq!(rt; stop, Some(ReadStop::Bad(Reason::Short)), "{length} octets");
     }
     let mut longer = UTC.to_vec(rt.alloc())?;
     longer.push(b'\n')?;
-    let stop = read(rt.alloc(), &longer).err();
+    let stop = stop_of(rt.alloc(), &longer);
     assert_eq!(rt; stop, Some(ReadStop::Bad(Reason::TrailingBytes)));
     Ok(())
 }
@@ -118,13 +132,13 @@ fn limits(rt: HostRuntime) -> Result<(), Fail> {
     for (offset, wanted) in offsets {
         let mut octets = *UTC;
         octets[95..99].copy_from_slice(&offset.to_be_bytes());
-        let stop = read(rt.alloc(), &octets).err();
+        let stop = stop_of(rt.alloc(), &octets);
         assert_eq!(rt; stop, wanted, "offset {offset}");
     }
     let lengths = [(1_048_576, Reason::Magic), (1_048_577, Reason::TooLarge)];
     for (length, reason) in lengths {
         let octets = vec![in rt.alloc(); 0; length]?;
-        let stop = read(rt.alloc(), &octets).err();
+        let stop = stop_of(rt.alloc(), &octets);
         assert_eq!(rt; stop, Some(ReadStop::Bad(reason)), "{length} octets");
     }
     Ok(())
@@ -144,10 +158,10 @@ fn no_footer(rt: HostRuntime) -> Result<(), Fail> {
         daylight: true,
         name: b"TC",
     };
-    assert_eq!(rt; zone.at(i64::MAX), Answer::Known(state));
+    assert_answers(&rt, &zone, &[(i64::MAX, Answer::Known(state))]);
     assert_eq!(rt; zone.footer_text(), b"".as_slice());
     assert_eq!(rt; zone.version(), 3);
-    let stop = read(rt.alloc(), &octets[..108]).err();
+    let stop = stop_of(rt.alloc(), &octets[..108]);
     assert_eq!(rt; stop, Some(ReadStop::Bad(Reason::TrailingBytes)));
     Ok(())
 }
@@ -155,13 +169,16 @@ fn no_footer(rt: HostRuntime) -> Result<(), Fail> {
 #[test]
 fn filled_first_block_and_indicators(rt: HostRuntime) -> Result<(), Fail> {
     let zone = read(rt.alloc(), NEW_YORK_TWICE)?;
-    assert_eq!(rt; zone.at(1173596399), new_york(false));
-    assert_eq!(rt; zone.at(1173596400), new_york(true));
-    assert_eq!(rt; zone.at(1257055200), new_york(false));
-    assert_eq!(rt; zone.at(13796377200), new_york(true));
+    let rows = [
+        (1173596399, new_york(false)),
+        (1173596400, new_york(true)),
+        (1257055200, new_york(false)),
+        (13796377200, new_york(true)),
+    ];
+    assert_answers(&rt, &zone, &rows);
     let mut octets = *NEW_YORK_TWICE;
     octets[219] = 2;
-    let stop = read(rt.alloc(), &octets).err();
+    let stop = stop_of(rt.alloc(), &octets);
     assert_eq!(rt; stop, Some(ReadStop::Bad(Reason::Indicators)));
     Ok(())
 }
@@ -171,7 +188,7 @@ fn reserved_octets(rt: HostRuntime) -> Result<(), Fail> {
     let mut octets = *NEW_YORK;
     octets[10] = 7;
     let zone = read(rt.alloc(), &octets)?;
-    assert_eq!(rt; zone.at(1173596400), new_york(true));
+    assert_answers(&rt, &zone, &[(1173596400, new_york(true))]);
     Ok(())
 }
 
@@ -179,7 +196,7 @@ fn reserved_octets(rt: HostRuntime) -> Result<(), Fail> {
 fn daylight_name_without_edges(rt: HostRuntime) -> Result<(), Fail> {
     let mut octets = NEW_YORK[..170].to_vec(rt.alloc())?;
     octets.extend_from_slice(b"EST5EDT\n")?;
-    let stop = read(rt.alloc(), &octets).err();
+    let stop = stop_of(rt.alloc(), &octets);
     assert_eq!(rt; stop, Some(ReadStop::Bad(Reason::Footer)));
     Ok(())
 }

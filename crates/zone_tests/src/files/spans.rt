@@ -1,6 +1,7 @@
 //! How long what files answer stays the same.
 
 use super::samples::{NEW_YORK, UTC, new_york};
+use std::process::Abort;
 use std::test::*;
 use zic_tzif::*;
 
@@ -31,26 +32,29 @@ const BY_FOOTER: [Row; 4] = [
     (i64::MAX, 9223372036852322400, i64::MAX, false),
 ];
 
-#[test]
-fn between_transitions(rt: HostRuntime) -> Result<(), Fail> {
+/// Checks the spans of `NEW_YORK`.
+fn assert_spans(rt: &(impl Abort + AllocGlobal), rows: &[Row]) -> Result<(), Fail> {
     let zone = read(rt.alloc(), NEW_YORK)?;
-    for (t, first, last, daylight) in BY_TRANSITIONS {
-        let span = zone.span(t);
-        assert_eq!(rt; span.instants, Instants { first, last }, "{t}");
-        assert_eq!(rt; span.answer, new_york(daylight), "{t}");
+    for (t, first, last, daylight) in rows {
+        let span = zone.span(*t);
+        let instants = Instants {
+            first: *first,
+            last: *last,
+        };
+        assert_eq!(rt; span.instants, instants, "{t}");
+        assert_eq!(rt; span.answer, new_york(*daylight), "{t}");
     }
     Ok(())
 }
 
 #[test]
+fn between_transitions(rt: HostRuntime) -> Result<(), Fail> {
+    assert_spans(&rt, &BY_TRANSITIONS)
+}
+
+#[test]
 fn between_edges_of_the_footer(rt: HostRuntime) -> Result<(), Fail> {
-    let zone = read(rt.alloc(), NEW_YORK)?;
-    for (t, first, last, daylight) in BY_FOOTER {
-        let span = zone.span(t);
-        assert_eq!(rt; span.instants, Instants { first, last }, "{t}");
-        assert_eq!(rt; span.answer, new_york(daylight), "{t}");
-    }
-    Ok(())
+    assert_spans(&rt, &BY_FOOTER)
 }
 
 #[test]
