@@ -5,7 +5,7 @@
 # zic; `python3` is 3.9 or later.
 set -euo pipefail
 cd "$(dirname "${BASH_SOURCE[0]}")/.."
-. .ci/build.sh
+. .ci/release.sh
 build zic_main check -
 program=$PWD/crates/zic_main/out/zic_main
 table=$PWD/witness/checks.txt
