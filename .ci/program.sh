@@ -10,6 +10,7 @@ build zic_main check -
 program=$PWD/crates/zic_main/out/zic_main
 table=$PWD/witness/checks.txt
 columns=$PWD/witness/records.py
+help=$PWD/docs/help
 cd "$work"
 mkdir asked
 cd asked
@@ -49,6 +50,14 @@ expect_usage() {
     calls=$((calls + 1))
     [ "$status" = 2 ] && [ ! -s ../out ] && [ -s ../err ] ||
         differ "pzic $*: status $status, '$(head -c 200 ../out)', '$(head -c 200 ../err)', and not 2 with usage on standard error"
+}
+
+# a call for help, answered by a page on standard error
+expect_page() {
+    ask "${@:2}"
+    calls=$((calls + 1))
+    [ "$status" = 2 ] && [ ! -s ../out ] && cmp -s ../err "$1" ||
+        differ "pzic ${*:2}: status $status, '$(head -c 200 ../err)', and not 2 with the page $1"
 }
 
 # the lines of `check` for the files of a tree, in the order of their names
@@ -166,8 +175,13 @@ echo 'Zone Etc/UTC 0 - UTC' >plain
 expect 0 '' '' build tree plain
 file=tree/Etc/UTC
 expect_usage
-expect_usage --help
-expect_usage -h
+# the pages from which the launcher answers before anything is built
+for word in --help -h; do
+    for page in "$help"/*.txt; do
+        command=$(basename "$page" .txt)
+        expect_page "$page" ${command/#pzic/} $word
+    done
+done
 expect_usage help
 expect_usage frobnicate
 expect_usage check
