@@ -6,8 +6,8 @@ cd "$(dirname "${BASH_SOURCE[0]}")/.."
 . .ci/release.sh
 
 build zic_main check -
-build file_answers
+build probe counts
 crates/zic_main/out/zic_main build "$work/ours" "$release"
 zic -b fat -d "$work/fat" "$release"
 zic -b slim -d "$work/slim" "$release"
-python3 witness/files.py "$work" crates/file_answers/out/file_answers
+python3 witness/files.py "$work" crates/probe/out/probe

@@ -6,6 +6,6 @@ set -euo pipefail
 cd "$(dirname "${BASH_SOURCE[0]}")/.."
 . .ci/release.sh
 
-build footer_states
+build probe counts
 zic -b fat -d "$work/files" "$release"
-python3 witness/readers.py crates/footer_states/out/footer_states witness/footers.txt "$work/files" | sed 's/^/footers: /'
+python3 witness/readers.py crates/probe/out/probe witness/footers.txt "$work/files" | sed 's/^/footers: /'

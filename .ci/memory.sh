@@ -4,7 +4,7 @@
 set -euo pipefail
 cd "$(dirname "${BASH_SOURCE[0]}")/.."
 . .ci/build.sh
-build zone_changes
+build probe counts
 # a rule each eight hours, of standard time and of saved time in turn
 awk 'BEGIN {
     split("Jan Feb Mar Apr May Jun Jul Aug Sep Oct Nov Dec", months)
@@ -14,7 +14,7 @@ awk 'BEGIN {
 }' >"$work/rules"
 got=$(
     ulimit -v 524288
-    crates/zone_changes/out/zone_changes 1 <"$work/rules"
+    crates/probe/out/probe changes 1 <"$work/rules"
 ) || true
 if [ "$got" != "8999999 changes" ]; then
     echo "1,000 rules from 1 to 9000: got '$got', and not '8999999 changes'" >&2

@@ -179,8 +179,12 @@ expect_usage
 for word in --help -h; do
     for page in "$help"/*.txt; do
         command=$(basename "$page" .txt)
+        [ "$command" != version ] || continue
         expect_page "$page" ${command/#pzic/} $word
     done
+done
+for word in --version -V; do
+    expect 0 "$(cat "$help/version.txt")" '' $word
 done
 expect_usage help
 expect_usage frobnicate

@@ -3,8 +3,8 @@
 # forth. The runs are the tests of tasks of five pieces, which still have to pass, and commands of the program, by several numbers of
 # workers and cuttings. With a growth refused a command says `out of memory`, or the fault that it says without; it may give its whole
 # answer only where the growth was one for the start of a worker. With threads refused it gives its whole answer. It never leaves
-# other files or rows than those of its whole answer. A `convert` of one zone starts each worker but its own thread once, however many
-# blocks there are. It needs `rt` and `cc`.
+# other files or rows than those of its whole answer. A `convert` of one zone and of a column of one round starts each worker but its own
+# thread once, and once more for the rows before a fault. It needs `rt` and `cc`.
 set -euo pipefail
 cd "$(dirname "${BASH_SOURCE[0]}")/.."
 . .ci/release.sh
@@ -158,7 +158,7 @@ for input in rows stopped; do
         for piece in 1 100; do
             before=$starts
             every convert --workers $workers --zone-piece 1 --row-piece $piece chain
-            [ $((starts - before)) -lt "$workers" ] || fail "convert by $workers workers: $((starts - before)) starts"
+            [ $((starts - before)) -lt $((2 * workers)) ] || fail "convert by $workers workers: $((starts - before)) starts"
         done
     done
     tell "convert, $input"

@@ -7,7 +7,7 @@ cd "$(dirname "${BASH_SOURCE[0]}")/.."
 . .ci/release.sh
 
 build zic_main check -
-build jiff_answers data/new_york
+build probe counts
 program=crates/zic_main/out/zic_main
 
 same() {
@@ -52,5 +52,5 @@ trees largest "$work/largest.zi"
 
 "$program" build "$work/worked" witness/worked.zi
 for tree in worked release; do
-    python3 witness/trees.py "$work/$tree" crates/jiff_answers/out/jiff_answers | sed "s/^/trees, $tree: /"
+    python3 witness/trees.py "$work/$tree" crates/probe/out/probe | sed "s/^/trees, $tree: /"
 done

@@ -11,16 +11,15 @@ fail() {
     exit 1
 }
 
-build source_counts
-got=$(crates/source_counts/out/source_counts <"$release")
+build probe counts
+got=$(crates/probe/out/probe counts <"$release")
 # In such a release each keyword is cut to one letter, and the lines that begin with none are continuations.
 want=$(awk '/^R /{r++} /^Z /{z++} /^L /{l++} !/^[RZL#]/ && NF {c++}
     END {printf "%d rules, %d zones, %d continuations, %d links\n", r, z, c, l}' "$release")
 [ "$got" = "$want" ] || fail "$got" "$want"
 echo "tzdata.zi: $got"
 
-build zone_changes
-crates/zone_changes/out/zone_changes <"$release" >"$work/changes" || fail "$(tail -n 1 "$work/changes")" "the changes of all zones"
+crates/probe/out/probe changes <"$release" >"$work/changes" || fail "$(tail -n 1 "$work/changes")" "the changes of all zones"
 zic -b fat -d "$work/files" "$release"
 got=$(python3 witness/changes.py "$work/changes" "$work/files") || fail "$got" "0 differences"
 want=$(awk '/^Z /{z++} END {printf "%d zones\n", z}' "$release")

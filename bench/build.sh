@@ -7,9 +7,8 @@ set -eu
 . "$(dirname "$0")/common.sh"
 program=crates/zic_main/out/zic_main
 build zic_main check -
-build source_counts
-build zone_changes
-build file_bench
+build probe counts
+build bench files
 awk 'BEGIN { for (i = 0; i < 10000; i++) printf "Zone Area%d/City%d %d:%02d - %%z\n", i % 50, i, i / 60 % 24, i % 60 }' >"$work/zones"
 awk 'BEGIN {
     for (i = 0; i < 10000; i++)
@@ -66,8 +65,8 @@ part() {
 
 input=$release
 echo 'Of tzdata.zi, on one thread:'
-part 'its source read' 20 crates/source_counts/out/source_counts
-part 'the timelines of its zones' 20 crates/zone_changes/out/zone_changes
-show 'its source read, timelines, footers and tables, in one run' "$(best crates/file_bench/out/file_bench write 0)"
-part 'the octets of its tables' 1000 crates/file_bench/out/file_bench write
-part 'all files read back' 1000 crates/file_bench/out/file_bench read
+part 'its source read' 20 "$probe" counts
+part 'the timelines of its zones' 20 "$probe" changes
+show 'its source read, timelines, footers and tables, in one run' "$(best "$bench" files write 0)"
+part 'the octets of its tables' 1000 "$bench" files write
+part 'all files read back' 1000 "$bench" files read

@@ -6,6 +6,6 @@ set -eu
 side_by_side civil
 
 for call in civil weekday; do
-    show_call "proved $call" "$(best crates/civil_bench/out/civil_bench "$call")" 10000000
+    show_call "proved $call" "$(best "$bench" civil "$call")" 10000000
     show_call "plain Rust $call" "$(best "$work/civil" "$call")" 10000000
 done

@@ -39,6 +39,10 @@ fn main() {
         } else {
             (below(names.len() as u64, next(&mut seed)) as usize, first + below(end - first, next(&mut seed)))
         };
-        writeln!(out, "{},{instant}", names[name]).unwrap();
+        if kind == "quoted" {
+            writeln!(out, "\"{}\",\"{instant}\"", names[name]).unwrap();
+        } else {
+            writeln!(out, "{},{instant}", names[name]).unwrap();
+        }
     }
 }

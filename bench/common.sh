@@ -7,6 +7,8 @@ trap 'rm -rf "$work"' EXIT
 trap 'exit 130' INT
 trap 'exit 143' HUP TERM
 release=/usr/share/zoneinfo/tzdata.zi
+bench=crates/bench/out/bench
+probe=crates/probe/out/probe
 input=/dev/null
 
 # build CRATE WORD...: proves and builds a program, by its run with these words, of which $work/proved.out has the output
@@ -24,9 +26,9 @@ plain() {
     rustc --edition 2021 -O -o "$work/$1" "bench/$1.rs"
 }
 
-# builds $work/NAME and the program of the crate NAME_bench, which have to print the same
+# side_by_side NAME: builds $work/NAME and the program of the benchmarks, which by the word NAME has to print the same
 side_by_side() {
-    build "$1_bench"
+    build bench "$1"
     plain "$1"
     "$work/$1" <"$input" >"$work/plain.out"
     cmp "$work/proved.out" "$work/plain.out"

@@ -1,6 +1,7 @@
 #!/bin/sh
 # Times `convert` over columns of ROWS rows (10,000,000): of all zones of the system's release of the tz database by chance, with instants
-# by chance from 1970 to 2037; of America/New_York, with rising instants; and of all zones, from 2040 to 2400, the years of footers. By
+# by chance from 1970 to 2037; of America/New_York, with rising instants; of all zones, from 2040 to 2400, the years of footers; and the
+# first with both fields in double quotes, by pzic alone. By
 # 1, 2 and 4 workers and pieces of 1,024 and 65,536 rows, with the rows written to a file in memory and to nowhere. In turn with it run
 # `convert.rs` by 1, 2 and 4 threads, and Debian's C++ date library (`convert.cpp`, not for the years of footers, which it doesn't
 # read); and once, over a tenth of the rows, Python's zoneinfo. All have to write the same rows. Prints million rows a second of
@@ -78,12 +79,12 @@ same() {
 # one round of all converters, with their rows to a file or to nowhere
 round() {
     for workers in 1 2 4; do
-        once "convert.rs.$workers.$1" "$work/convert" "$work/tree" "$workers"
+        [ "$kind" = quoted ] || once "convert.rs.$workers.$1" "$work/convert" "$work/tree" "$workers"
         for piece in 1024 65536; do
             once "pzic.$workers.$piece.$1" "$program" convert --workers "$workers" --row-piece "$piece" "$release"
         done
     done
-    [ "$kind" = footer ] || once "convert.cpp.1.$1" "$work/library"
+    case $kind in footer | quoted) ;; *) once "convert.cpp.1.$1" "$work/library" ;; esac
 }
 
 # the nanoseconds of the best run of a name, and those of its processor time
@@ -104,9 +105,9 @@ report_all() {
             for piece in 1024 65536; do
                 report "$kind, pzic by $workers, pieces of $piece, to $where" "pzic.$workers.$piece.$where" "$rows"
             done
-            report "$kind, convert.rs by $workers, to $where" "convert.rs.$workers.$where" "$rows"
+            [ "$kind" = quoted ] || report "$kind, convert.rs by $workers, to $where" "convert.rs.$workers.$where" "$rows"
         done
-        [ "$kind" = footer ] || report "$kind, convert.cpp by 1, to $where" "convert.cpp.1.$where" "$rows"
+        case $kind in footer | quoted) ;; *) report "$kind, convert.cpp by 1, to $where" "convert.cpp.1.$where" "$rows" ;; esac
     done
 }
 
@@ -130,6 +131,13 @@ aim() {
     }'
 }
 
+# gain: the better of both pieces by 4 workers beside that by 1
+gain() {
+    by_one=$({ best_of pzic.1.1024.nowhere && best_of pzic.1.65536.nowhere; } | sort -n | head -n 1)
+    by_four=$({ best_of pzic.4.1024.nowhere && best_of pzic.4.65536.nowhere; } | sort -n | head -n 1)
+    echo "$by_one $by_four" | awk -v what="$kind" '{ printf "%s: by 4 workers %.1f times what 1 makes, and 3 are aimed at\n", what, $1 / $3 }'
+}
+
 # compare KIND NAMES AIM AIM: all converters on a column, with what is aimed at by 1 and by 4 workers
 compare() {
     kind=$1 column=$work/column.$1
@@ -143,15 +151,19 @@ compare() {
         turn=$((turn + 1))
     done
     report_all
-    aim 1 "$3"
-    aim 4 "$4"
-    by_python
+    gain
+    if [ "$kind" != quoted ]; then
+        aim 1 "$3"
+        aim 4 "$4"
+        by_python
+    fi
     echo "$kind: $(load)"
 }
 
 compare random names 5 18
 compare rising name 12 40
 compare footer names 7 26
+compare quoted names
 
 echo Etc/UTC,0 >"$work/one"
 input=$work/one

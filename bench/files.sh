@@ -3,13 +3,12 @@
 # thread, and prints the milliseconds that each takes, the best of five runs of a thousand. It needs `rt` and the release.
 set -eu
 . "$(dirname "$0")/common.sh"
-bench=crates/file_bench/out/file_bench
-build file_bench
+build bench files
 input=$release
 
 # the difference that a thousand times make, once
 part() {
-    show "$1" $((($(best "$bench" "$2" 1000) - $(best "$bench" "$2" 0)) / 1000))
+    show "$1" $((($(best "$bench" files "$2" 1000) - $(best "$bench" files "$2" 0)) / 1000))
 }
 
 part 'all files of tzdata.zi read' read

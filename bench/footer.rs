@@ -1,4 +1,4 @@
-//! The sums of `crates/footer_bench` in plain Rust: the same function of the same footer.
+//! The sums of `crates/bench/src/footer.rt` in plain Rust: the same function of the same footer.
 
 mod posix;
 

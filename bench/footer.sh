@@ -7,6 +7,6 @@ set -eu
 side_by_side footer
 
 for instants in near far kept spans; do
-    show_call "proved $instants" "$(best crates/footer_bench/out/footer_bench "$instants")" 10000000
+    show_call "proved $instants" "$(best "$bench" footer "$instants")" 10000000
     show_call "plain Rust $instants" "$(best "$work/footer" "$instants")" 10000000
 done

@@ -3,14 +3,20 @@
 # in microseconds a call. Beside each stands `pieces.rs` by `rustc -O`. The best of five runs. It needs `rt` and `rustc`.
 set -eu
 . "$(dirname "$0")/common.sh"
-build pieces_bench
+build bench pieces
 plain pieces
 
+# show_pieces NAME COMMAND...: of a command whose words are workers, pieces and rounds
+show_pieces() {
+    name=$1
+    shift
+    many=$(($(best "$@" "$workers" 1000000 11) - $(best "$@" "$workers" 1000000 1)))
+    few=$(($(best "$@" "$workers" 4 2001) - $(best "$@" "$workers" 4 1)))
+    printf '%s, %s workers: %d.%d ns a piece, %d.%d us a call of 4 pieces\n' "$name" "$workers" \
+        $((many / 10000000)) $((many / 1000000 % 10)) $((few / 2000000)) $((few / 200000 % 10))
+}
+
 for workers in 1 2 4; do
-    for program in crates/pieces_bench/out/pieces_bench "$work/pieces"; do
-        many=$(($(best "$program" "$workers" 1000000 11) - $(best "$program" "$workers" 1000000 1)))
-        few=$(($(best "$program" "$workers" 4 2001) - $(best "$program" "$workers" 4 1)))
-        printf '%s, %s workers: %d.%d ns a piece, %d.%d us a call of 4 pieces\n' "$(basename "$program")" "$workers" \
-            $((many / 10000000)) $((many / 1000000 % 10)) $((few / 2000000)) $((few / 200000 % 10))
-    done
+    show_pieces 'proved' "$bench" pieces
+    show_pieces 'plain Rust' "$work/pieces"
 done

@@ -3,14 +3,18 @@
 # that are read, and prints the nanoseconds of processor time of each, the best of five runs. It needs `rt` on the PATH.
 set -eu
 . "$(dirname "$0")/common.sh"
-build row_bench
-cmp "$work/proved.out" crates/row_bench/stdout
+build bench rows
+cmp "$work/proved.out" - <<'END'
+near 640000000
+far 640000000
+read 49999999995000000
+END
 
 # the nanoseconds of processor time that a run takes, the best of five
 best_of_processor() {
     least=
     for _ in 1 2 3 4 5; do
-        took=$(bash -c 'TIMEFORMAT=%3U; time crates/row_bench/out/row_bench "$0" >/dev/null' "$1" 2>&1 | tr -d . | sed 's/^0*//')
+        took=$(bash -c 'TIMEFORMAT=%3U; time "$0" rows "$1" >/dev/null' "$bench" "$1" 2>&1 | tr -d . | sed 's/^0*//')
         took=${took:-0}000000
         if [ -z "$least" ] || [ "$took" -lt "$least" ]; then least=$took; fi
     done

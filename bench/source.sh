@@ -5,8 +5,7 @@
 # and `rustc` on the PATH.
 set -eu
 . "$(dirname "$0")/common.sh"
-reader=crates/source_counts/out/source_counts
-build source_counts
+build probe counts
 plain fields
 
 awk 'BEGIN { for (i = 0; i < 10000; i++) printf "Rule set%d 2000 max - Mar Sun>=8 2:00 1:00 D\n", i }' >"$work/rules"
@@ -15,14 +14,14 @@ awk 'BEGIN { for (i = 0; i < 10000; i++) printf "Zone Area/City%d 1:00 - CET\n",
 awk 'BEGIN { print "Zone A 0 - AAA 1"; for (i = 2; i < 10000; i++) print "1:00 - CET 1990 Mar Sun>=8 2:00"; print "1:00 - CET" }' >"$work/continuations"
 awk 'BEGIN { print "Zone Name/0 1:00 - CET"; for (i = 9999; i > 0; i--) printf "Link Name/%d Name/%d\n", i - 1, i }' >"$work/chain"
 
-# microseconds of one reading of the input by program $1: the difference that twenty make
+# micros COMMAND...: microseconds of one reading of the input: the difference that twenty make
 micros() {
-    echo $((($(best "$1" 20) - $(best "$1" 0)) / 20000))
+    echo $((($(best "$@" 20) - $(best "$@" 0)) / 20000))
 }
 
 compare() {
     input=$2
-    read=$(micros "$reader")
+    read=$(micros "$probe" counts)
     apart=$(micros "$work/fields")
     printf '%s: %d octets, read in %d.%03d ms, only taken apart in %d.%03d ms\n' "$1" "$(wc -c <"$2")" \
         $((read / 1000)) $((read % 1000)) $((apart / 1000)) $((apart % 1000))

@@ -4,10 +4,9 @@
 # It needs `rt`, `zic` and the release.
 set -eu
 . "$(dirname "$0")/common.sh"
-changes=crates/zone_changes/out/zone_changes
-build zone_changes
+build probe counts
 input=$release
 
 # one round: the difference that twenty make
-show 'timeline of all zones of tzdata.zi' $((($(best "$changes" 20) - $(best "$changes" 0)) / 20))
+show 'timeline of all zones of tzdata.zi' $((($(best "$probe" changes 20) - $(best "$probe" changes 0)) / 20))
 show 'zic, its whole run' "$(best zic -b fat -d "$work/files" "$release")"

@@ -1,4 +1,4 @@
-//! For `bench/zone.sh`, in plain Rust: the sums of `crates/zone_bench` of the file on standard input, where its footer isn't
+//! For `bench/zone.sh`, in plain Rust: the sums of `crates/bench/src/zone.rt` of the file on standard input, where its footer isn't
 //! asked; or with the word `rising` or `random` what `partition_point` finds at the same instants among the same times.
 
 use std::io::Read;

@@ -4,10 +4,10 @@
 # five runs. It needs `rt` and `rustc` on the PATH.
 set -eu
 . "$(dirname "$0")/common.sh"
-input=crates/zone_bench/stdin
+input=bench/new_york.tzif
 side_by_side zone
 
 for instants in rising random; do
-    show_call "Zone::at, $instants" "$(best crates/zone_bench/out/zone_bench "$instants")" 10000000
+    show_call "Zone::at, $instants" "$(best "$bench" zone "$instants")" 10000000
     show_call "partition_point in plain Rust, $instants" "$(best "$work/zone" "$instants")" 10000000
 done

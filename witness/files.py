@@ -2,10 +2,10 @@
 """Compares the files of a release of the tz database with those that the system's zic makes of it, and what Tugboreke's reader
 answers with two other readers: Python's zoneinfo and reader.py.
 
-usage: files.py FOLDER ANSWERS
+usage: files.py FOLDER PROBE
 
-FOLDER has the folders `ours`, `fat` and `slim`, with our files and those of `zic -b fat` and `zic -b slim`. ANSWERS is the program of
-crates/file_answers. Prints a line for each comparison, and each difference; the status is 1 if there is one.
+FOLDER has the folders `ours`, `fat` and `slim`, with our files and those of `zic -b fat` and `zic -b slim`. PROBE is the program of
+crates/probe, which answers by its word `files`. Prints a line for each comparison, and each difference; the status is 1 if there is one.
 """
 import io
 import os
@@ -119,7 +119,7 @@ def compare_with_fat(folder, names):
 
 def answers_of(program, questions):
     """one answer for each of these lines"""
-    ran = subprocess.run([program], input="".join(questions), stdout=subprocess.PIPE, text=True, encoding="ascii", check=True)
+    ran = subprocess.run([program, "files"], input="".join(questions), stdout=subprocess.PIPE, text=True, encoding="ascii", check=True)
     answers = ran.stdout.split("\n")[:-1]
     assert len(answers) == len(questions), f"{len(answers)} answers to {len(questions)} questions"
     return answers

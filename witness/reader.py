@@ -37,7 +37,7 @@ NAME = r"(?:[A-Za-z]{3,}|<[A-Za-z0-9+-]{3,}>)"
 CLOCK = r"\d{1,%d}(?::\d{1,2}(?::\d{1,2})?)?"
 DAY = r"(?:J\d{1,3}|\d{1,3}|M\d{1,2}\.\d\.\d)"
 TIME = {2: CLOCK % 2, 3: "[+-]?" + CLOCK % 3}
-MOST_HOURS = {2: 24, 3: 167}
+MAX_HOURS = {2: 24, 3: 167}
 
 
 def pattern(version):
@@ -71,7 +71,7 @@ def day(text):
 
 
 def edge(day_text, time, version):
-    return day(day_text), 7200 if time is None else seconds(time, MOST_HOURS[version])
+    return day(day_text), 7200 if time is None else seconds(time, MAX_HOURS[version])
 
 
 @lru_cache(maxsize=None)

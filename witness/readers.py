@@ -4,8 +4,9 @@ zoneinfo.
 
 usage: readers.py PROGRAM LIST FOLDER
 
-The footers are those of LIST, one a line, and of the TZif files in FOLDER. PROGRAM answers lines `FOOTER INSTANT` with lines `OFFSET
-FLAG ABBREVIATION`. It is asked one second before each edge from 1970 to 2500, at the edge, and one second after it.
+The footers are those of LIST, one a line, and of the TZif files in FOLDER. PROGRAM is that of crates/probe, which by its word
+`footers` answers lines `FOOTER INSTANT` with lines `OFFSET FLAG ABBREVIATION`. It is asked one second before each edge from 1970 to
+2500, at the edge, and one second after it.
 
 A reader may differ only where it is known to (docs/DECISIONS.md, "Other readers of footers"), and there has to show just what its
 own way gives: an instant where it does is left out. PROGRAM may never differ from the definitions as footers.py has them. Prints
@@ -112,7 +113,7 @@ class Meaning:
 def ask_program(program, questions):
     """its answers as (offset, flag, abbreviation)"""
     lines = "".join(f"{text} {t}\n" for text, t in questions)
-    answers = subprocess.run([program], input=lines, stdout=subprocess.PIPE, text=True, check=True).stdout.splitlines()
+    answers = subprocess.run([program, "footers"], input=lines, stdout=subprocess.PIPE, text=True, check=True).stdout.splitlines()
     if len(answers) != len(questions):
         sys.exit(f"{len(answers)} answers to {len(questions)} questions")
     for answer in answers:

@@ -2,11 +2,11 @@
 """Has readers of TZif look zones up in a tree of our files, as programs do, and compares what they show with reader.py: glibc by TZDIR,
 Python's zoneinfo by its search path, and the kit's jiff.
 
-usage: trees.py TREE JIFF
+usage: trees.py TREE PROBE
 
-JIFF is the program of crates/jiff_answers. Each reader is asked at each transition and each edge of a footer up to 2200, at the first of
-each half year from 1900, and one second before each. Prints a line for each reader, and the first differences; the status is 1 if
-there is one.
+PROBE is the program of crates/probe, which by its word `jiff` asks the kit's jiff. Each reader is asked at each transition and each
+edge of a footer up to 2200, at the first of each half year from 1900, and one second before each. Prints a line for each reader, and
+the first differences; the status is 1 if there is one.
 """
 import os
 import subprocess
@@ -43,7 +43,7 @@ def by_zoneinfo(name, instants):
 
 def by_jiff(program, path, instants):
     questions = "".join(f"{t}\n" for t in instants)
-    ran = subprocess.run([program, path], input=questions, stdout=subprocess.PIPE, text=True, check=True)
+    ran = subprocess.run([program, "jiff", path], input=questions, stdout=subprocess.PIPE, text=True, check=True)
     for answer in ran.stdout.splitlines():
         offset, flag, name = answer.split() if answer != "refused" else (0, 0, answer)
         yield int(offset), int(flag), name

@@ -1,6 +1,7 @@
 //! Conversion columns, with outside values.
 
 mod devices;
+mod rounds;
 
 use std::alloc::Global;
 use std::io::{Read, Write};

@@ -4,7 +4,7 @@ use std::alloc::Global;
 use std::test::Fail;
 use zic_command_line::*;
 
-/// What the words ask for, or that it is nothing.
+/// Returns what the words ask for, or that it is nothing.
 fn asked(alloc: Global, line: &str) -> Result<String, Fail> {
     let mut words = Vec::new(alloc);
     for word in line.split_whitespace() {
@@ -46,6 +46,7 @@ fn asked(alloc: Global, line: &str) -> Result<String, Fail> {
             )?)
         }
         Ok(Request::Show { file, instant }) => Ok(format!(in alloc; "show {file} {instant}")?),
+        Ok(Request::Version { text }) => Ok(text),
         Err(NoRequest::Usage(_)) => Ok(String::from_str(alloc, "usage")?),
         Err(NoRequest::Memory) => Err(Fail::from("out of memory")),
     }
@@ -54,6 +55,10 @@ fn asked(alloc: Global, line: &str) -> Result<String, Fail> {
 #[test]
 fn words_are_a_request_or_a_usage_fault(rt: HostRuntime) -> Result<(), Fail> {
     let cases = [
+        (
+            "pzic --version",
+            "pzic 0.1.0\nproved with rattle-kit-13b logic dac8208d650f15bf\n",
+        ),
         ("pzic check -", "check - by 4 of 16"),
         (
             "pzic check --workers 64 zones --zone-piece=65536",

@@ -14,8 +14,8 @@ use zic_bulk::Plan;
 use zic_commands::*;
 use zic_counted::Counted;
 
-/// The file of `Zone Etc/UTC 0 - UTC`, as RFC 9636 has its parts: two headers, an empty first block, one local time
-/// type, its designation and the footer.
+/// The file of `Zone Etc/UTC 0 - UTC`, as RFC 9636 has its parts: two headers, an empty first
+/// block, one local time type, its designation and the footer.
 const UTC_FILE: &[u8; 111] =
     b"TZif2\0\0\0\0\0\0\0\0\0\0\0\0\0\0\0\0\0\0\0\0\0\0\0\0\0\0\0\0\0\0\0\0\0\0\x01\0\0\0\x01\0\0\0\0\0\0\0TZif2\0\0\0\0\0\0\0\0\0\0\0\0\0\0\0\0\0\0\0\0\0\0\0\0\0\0\0\0\0\0\0\0\0\0\x01\0\0\0\x04\0\0\0\0\0\0UTC\0\nUTC0\n";
 
@@ -39,16 +39,16 @@ impl Write for Broken {
     }
 }
 
-/// A plan of so many workers, with one zone in a piece.
+/// Returns a plan of this number of workers, with one zone in a piece.
 fn plan(workers: u64) -> Result<Plan, Fail> {
     Ok(Plan::new(workers, 1, 1, 0, 0).ok_or("no plan")?)
 }
 
-/// What `check` writes, or the failure's text and status.
+/// Returns what `check` writes, or the failure's text and status.
 fn checked<T: Threads + Wait + Sync>(rt: &T, alloc: Global, source: &str) -> Result<String, Fail> {
-    let mut reader = Counted::new(source.as_bytes());
+    let texts = [Vec::from_slice(alloc, source.as_bytes())?];
     let mut writer = Counted::new(Vec::new(alloc));
-    match check(rt, alloc, &plan(2)?, "-", &mut reader, &mut writer) {
+    match check(rt, alloc, &plan(2)?, &texts, &mut writer) {
         Ok(()) => Ok(
             String::from_utf8(writer.into_inner())
                 .ok()
@@ -58,6 +58,7 @@ fn checked<T: Threads + Wait + Sync>(rt: &T, alloc: Global, source: &str) -> Res
     }
 }
 
+/// Returns the failure's text and status.
 fn told(alloc: Global, failure: Failure) -> Result<String, Fail> {
     let status = failure.status();
     Ok(format!(in alloc; "{failure}, status {status}")?)
@@ -259,16 +260,19 @@ fn check_tells_rules_that_no_footer_can_have(rt: HostRuntime) -> Result<(), Fail
 #[test]
 fn check_tells_what_cannot_be_read_or_written(rt: HostRuntime) -> Result<(), Fail> {
     let alloc = rt.alloc();
-    let (plan, mut broken) = (plan(1)?, Counted::new(Broken));
-    let mut out = Counted::new(Vec::new(alloc));
-    let unread = check(&rt, alloc, &plan, "zones", &mut broken, &mut out);
+    let mut broken = Counted::new(Broken);
+    let unread = read_source_text(alloc, "zones", &mut broken);
     let unread = told(alloc, unread.err().ok_or("it was read")?)?;
     assert_eq!(rt; unread.as_str(), "cannot read zones, status 3");
     assert_eq!(rt; broken.failures(), 1, "of the reader");
     let mut source = Counted::new(b"Zone Etc/UTC 0 - UTC\n".as_slice());
-    let unwritten = check(&rt, alloc, &plan, "zones", &mut source, &mut broken);
+    let text = read_source_text(alloc, "zones", &mut source)
+        .ok()
+        .ok_or("it was not read")?;
+    let unwritten = check(&rt, alloc, &plan(1)?, &[text], &mut broken);
     let unwritten = told(alloc, unwritten.err().ok_or("it was written")?)?;
     assert_eq!(rt; unwritten.as_str(), "cannot write output, status 3");
+    assert_eq!(rt; broken.failures(), 2, "of the reader and the writer");
     Ok(())
 }
 
@@ -283,16 +287,14 @@ impl Read for Endless {
     }
 }
 
-/// What `show` writes of a file, or the failure's text and status.
+/// Returns what `show` writes of a file, or the failure's text and status.
 fn showed<R: Read + Drop>(alloc: Global, reader: R, instant: i64) -> Result<String, Fail> {
+    let bytes = match read_file_bytes(alloc, "utc", &mut Counted::new(reader)) {
+        Ok(bytes) => bytes,
+        Err(failure) => return told(alloc, failure),
+    };
     let mut writer = Counted::new(Vec::new(alloc));
-    match show(
-        alloc,
-        "utc",
-        &mut Counted::new(reader),
-        instant,
-        &mut writer,
-    ) {
+    match show(alloc, &bytes, instant, &mut writer) {
         Ok(()) => Ok(
             String::from_utf8(writer.into_inner())
                 .ok()
@@ -331,6 +333,6 @@ fn an_instant_is_an_optional_minus_and_digits(rt: HostRuntime) {
         ("1 ", None),
     ];
     for (text, want) in rows {
-        assert_eq!(rt; parse_instant(text), want, "of {text:?}");
+        assert_eq!(rt; parse_instant_word(text), want, "of {text:?}");
     }
 }

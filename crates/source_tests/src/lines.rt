@@ -16,7 +16,7 @@ fn read(alloc: Global, awaited: bool, line: &[u8]) -> Result<Option<Entry>, Stop
     Ok(Some(line_entry(alloc, awaited, PLACE, &fields)?))
 }
 
-/// Octets as text.
+/// Returns bytes as text.
 fn text_of(alloc: Global, octets: &[u8]) -> Result<String, Fail> {
     Ok(
         String::from_utf8(Vec::from_slice(alloc, octets)?)
@@ -55,7 +55,7 @@ fn format_text(alloc: Global, format: &Format) -> Result<String, Fail> {
     Ok(format!(in alloc; "[{before}]{word}[{after}]")?)
 }
 
-/// What a Zone or continuation line says, but a Zone line's name.
+/// Returns a Zone or continuation line as text, without a Zone line's name.
 fn zone_text(alloc: Global, zone: &ZoneLine) -> Result<String, Fail> {
     let Place { text, line } = zone.place;
     let (offset, until) = (zone.offset, zone.until);
@@ -84,7 +84,8 @@ fn said(alloc: Global, entry: &Entry) -> Result<String, Fail> {
     }
 }
 
-/// What this line says where a continuation line is awaited or not, or the kind of its fault.
+/// Returns this line as text, where a continuation line is awaited or not, or the kind of its
+/// fault.
 fn line_text(alloc: Global, awaited: bool, line: &[u8]) -> Result<String, Fail> {
     match read(alloc, awaited, line) {
         Ok(Some(entry)) => said(alloc, &entry),

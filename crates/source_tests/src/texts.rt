@@ -12,7 +12,7 @@ use std::process::Abort;
 use std::test::Fail;
 use zic_source::*;
 
-/// What these texts give, if there is memory for it.
+/// Reads these texts, if there is memory for it.
 fn read(alloc: Global, texts: &[&[u8]]) -> Result<Result<Source, Fault>, Fail> {
     let mut copies = Vec::new(alloc);
     for text in texts {
@@ -25,12 +25,12 @@ fn read(alloc: Global, texts: &[&[u8]]) -> Result<Result<Source, Fault>, Fail> {
     }
 }
 
-/// The source that these texts are.
+/// Returns the source that these texts are.
 fn source(alloc: Global, texts: &[&[u8]]) -> Result<Source, Fail> {
     Ok(read(alloc, texts)?.ok().ok_or("a source")?)
 }
 
-/// The fault that these texts give, if they are no source.
+/// Returns the first fault of these texts, if they are no source.
 fn fault(alloc: Global, texts: &[&[u8]]) -> Result<Option<Fault>, Fail> {
     Ok(read(alloc, texts)?.err())
 }
@@ -59,7 +59,7 @@ fn assert_faults(rt: &impl Abort, alloc: Global, rows: &[(&[u8], u64, Kind)]) ->
     Ok(())
 }
 
-/// Octets as text.
+/// Returns bytes as text.
 fn text_of(alloc: Global, octets: &[u8]) -> Result<String, Fail> {
     Ok(
         String::from_utf8(Vec::from_slice(alloc, octets)?)
@@ -68,7 +68,7 @@ fn text_of(alloc: Global, octets: &[u8]) -> Result<String, Fail> {
     )
 }
 
-/// The one zone's offset and its FORMAT without `%` and `/`.
+/// Returns the one zone's offset and its FORMAT without `%` and `/`.
 fn first_line(alloc: Global, text: &[u8]) -> Result<(i32, Vec<u8>), Fail> {
     let source = source(alloc, &[text])?;
     if source.zones() == 0 {
@@ -215,7 +215,7 @@ fn pairs_of_texts(rt: HostRuntime) -> Result<(), Fail> {
     Ok(())
 }
 
-/// How many zones these texts have.
+/// Returns the number of zones of these texts.
 fn zone_count(alloc: Global, texts: &[&[u8]]) -> Result<usize, Fail> {
     Ok(source(alloc, texts)?.zones())
 }
@@ -257,7 +257,8 @@ fn long_lines(rt: HostRuntime) -> Result<(), Fail> {
     assert_answer(&rt, alloc, &[&line], fault_at(1, 1, Kind::LineTooLong))
 }
 
-/// Twenty texts, of which each has a rule, a zone of two lines, the second of seven fields, and a link.
+/// Twenty texts, of which each has a rule, a zone of two lines, the second of seven fields, and a
+/// link.
 #[test]
 fn twenty_texts(rt: HostRuntime) -> Result<(), Fail> {
     let alloc = rt.alloc();

@@ -4,7 +4,7 @@ use std::test::Fail;
 use zic_calendar::On;
 use zic_words::*;
 
-/// What a time of day says, if it is one.
+/// Returns the time of day that the field names, if it names one.
 fn time(field: &[u8]) -> Option<(i32, ClockForm)> {
     let time = clock_time(field)?;
     Some((time.seconds, time.form))

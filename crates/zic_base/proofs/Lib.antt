@@ -1,2 +1,6 @@
 pub mod MemoryLemmas
 pub mod Checks
+pub mod Elements
+pub mod Lists
+pub mod OrderedLists
+pub mod Options

@@ -12,7 +12,7 @@ use Rattle.zic_base.specs.declared.fault.Stop.TheVariants as stops
 abbrev pub fault_at : Place → Kind → Fault
 fault_at place kind = record { place = place; kind = kind }
 
--- the fault that a stop tells, and nothing where it is want of memory
+-- the fault that a stop tells, and nothing where it is out of memory
 abbrev pub fault_of : Stop → Option Fault
 fault_of (stops.Fault fault) = Some fault
 fault_of stops.Memory = None

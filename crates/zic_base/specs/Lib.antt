@@ -4,5 +4,6 @@ pub mod Memory
 pub mod Option
 pub mod Check
 pub mod Byte
+pub mod Digits
 pub mod State
 pub mod code

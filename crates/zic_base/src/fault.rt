@@ -1,11 +1,12 @@
-//! What is wrong with a source, and where.
+//! Faults of a source: their kinds and places.
 
 ghost use Rattle.std.specs.Prelude.{◌≡◌};
 
 use crate::place::Place;
 use std::alloc::{AllocError, AllocFailed};
 
-/// What is wrong with a line of source text, a zone or its file. The number of each kind is fixed; 31 is not used.
+/// The kind of a fault of a source line, of a zone or of its file. The number of each kind is
+/// fixed; 31 is not used.
 #[derive(Clone, Copy, Debug, PartialEq, Eq)]
 pub enum Kind {
     /// A byte outside a comment is neither white space nor from 0x21 to 0x7E.
@@ -46,8 +47,8 @@ pub enum Kind {
     NoContinuation = 18,
     /// A Zone or Link name was there before.
     DuplicateName = 19,
-    /// A line passes a limit: 1,000 Rule lines of a set or 10,000 in all, 10,000 Zone and continuation lines, or 10,000
-    /// Zone and Link names.
+    /// A line passes a limit: 1,000 Rule lines of a set or 10,000 in all, 10,000 Zone and
+    /// continuation lines, or 10,000 Zone and Link names.
     TooMany = 20,
     /// No Rule line has the set's name.
     UnknownRules = 21,
@@ -73,14 +74,14 @@ pub enum Kind {
     TooManyChanges = 32,
     /// A zone has more than 256 local time types.
     TooManyTypes = 33,
-    /// A zone has more than 256 octets of designations.
+    /// A zone has more than 256 bytes of designations.
     TooManyChars = 34,
 }
 
 impl Kind {
     ghost use Rattle.zic_base.specs.Fault.{kind_number};
 
-    /// The number of the kind, 1 to 34; 31 is no kind's.
+    /// Returns the number of the kind, 1 to 34; no kind has 31.
     pub fn number(self) -> u8
         ensures { result ≡ kind_number self }
     {
@@ -95,19 +96,19 @@ pub struct Fault {
     pub kind: Kind,
 }
 
-/// Why a source isn't read, or a zone isn't compiled.
+/// The reason why a source isn't read, or a zone isn't compiled.
 #[derive(Clone, Copy, Debug, PartialEq, Eq)]
 pub enum Stop {
     /// The first fault.
     Fault(Fault),
-    /// A growth of memory was refused.
+    /// Out of memory.
     Memory,
 }
 
 impl Stop {
     ghost use Rattle.zic_base.specs.Fault.{fault_at};
 
-    /// A fault of this kind at this place.
+    /// Returns the stop for a fault of this kind at this place.
     pub fn at(place: Place, kind: Kind) -> Stop
         ensures { result ≡ Stop.Fault (fault_at place kind) }
     {

@@ -1,8 +1,9 @@
-//! What all crates share: where a line stands, what is wrong with a source or a zone, short texts, the bytes of
-//! abbreviations, states, and limits.
+//! What all crates share: places of lines, faults of sources and zones, short texts, the bytes of
+//! abbreviations, digits, states, and limits. The tests stand here, in the module `tests`.
 #![tactic(auto)]
 
 mod byte;
+mod digits;
 mod fault;
 mod limit;
 mod place;
@@ -10,6 +11,7 @@ mod short_text;
 mod state;
 
 pub use byte::{are_abbreviation_bytes, is_abbreviation_byte};
+pub use digits::{clock_text, offset_text, two_digits};
 pub use fault::{Fault, Kind, Stop};
 pub use limit::{FARTHEST_FILE_OFFSET, LONGEST_ABBREVIATION, LONGEST_FILE, SHORTEST_ABBREVIATION};
 pub use place::Place;

@@ -1,8 +1,8 @@
-//! Where a line stands.
+//! Places of lines.
 
 ghost use Rattle.std.specs.Prelude.{◌↔◌, IsTrue};
 
-/// Where a line stands: the text's number and the line's number in it, both from 1.
+/// The place of a line: the text's number and the line's number in it, both from 1.
 #[derive(Clone, Copy, Debug, PartialEq, Eq)]
 pub struct Place {
     pub text: u64,
@@ -12,7 +12,8 @@ pub struct Place {
 impl Place {
     ghost use Rattle.zic_base.specs.Place.{IsBefore};
 
-    /// Whether this place stands before the other: in an earlier text, or in an earlier line of the same text.
+    /// Returns whether this place stands before the other: in an earlier text, or in an earlier
+    /// line of the same text.
     pub fn is_before(self, other: Place) -> bool
         ensures { IsTrue result ↔ IsBefore self other }
     {

@@ -11,25 +11,25 @@ use std::alloc::{AllocError, Global};
 use std::hash::{Hash, Hasher};
 use std::marker::Model;
 
-/// Octets, which are kept inline where there are at most `N`; clauses see their list. Texts are equal where their octets
-/// are.
+/// Bytes, which are kept inline where there are at most `N`; clauses see their list. Texts are
+/// equal where their bytes are.
 #[derive(Debug, Drop)]
 pub struct ShortText<const N: usize> {
     octets: Octets<N>,
 }
 
-/// Where the octets of a text lie.
+/// The bytes of a text, inline or on the heap.
 #[derive(Debug, Drop)]
 enum Octets<const N: usize> {
     Inline(Inline<N>),
     Heap(Vec<u8>),
 }
 
-/// At most `N` octets; clauses see their list.
+/// At most `N` bytes; clauses see their list.
 #[derive(Debug, Drop)]
 struct Inline<const N: usize> {
     len: usize,
-    /// The octets and zeros after them.
+    /// The bytes and zeros after them.
     places: [u8; N],
 }
 
@@ -44,7 +44,7 @@ impl<const N: usize> Model for Inline<N> {
 }
 
 impl<const N: usize> Inline<N> {
-    /// A copy of these octets.
+    /// Returns a copy of these bytes.
     fn new(octets: &[u8]) -> Self
         requires { length octets.now ≤ N }
         ensures { result ≡ octets.now }
@@ -55,14 +55,14 @@ impl<const N: usize> Inline<N> {
         Inline { len, places }
     }
 
-    /// The octets.
+    /// Returns the bytes.
     fn octets(&self) -> &[u8]
         ensures { result.now ≡ self.now }
     {
         &self.places[..self.len]
     }
 
-    /// The same octets.
+    /// Returns a text of the same bytes.
     fn copy(&self) -> Self
         ensures { result ≡ self.now }
     {
@@ -83,7 +83,7 @@ impl<const N: usize> Model for ShortText<N> {
 }
 
 impl<const N: usize> ShortText<N> {
-    /// A copy of these octets, which takes memory only where there are more than `N`.
+    /// Returns a copy of these bytes. Takes memory only where there are more than `N`.
     pub fn new(alloc: Global, octets: &[u8]) -> Result<Self, AllocError>
         ensures ok { IfOk result (λ text. text ≡ octets.now) }
         ensures inline { length octets.now ≤ N → IsOk result }
@@ -96,7 +96,7 @@ impl<const N: usize> ShortText<N> {
         Ok(ShortText { octets })
     }
 
-    /// The octets.
+    /// Returns the bytes.
     pub fn octets(&self) -> &[u8]
         ensures { result.now ≡ self.now }
     {

@@ -1,7 +1,7 @@
-//! What a zone shows, as callers see it.
+//! States of a zone, as callers see them.
 
-/// What a zone shows at an instant.
-#[derive(Clone, Copy, Debug, PartialEq, Eq)]
+/// The state that a zone shows at an instant: RFC 9636, 2.
+#[derive(Clone, Copy, Debug, PartialEq, Eq, Hash)]
 pub struct State<'a> {
     /// Total UT offset in seconds, positive east.
     pub offset: i32,

@@ -1,4 +1,4 @@
-//! Kinds, places and texts.
+//! Kinds, places, texts and digits.
 
 use super::*;
 use std::alloc::Global;
@@ -40,4 +40,12 @@ fn texts_inline_and_not(rt: HostRuntime) -> Result<(), Fail> {
 fn abbreviation_bytes(rt: HostRuntime) {
     assert!(rt; are_abbreviation_bytes(b"CEST+02-Z"));
     assert!(rt; !are_abbreviation_bytes(b"C_T") && !is_abbreviation_byte(b' '));
+}
+
+#[test]
+fn digits(rt: HostRuntime) {
+    assert_eq!(rt; two_digits(7), *b"07");
+    assert_eq!(rt; clock_text(7_199), *b"01:59:59");
+    assert_eq!(rt; offset_text(-18_000), *b"-05:00:00");
+    assert_eq!(rt; offset_text(93_599), *b"+25:59:59");
 }

@@ -5,21 +5,14 @@ use Rattle.std.specs.List.{AllZip}
 use Rattle.std.proofs.lemmas.Option.{same_Some, slice_get_within, get_or_from_slice_get}
 use Rattle.zic_base.specs.Place.{IsBefore}
 use Rattle.zic_base.specs.declared.place.Place.{Place}
+use Rattle.zic_base.proofs.Options.{some_of, if_at}
 use Rattle.zic_lines.specs.declared.link.Link.{Link}
 use Rattle.zic_source.specs.Links.{EndsAt}
 use Rattle.zic_source.specs.Sound.{StandInOrder}
 use Rattle.zic_source.specs.Source.{SourceLines, ZoneLines, zone_at}
-use Rattle.zic_bulk.specs.declared.entry.Entry.{Entry}
+use Rattle.zic_files.specs.declared.entry.Entry.{Entry}
 use Rattle.zic_bulk.specs.code.Entries.{AreEntriesOf, IsEntryAt, IsEntryOfZone, IsEntryOfLink, IsZoneNext, IsLinkNext}
 use Rattle.zic_bulk.proofs.Merging.{IsMerged, none_merged, one_merged, turned, all_first}
-
-pub some_of : {X : Type 0} (o : Option X) (P : X → Type 0) → IsSomeAnd o P → (x : X) × (o ≡ Some x) × P x
-some_of None P h = absurd h
-some_of (Some x) P h = (x, refl, h)
-
-pub if_at : {X : Type 0} (o : Option X) (P : X → Type 0) (x : X) → IfSome o P → o ≡ Some x → P x
-if_at None P x h e = absurd cc
-if_at (Some y) P x h e = subst P (same_Some y x e) h
 
 and_at : {X : Type 0} (o : Option X) (P : X → Type 0) (x : X) → o ≡ Some x → P x → IsSomeAnd o P
 and_at {X = X} o P x e p = subst (λ (q : Option X). IsSomeAnd q P) (sym e) p

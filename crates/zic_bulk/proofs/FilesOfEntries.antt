@@ -7,11 +7,11 @@ use Rattle.std.proofs.lemmas.List.Elements.{All-nil, All-cons}
 use Rattle.zic_base.specs.declared.place.Place.{Place}
 use Rattle.zic_source.specs.Links.{LeadsTo}
 use Rattle.zic_source.specs.Source.{SourceLines, zone_at}
-use Rattle.zic_image.specs.Image.{FileImage}
+use Rattle.zic_files.specs.File.{FileImage, file_of, no_image}
 use Rattle.zic_bulk.specs.Files.{AreFilesOf, AreImagesOf, IsFileAt}
-use Rattle.zic_bulk.specs.declared.entry.Entry.{Entry}
-use Rattle.zic_bulk.specs.code.Entries.{AreEntriesOf, IsEntryAt, file_of, no_image}
-use Rattle.zic_bulk.proofs.Entries.{some_of}
+use Rattle.zic_files.specs.declared.entry.Entry.{Entry}
+use Rattle.zic_bulk.specs.code.Entries.{AreEntriesOf, IsEntryAt}
+use Rattle.zic_base.proofs.Options.{some_of}
 
 -- the image of a zone
 image_at : (source : SourceLines) (images : List FileImage) (n : ℕ) → AreImagesOf source images → n < length source.zones → slice_get images n ≡ Some (get_or images n no_image)

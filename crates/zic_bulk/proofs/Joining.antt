@@ -6,7 +6,7 @@ use Rattle.std.proofs.lemmas.Grind.{div_ceil_times}
 use mathlib.Core.Option.{some}
 use lib.ListN.{get_elem?}
 use Rattle.zic_base.specs.declared.fault.Fault.{Fault}
-use Rattle.zic_image.specs.Image.{FileImage}
+use Rattle.zic_files.specs.File.{FileImage}
 use Rattle.zic_pieces.specs.Task.{HaveValues, AreValues, IsStop}
 use Rattle.zic_pieces.specs.declared.task.TaskStop.{TaskStop}
 use Rattle.zic_pieces.specs.declared.task.TaskStop.TheVariants as task

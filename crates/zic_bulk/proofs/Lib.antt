@@ -1,11 +1,9 @@
 pub mod Merging
 pub mod Entries
 pub mod FilesOfEntries
-pub mod Numbers
 pub mod Zones
 pub mod Joining
 pub mod Stops
-pub mod Lists
 pub mod NamesOf
 pub mod SoundFiles
 pub mod OneFiles

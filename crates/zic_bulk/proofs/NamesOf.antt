@@ -8,12 +8,12 @@ use Rattle.zic_lines.specs.declared.link.Link.{Link}
 use Rattle.zic_source.specs.Links.{EndsAt, LeadsTo, is_link_name}
 use Rattle.zic_source.specs.Sound.{IsSoundSource, names_of}
 use Rattle.zic_source.specs.Source.{SourceLines, ZoneLines, zone_at}
-use Rattle.zic_source.proofs.Elements.{contains_got, get_contained, one_that_passes}
+use Rattle.zic_base.proofs.Elements.{contains_got, get_contained, one_that_passes}
 use Rattle.zic_source.proofs.SameBytes.{bytes_eq_means}
 use Rattle.zic_source.proofs.links.NamesDiffer.{NamesDiffer, one_end}
-use Rattle.zic_table.proofs.Lists.{get_mapped}
-use Rattle.zic_bulk.proofs.Entries.{some_of}
-use Rattle.zic_bulk.proofs.Lists.{at_left, at_right, one_number}
+use Rattle.zic_base.proofs.Lists.{get_mapped}
+use Rattle.zic_base.proofs.Options.{some_of}
+use Rattle.zic_base.proofs.OrderedLists.{at_left, at_right, one_number}
 
 module _ (source : SourceLines) where
   abbrev zone_names : List (List ℕ)

@@ -11,21 +11,22 @@ use Rattle.zic_source.specs.Event.{events_of}
 use Rattle.zic_source.specs.Links.{EndsAt}
 use Rattle.zic_source.specs.Sound.{IsSoundSource}
 use Rattle.zic_source.specs.Source.{SourceLines, ZoneLines, zone_at}
-use Rattle.zic_source.proofs.Elements.{contains_got, get_contained, got}
+use Rattle.zic_base.proofs.Elements.{contains_got, get_contained, got}
 use Rattle.zic_source.proofs.faults.FirstFault.{source_has_no_fault}
 use Rattle.zic_source.proofs.faults.Order.{before_before, not_before_itself}
 use Rattle.zic_source.proofs.reading.Once.{read_once}
 use Rattle.zic_source.proofs.sound.Sources.{source_is_sound}
 use Rattle.zic_states.proofs.Lines.{orderly}
-use Rattle.zic_stretches.specs.Stretch.{zone_of}
+use Rattle.zic_rules.specs.Period.{zone_of}
 use Rattle.zic_rules.specs.Timeline.{IsWhole}
-use Rattle.zic_image.specs.Image.{FileImage, IsImageOf}
-use Rattle.zic_image.proofs.OneFault.{has_end}
-use Rattle.zic_image.proofs.OneImage.{one_image, images_without_fault}
-use Rattle.zic_bulk.specs.Files.{File, AreImagesOf, IsFileAt, IsFileOfZone, IsFileOfLink, AreFilesOf, IsFaultOfFiles}
+use Rattle.zic_files.specs.File.{FileImage, File}
+use Rattle.zic_table.specs.Image.{IsImageOf}
+use Rattle.zic_table.proofs.OneFault.{has_end}
+use Rattle.zic_table.proofs.OneImage.{one_image, images_without_fault}
+use Rattle.zic_bulk.specs.Files.{AreImagesOf, IsFileAt, IsFileOfZone, IsFileOfLink, AreFilesOf, IsFaultOfFiles}
 use Rattle.zic_bulk.specs.Laws.{TextsHaveOneListOfFiles, NoFilesHaveAFault}
-use Rattle.zic_bulk.proofs.Entries.{some_of}
-use Rattle.zic_bulk.proofs.Lists.{same_lists, one_zip, zipped, one_rising, one_by_key}
+use Rattle.zic_base.proofs.Options.{some_of}
+use Rattle.zic_base.proofs.OrderedLists.{same_lists, one_zip, zipped, one_rising, one_by_key}
 use Rattle.zic_bulk.proofs.NamesOf.{one_zone}
 
 module _ (source : SourceLines) (sound : IsSoundSource source) where

@@ -11,20 +11,20 @@ use Rattle.zic_words.specs.Name.{is_name}
 use Rattle.zic_lines.specs.declared.link.Link.{Link}
 use Rattle.zic_source.specs.Sound.{IsSoundSource, IsSoundZone, IsSoundLink, names_of}
 use Rattle.zic_source.specs.Source.{SourceLines, ZoneLines, zone_at}
-use Rattle.zic_source.proofs.Elements.{all_got, get_contained}
+use Rattle.zic_base.proofs.Elements.{all_got, get_contained}
 use Rattle.zic_source.proofs.faults.Order.{not_before_itself}
-use Rattle.zic_stretches.specs.Stretch.{zone_of}
+use Rattle.zic_rules.specs.Period.{zone_of}
 use Rattle.zic_rules.proofs.Limits.{shows_within_limits}
 use Rattle.zic_posix.specs.Footer.{TzString}
 use Rattle.zic_posix.specs.Printing.{printed, printed_name, printed_offset, printed_rest, printed_seconds, printed_number}
-use Rattle.zic_table.specs.Content.{Content}
-use Rattle.zic_table.proofs.Lists.{get_mapped}
-use Rattle.zic_image.specs.Image.{FileImage}
-use Rattle.zic_bulk.specs.Files.{File, IsReadImage, AreImagesOf, IsFileAt}
+use Rattle.zic_content.specs.Content.{Content}
+use Rattle.zic_base.proofs.Lists.{get_mapped}
+use Rattle.zic_files.specs.File.{FileImage, File}
+use Rattle.zic_bulk.specs.Files.{IsReadImage, AreImagesOf, IsFileAt}
 use Rattle.zic_bulk.specs.Laws.{FilesAreSound}
-use Rattle.zic_bulk.specs.Sound.{IsAlwaysKnown, IsSoundFile}
-use Rattle.zic_bulk.proofs.Entries.{some_of}
-use Rattle.zic_bulk.proofs.Lists.{at_left, at_right, one_number}
+use Rattle.zic_files.specs.Sound.{IsAlwaysKnown, IsSoundFile}
+use Rattle.zic_base.proofs.Options.{some_of}
+use Rattle.zic_base.proofs.OrderedLists.{at_left, at_right, one_number}
 use Rattle.zic_bulk.proofs.NamesOf.{zone_name, link_name}
 
 -- ---- a footer has a text

@@ -1,12 +1,14 @@
--- What building from texts comes to: their files, or the first fault. Nothing here speaks of workers or of pieces.
+-- What building from texts comes to: their files, or the first fault. Nothing here speaks of
+-- workers or of pieces.
 use Rattle.std.specs.Prelude.{ℕ, List, ◌⊎◌}
 use Rattle.zic_base.specs.declared.fault.Fault.{Fault}
-use Rattle.zic_source.specs.FirstFault.{IsFirstFault, MayWantMemory}
+use Rattle.zic_source.specs.FirstFault.{IsFirstFault, MayRunOutOfMemory}
 use Rattle.zic_source.specs.Grammar.{IsSource}
 use Rattle.zic_source.specs.Source.{SourceLines}
-use Rattle.zic_bulk.specs.declared.stop.RunStop.{RunStop}
-use Rattle.zic_bulk.specs.declared.stop.RunStop.TheVariants as stops
-use Rattle.zic_bulk.specs.Files.{File, AreFilesOf, IsFaultOfFiles}
+use Rattle.zic_plan.specs.declared.stop.RunStop.{RunStop}
+use Rattle.zic_plan.specs.declared.stop.RunStop.TheVariants as stops
+use Rattle.zic_files.specs.File.{File}
+use Rattle.zic_bulk.specs.Files.{AreFilesOf, IsFaultOfFiles}
 
 -- the texts are a source, and these are its files
 pub record AreFilesOfTexts (texts : List (List ℕ)) (files : List File) : Type 0 where
@@ -20,8 +22,9 @@ IsFaultOfTexts texts fault =
     IsFirstFault texts fault
     ⊎ ((source : SourceLines) × IsSource texts source × IsFaultOfFiles source fault)
 
--- Why there are no files: a fault, or want of memory, which, once the texts are read, may come at any time.
+-- Why there are no files: a fault, or memory ran out, which, once the texts are read, may come at
+-- any time.
 abbrev pub IsStopOfBuild : List (List ℕ) → RunStop → Type 0
 IsStopOfBuild texts (stops.Source fault) = IsFaultOfTexts texts fault
-IsStopOfBuild texts stops.Memory = MayWantMemory texts
+IsStopOfBuild texts stops.Memory = MayRunOutOfMemory texts
 IsStopOfBuild texts _ = ⊥

@@ -3,5 +3,3 @@ pub mod Entries
 pub mod Zones
 pub mod Pieces
 pub mod Stop
-pub mod Names
-pub mod Kept

@@ -2,14 +2,16 @@
 
 ghost use Rattle.std.specs.Prelude.{◌≤◌, length, IfOk};
 ghost use Rattle.zic_base.specs.Fault.{fault_of};
-ghost use Rattle.zic_base.specs.Memory.{IfRefusal, OnWantOfMemory};
+ghost use Rattle.zic_base.specs.Memory.{IfRefusal, OnOutOfMemory};
 ghost use Rattle.zic_bulk.specs.code.Zones.{AreImagesWithin, IsFaultWithin, MayWantWithin};
 
 use std::alloc::Global;
-use zic_image::{Image, image_of};
+use zic_files::Image;
 use zic_source::{Source, Stop};
+use zic_table::image_of;
 
-/// The images of the zones from one number on up to another, in order, or the fault of the first that has one.
+/// Returns the images of the zones from one number on up to another, in order, or the fault of the
+/// first that has one.
 pub(crate) fn images_of(
     alloc: Global,
     source: &Source,
@@ -20,7 +22,7 @@ pub(crate) fn images_of(
     requires zones { end ≤ length source.now.zones }
     ensures ok { IfOk result (λ images. AreImagesWithin source.now first end images.items) }
     ensures err { IfRefusal fault_of result (IsFaultWithin source.now first end) }
-    ensures memory { OnWantOfMemory fault_of result (MayWantWithin source.now first end) }
+    ensures memory { OnOutOfMemory fault_of result (MayWantWithin source.now first end) }
 {
     let mut images = Vec::new(alloc);
     for zone in first..end {

@@ -1,8 +1,9 @@
-//! Laws of files, each the contract of a function. No function here does anything.
+//! Laws of files, each the contract of a function that does nothing.
 
 ghost use Rattle.zic_bulk.specs.Laws.{FilesAreSound, TextsHaveOneListOfFiles, NoFilesHaveAFault, TextsHaveOneFault};
 
-/// The files of a sound source are sound: their names differ, and each tells local time at every instant, within the limits.
+/// The files of a sound source are sound: their names differ, and each tells local time at every
+/// instant, within the limits.
 pub fn files_are_sound()
     ensures { FilesAreSound }
 {}

@@ -1,20 +1,17 @@
-//! The files of a source: one for each Zone and each Link line, in the order of the texts and their lines.
+//! The files of a source: one for each Zone and each Link line, in the order of the texts and
+//! their lines. The tests stand in `program_tests`.
 #![tactic(auto)]
 
-mod building;
-mod compiling;
+mod builder;
+mod compiler;
 mod entry;
-mod files;
 mod images;
 pub mod laws;
-mod names;
 mod pieces;
-mod plan;
-mod stop;
 
-pub use building::build;
-pub use compiling::compile;
-pub use files::Files;
-pub use plan::{MOST_BYTES, MOST_OF_PIECE, MOST_ROWS, MOST_WORKERS, Plan};
-pub use stop::{RowKind, RunStop};
+pub use builder::build;
+pub use compiler::compile;
+pub use zic_convert::convert;
 pub use zic_counted::Counted;
+pub use zic_files::Files;
+pub use zic_plan::{MAX_BYTES, MAX_OF_PIECE, MAX_ROWS, MAX_WORKERS, Plan, RowKind, RunStop};

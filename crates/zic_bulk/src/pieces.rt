@@ -1,15 +1,15 @@
 //! The zones of a source, in pieces for several workers.
 
 ghost use Rattle.std.specs.Prelude.{◌≡◌, ◌≤◌, ◌<◌, ◌+◌, IfOk, flat_map};
-ghost use Rattle.zic_bulk.specs.declared.plan.TheConstants.{MOST_OF_PIECE};
+ghost use Rattle.zic_plan.specs.declared.plan.TheConstants.{MAX_OF_PIECE};
 ghost use Rattle.zic_bulk.specs.code.Pieces.{ArePieces, count_of, start_of};
 
 use crate::images::images_of;
 use std::alloc::{AllocError, Global};
 use std::marker::Model;
-use zic_image::Image;
+use zic_files::Image;
 use zic_pieces::{PieceStop, Task};
-use zic_source::{Fault, MOST_NAMES, Source, Stop};
+use zic_source::{Fault, MAX_NAMES, Source, Stop};
 
 /// The images of the zones of a piece.
 #[derive(Drop)]
@@ -19,14 +19,14 @@ pub(crate) struct Images {
 
 impl Model for Images {
     ghost use Rattle.std.specs.Prelude.{List};
-    ghost use Rattle.zic_image.specs.Image.{FileImage};
+    ghost use Rattle.zic_files.specs.File.{FileImage};
 
     ghost Value = { List FileImage };
 
     ghost view = { λ i. i.images.items };
 }
 
-/// The zones of a source, and how many of them a piece has.
+/// The zones of a source, and the number of them that a piece has.
 #[derive(Drop)]
 pub(crate) struct ZonePieces<'a> {
     source: &'a Source,
@@ -44,19 +44,19 @@ impl<'a> Model for ZonePieces<'a> {
 }
 
 impl<'a> ZonePieces<'a> {
-    /// The zones of a source in pieces of this size.
+    /// Returns the zones of a source in pieces of this size.
     pub(crate) fn new(source: &'a Source, size: usize) -> ZonePieces<'a>
-        requires size { (1 ≤ size) × (size ≤ MOST_OF_PIECE) }
+        requires size { (1 ≤ size) × (size ≤ MAX_OF_PIECE) }
         ensures source { result.source ≡ source.now }
         ensures sound { ArePieces result }
         ensures few { count_of result ≤ 4294967296 }
     {
         // `zones` also tells that there are few.
-        prove!(source.zones() <= MOST_NAMES);
+        prove!(source.zones() <= MAX_NAMES);
         ZonePieces { source, size }
     }
 
-    /// The number of the first zone of a piece, and of the end of the piece before it.
+    /// Returns the number of the first zone of a piece, and of the end of the piece before it.
     fn start(&self, i: u64) -> usize
         requires { i ≤ count_of self.now }
         ensures { result ≡ start_of self.now i }
@@ -82,12 +82,13 @@ impl<'a> Task for ZonePieces<'a> {
         self.source.zones().div_ceil(self.size) as u64
     }
 
-    /// Want of memory comes only at a zone before which each of the piece has an image, and in none of whose lines an offset is out of
-    /// range.
+    /// Returns the images of the zones of a piece. Memory runs out only at a zone before which
+    /// each of the piece has an image, and in none of whose lines an offset is out of range.
     fn perform(&self, alloc: Global, i: u64) -> Result<Images, PieceStop<Fault>>
         requires { i < count_of self.now }
         ensures outcome { IsOutcome (IsOutcomeOf self.now i) result }
-        ensures memory { result ≡ Err PieceStop.Memory → MayWantWithin self.now.source (start_of self.now i) (start_of self.now (i + 1)) }
+        ensures memory { result ≡ Err PieceStop.Memory
+            → MayWantWithin self.now.source (start_of self.now i) (start_of self.now (i + 1)) }
     {
         match images_of(alloc, self.source, self.start(i), self.start(i + 1)) {
             Ok(images) => Ok(Images { images }),
@@ -97,7 +98,7 @@ impl<'a> Task for ZonePieces<'a> {
     }
 }
 
-/// The images of all pieces, one after another.
+/// Returns the images of all pieces, one after another.
 pub(crate) fn joined(alloc: Global, pieces: Vec<Images>) -> Result<Vec<Image>, AllocError>
     ensures { IfOk result (λ all. all.items ≡ flat_map (λ images. images) pieces.items) }
 {

@@ -1,7 +1,7 @@
 /// A date and a time of day, without a zone.
 #[derive(Clone, Copy, Debug, PartialEq, Eq)]
 pub struct Civil {
-    /// The year, 1 to 9999 where `civil` made it.
+    /// The year, 1 to 9999 in what `civil` returns.
     pub year: i64,
     /// The month, 1 to 12.
     pub month: u8,

@@ -5,8 +5,11 @@ ghost use Rattle.zic_calendar.specs.Civil.{IsOnDay, IsAtSecond};
 use crate::Civil;
 use jiff_core::civil::Date;
 
-/// The date of a day number, from -719162 (0001-01-01) to 2932896 (9999-12-31), with the time that
-/// is `second` seconds after its midnight, 0 to 86399.
+/// The seconds of a day, without leap seconds.
+pub const SECONDS_OF_DAY: i64 = 86_400;
+
+/// Returns the date of a day number, -719162 (0001-01-01) to 2932896 (9999-12-31), with the time of
+/// day that is `second` seconds after midnight, 0 to 86399.
 pub fn civil(day: i64, second: u32) -> Civil
     requires day_in { IsSupportedDay day }
     requires second_in { second < 86_400 }

@@ -10,7 +10,8 @@ ghost use Rattle.zic_calendar.specs.Weekday.{IsWeekday, weekday_of, first_on_or_
 use crate::days_in_month;
 use jiff_core::civil::Date;
 
-/// Which day of a month a rule names. Weekdays are 0 (Sunday) to 6, days count from 1 (zic(8)).
+/// The form in which a rule names a day of a month. Weekdays are 0 (Sunday) to 6, days count from 1
+/// (zic(8), ON).
 #[derive(Clone, Copy, Debug, PartialEq, Eq)]
 pub enum On {
     /// That day of the month.
@@ -24,7 +25,7 @@ pub enum On {
     Before { weekday: u8, day: u8 },
 }
 
-/// The weekday of a day number: 0 (Sunday) to 6.
+/// Returns the weekday of a day number (1970-01-01 is 0): 0 (Sunday) to 6.
 pub fn weekday(day: i64) -> u8
     ensures value { result ≡ weekday_of day }
     ensures range { IsWeekday result }
@@ -33,8 +34,8 @@ pub fn weekday(day: i64) -> u8
     (day.rem_euclid(7) as u8 + 4) % 7
 }
 
-/// The day number (1970-01-01 is 0) of the day that the form names, in a year from 1 to 9999 and a
-/// month from 1 to 12.
+/// Returns the day number (1970-01-01 is 0) of the day that the form names, in a year from 1 to
+/// 9999 and a month from 1 to 12.
 pub fn day_of(year: i64, month: u8, on: On) -> i64
     requires year_in { IsSupportedYear year }
     requires month_in { IsInRange 1 12 month }

@@ -2,6 +2,13 @@ pub mod LineFacts
 pub mod StepFacts
 pub mod ReadFacts
 pub mod FoundBytes
-pub mod CutFacts
-pub mod MarkFacts
 pub mod SomeRecords
+pub mod MachineFacts
+pub mod LineCuts
+pub mod FirstFacts
+pub mod MarkFacts
+pub mod Ranges
+pub mod Cuts
+pub mod Scanned
+pub mod Taking
+pub mod CutLaw

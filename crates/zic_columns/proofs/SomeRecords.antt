@@ -1,19 +1,20 @@
--- All bytes have records.
-use Rattle.std.proofs.Common.{◌≡◌, ◌==◌, ◌≤◌, ◌-◌, ℕ, zero, suc, true, false, List, [], ◌∷◌, ◌++◌, Option, Some, None, length, refl, cond, arith}
-use Rattle.std.proofs.lemmas.Bool.{cond_both}
+-- The records of bytes, as a list.
+use Rattle.std.proofs.Common.{◌≡◌, ◌==◌, ◌≤◌, ◌<◌, ◌+◌, ◌-◌, ◌⊎◌, ℕ, zero, suc, true, false, List, [], ◌∷◌, ◌++◌, Option, Some, None, length, refl, sym, ap, ◌∙◌, ⊎_elim, append_assoc, cond, arith}
+use Rattle.std.proofs.lemmas.Bool.{cases_lt, cond_both}
+use Rattle.std.proofs.lemmas.List.{append-nil}
 use Rattle.csv.specs.Machine.{Read, after_end, ends_at_end, ends_with, field_after, fields_after, in_field, is_end, next_record, start_field, start_record, step}
-use Rattle.csv.specs.Reading.{AreRecords, Reached, default_config}
+use Rattle.csv.specs.Reading.{AreRecords, Reached, default_config, records_from, records_next}
 use Rattle.csv.specs.declared.parser.Action.{Action}
 use Rattle.csv.specs.declared.parser.Action.TheVariants as act
 use Rattle.csv.specs.declared.parser.State.{State}
 use Rattle.csv.specs.declared.parser.State.TheVariants as st
 use Rattle.csv.specs.declared.parser.Terminator.TheVariants as term
-use Rattle.zic_columns.specs.Column.{AreColumnRecords, AreWholeLines, HasNoQuote, plain_records}
-use Rattle.zic_columns.proofs.ReadFacts.{lines_are_read}
-use Rattle.zic_columns.proofs.StepFacts.{records-cons, records-one}
+use Rattle.zic_columns.specs.Column.{AreColumnRecords, AreWholeLines, AreWholeRecords, HasNoQuote, column_records, ends_line, plain_records}
+use Rattle.zic_columns.proofs.ReadFacts.{lines_are_read, plain_are_read}
+use Rattle.zic_columns.proofs.StepFacts.{records-cons, records-end, records-nil, records-one}
 
 -- after a step that ends a record, the machine stands before one
-abbrev EndsBefore : State × Action → Type 0
+abbrev pub EndsBefore : State × Action → Type 0
 EndsBefore to = is_end to.1 ≡ true → ends_at_end to.0 ≡ false
 
 after_end_before : (byte : ℕ) → ends_at_end (after_end term.CRLF byte) ≡ false
@@ -29,7 +30,7 @@ start_field_before byte = cond_both (byte == 34) (st.InQuoted, act.Skip) (in_fie
 start_record_before : (byte : ℕ) → EndsBefore (start_record default_config byte)
 start_record_before byte = cond_both (ends_with term.CRLF byte) (st.StartRecord, act.Skip) (start_field default_config byte) EndsBefore (λ _ no. absurd (cc no)) (λ _. start_field_before byte)
 
-step_before : (s : State) (byte : ℕ) → EndsBefore (step default_config s byte)
+pub step_before : (s : State) (byte : ℕ) → EndsBefore (step default_config s byte)
 step_before st.StartRecord byte = start_record_before byte
 step_before st.StartField byte = start_field_before byte
 step_before st.InField byte = in_field_before byte
@@ -40,7 +41,7 @@ step_before st.InComment byte = cond_both (byte == 10) (st.StartRecord, act.Skip
 step_before st.AfterCr byte = cond_both (byte == 10) (st.StartRecord, act.Skip) (start_record default_config byte) EndsBefore (λ _ no. absurd (cc no)) (λ _. start_record_before byte)
 
 -- a record that was read leaves fewer bytes than there were, before another one
-abbrev Leaves : ℕ → Option Read → Type 0
+abbrev pub Leaves : ℕ → Option Read → Type 0
 Leaves size None = Unit {0}
 Leaves size (Some read) = (ends_at_end read.1 ≡ false) × (length read.2 ≤ size - 1)
 
@@ -51,7 +52,7 @@ leaves_less : (size : ℕ) (read : Option Read) → Leaves size read → Leaves 
 leaves_less size None all = tt
 leaves_less size (Some read) all = (all.0, omega (arith, all.1))
 
-leaves : (s : State) (fields : List (List ℕ)) (field bytes : List ℕ) → Leaves (length bytes) (next_record default_config s fields field bytes)
+pub leaves : (s : State) (fields : List (List ℕ)) (field bytes : List ℕ) → Leaves (length bytes) (next_record default_config s fields field bytes)
 unfolding next_record
 leaves s fields field [] = cond_both (ends_at_end s) (found (fields ++ field ∷ []) st.StartRecord []) None (Leaves 0) (λ _. (refl, omega arith)) (λ _. tt)
 leaves s fields field (byte ∷ bytes) =
@@ -61,26 +62,65 @@ leaves s fields field (byte ∷ bytes) =
     (λ ends. (step_before s byte ends, omega arith))
     (λ _. leaves_less (length bytes) more (leaves to.0 (fields_after to.1 fields field) (field_after to.1 byte field) bytes))
 
+-- before a record a reader gives none at the end
+none_at_end : (s : State) (bytes : List ℕ) → ends_at_end s ≡ false → length bytes ≡ 0 → next_record default_config s [] [] bytes ≡ None
+unfolding next_record
+none_at_end s [] before is = rw before refl
+none_at_end s (byte ∷ bytes) before is = absurd (omega (arith, is))
+
 -- records, as far as so many bytes
-records_up_to : (size : ℕ) (s : State) (bytes : List ℕ) → ends_at_end s ≡ false → length bytes ≤ size → (records : List (List (List ℕ))) × AreRecords default_config s bytes records
-unfolding Reached next_record
-records_up_to size s [] before le = ([], (s, [], (refl, refl), rw before refl))
-records_up_to zero s (byte ∷ bytes) before le = absurd (omega arith)
-records_up_to (suc size) s (byte ∷ bytes) before le = on (next_record default_config s [] [] (byte ∷ bytes)) refl (leaves s [] [] (byte ∷ bytes)) (λ t left. records_up_to size t left)
+records_up_to : (n : ℕ) (s : State) (bytes : List ℕ) → ends_at_end s ≡ false → length bytes < n → AreRecords default_config s bytes (records_from default_config n s bytes)
+unfolding records_from Reached
+records_up_to zero s bytes before lt = absurd (omega (arith, lt))
+records_up_to (suc n) s bytes before lt = on (next_record default_config s [] [] bytes) refl (leaves s [] [] bytes) (none_at_end s bytes before) (λ t left. records_up_to n t left)
   where
-    on : (read : Option Read) → next_record default_config s [] [] (byte ∷ bytes) ≡ read → Leaves (length (byte ∷ bytes)) read
-        → ((t : State) (left : List ℕ) → ends_at_end t ≡ false → length left ≤ size → (records : List (List (List ℕ))) × AreRecords default_config t left records)
-        → (records : List (List (List ℕ))) × AreRecords default_config s (byte ∷ bytes) records
-    on None is left later = ([], (s, byte ∷ bytes, (refl, refl), is))
-    on (Some read) is left later =
-        let more = later read.1 read.2 left.0 (omega (arith, left.1, le)) in
-        (read.0 ∷ more.0, records-cons s read.1 (byte ∷ bytes) read.2 read.0 more.0 is more.1)
+    on : (read : Option Read) → next_record default_config s [] [] bytes ≡ read → Leaves (length bytes) read → (length bytes ≡ 0 → next_record default_config s [] [] bytes ≡ None)
+        → ((t : State) (left : List ℕ) → ends_at_end t ≡ false → length left < n → AreRecords default_config t left (records_from default_config n t left))
+        → AreRecords default_config s bytes (records_next (records_from default_config n) read)
+    on None is left none later = (s, bytes, (refl, refl), is)
+    on (Some read) is left none later = ⊎_elim
+        (λ (end : length bytes < 1). absurd (let no = none (omega (arith, end)) in cc (no, is)))
+        (λ (more : 1 ≤ length bytes). records-cons s read.1 bytes read.2 read.0 (records_from default_config n read.1 read.2) is (later read.1 read.2 left.0 (omega (arith, left.1, lt, more))))
+        (cases_lt (length bytes) 1)
 
-pub some_records : (bytes : List ℕ) → (records : List (List (List ℕ))) × AreColumnRecords bytes records
-some_records bytes = records_up_to (length bytes) st.StartRecord bytes refl (omega arith)
+-- a CSV reader gives bytes their records
+pub are_read : (bytes : List ℕ) → AreColumnRecords bytes (column_records bytes)
+unfolding column_records
+are_read bytes = records_up_to (length bytes + 1) st.StartRecord bytes refl (omega arith)
 
-pub rest_is_read : (lines rest : List ℕ) (all : List (List (List ℕ))) → HasNoQuote lines → AreWholeLines lines → AreColumnRecords (lines ++ rest) all
-    → (records : List (List (List ℕ))) × (all ≡ plain_records lines ++ records) × AreColumnRecords rest records
-rest_is_read lines rest all plain whole are =
-    let some = some_records rest in
-    (some.0, records-one st.StartRecord (lines ++ rest) all (plain_records lines ++ some.0) are (lines_are_read lines rest some.0 plain whole some.1), some.1)
+-- and no others
+pub only : (bytes : List ℕ) (records : List (List (List ℕ))) → AreColumnRecords bytes records → column_records bytes ≡ records
+only bytes records are = records-one st.StartRecord bytes (column_records bytes) records (are_read bytes) are
+
+-- bytes without a double quote have their plain records
+pub plain_read : (bytes : List ℕ) → HasNoQuote bytes → column_records bytes ≡ plain_records bytes
+plain_read bytes plain = only bytes (plain_records bytes) (plain_are_read bytes plain)
+
+pub column_records-nil : column_records [] ≡ []
+column_records-nil = only [] [] records-nil
+
+-- a line end makes no record
+pub column_records-end : (byte : ℕ) (bytes : List ℕ) → ends_line byte ≡ true → column_records (byte ∷ bytes) ≡ column_records bytes
+column_records-end byte bytes ends = only (byte ∷ bytes) (column_records bytes) (records-end byte bytes (column_records bytes) ends (are_read bytes))
+
+-- ---- whole records
+
+pub whole_none : AreWholeRecords []
+whole_none = λ rest. sym (ap (λ (r : List (List (List ℕ))). r ++ column_records rest) column_records-nil)
+
+pub whole_lines : (lines : List ℕ) → HasNoQuote lines → AreWholeLines lines → AreWholeRecords lines
+whole_lines lines plain whole = λ rest.
+    only (lines ++ rest) (plain_records lines ++ column_records rest) (lines_are_read lines rest (column_records rest) plain whole (are_read rest))
+    ∙ ap (λ (r : List (List (List ℕ))). r ++ column_records rest) (sym (plain_read lines plain))
+
+pub whole_both : (a b : List ℕ) → AreWholeRecords a → AreWholeRecords b → AreWholeRecords (a ++ b)
+whole_both a b first second = λ rest.
+    ap column_records (append_assoc a b rest) ∙ first (b ++ rest) ∙ ap (λ (r : List (List (List ℕ))). column_records a ++ r) (second rest)
+    ∙ sym (append_assoc (column_records a) (column_records b) (column_records rest)) ∙ ap (λ (r : List (List (List ℕ))). r ++ column_records rest) (sym (first b))
+
+-- records, and those of what follows, which follows whole records or is nothing
+pub joined : (first rest : List ℕ) → (rest ≡ []) ⊎ AreWholeRecords first → column_records (first ++ rest) ≡ column_records first ++ column_records rest
+joined first rest whole = ⊎_elim
+    (λ none. rw none (ap column_records (append-nil first) ∙ sym (ap (λ (r : List (List (List ℕ))). column_records first ++ r) column_records-nil ∙ append-nil (column_records first))))
+    (λ records. records rest)
+    whole

@@ -1,13 +1,23 @@
 -- The records of a column, by the machine of the crate csv with its defaults: fields end at commas, and a carriage return, a line feed
 -- or both end a record. A byte order mark at the start of a column is dropped before.
-use Rattle.std.specs.Prelude.{◌≡◌, ◌≢◌, ◌+◌, ◌<◌, ℕ, Bool, true, false, ◌||◌, ◌==◌, List, [], ◌∷◌, map, filter, length, slice_index, take, All}
+use Rattle.std.specs.Prelude.{◌≡◌, ◌≢◌, ◌+◌, ◌<◌, ℕ, Bool, true, false, ◌||◌, ◌==◌, List, [], ◌∷◌, ◌++◌, map, filter, length, slice_index, take, All}
 use Rattle.std.specs.List.{slice_split}
-use Rattle.csv.specs.Reading.{AreRecords, default_config}
+use Rattle.csv.specs.Machine.{ends_at_end, step}
+use Rattle.csv.specs.Reading.{AreRecords, default_config, records}
+use Rattle.csv.specs.declared.parser.State.{State}
 use Rattle.csv.specs.declared.parser.State.TheVariants as st
 
 -- the records that a CSV reader gives of these bytes
 abbrev pub AreColumnRecords : List ℕ → List (List (List ℕ)) → Type 0
 AreColumnRecords bytes records = AreRecords default_config st.StartRecord bytes records
+
+-- those records, as a list
+unfoldable pub column_records : List ℕ → List (List (List ℕ))
+column_records bytes = records default_config bytes
+
+-- Whatever follows these bytes, its records come after theirs: a column can be cut there.
+abbrev pub AreWholeRecords : List ℕ → Type 0
+AreWholeRecords bytes = (rest : List ℕ) → column_records (bytes ++ rest) ≡ column_records bytes ++ column_records rest
 
 -- no byte is a double quote
 abbrev pub HasNoQuote : List ℕ → Type 0
@@ -42,3 +52,12 @@ fields_of line = slice_split (λ byte. byte == 44) line
 -- the records of bytes that have no double quote: the fields of each line
 unfoldable pub plain_records : List ℕ → List (List (List ℕ))
 plain_records bytes = map fields_of (lines_of bytes)
+
+-- the state of a CSV reader's machine after bytes
+unfoldable pub state_after : State → List ℕ → State
+state_after s [] = s
+state_after s (byte ∷ bytes) = state_after (step default_config s byte).0 bytes
+
+-- after these bytes a CSV reader stands before a record
+abbrev pub StandsBeforeRecord : List ℕ → Type 0
+StandsBeforeRecord bytes = ends_at_end (state_after st.StartRecord bytes) ≡ false

@@ -1,13 +1,13 @@
 -- Bytes cut after some records.
-use Rattle.std.specs.Prelude.{◌≡◌, ℕ, false, List, ◌++◌, take, drop, All}
-use Rattle.zic_columns.specs.Column.{AreWholeLines, ends_line, plain_records}
+use Rattle.std.specs.Prelude.{◌≡◌, ◌⊎◌, ℕ, false, List, [], ◌++◌, take, drop, All}
+use Rattle.zic_columns.specs.Column.{AreWholeLines, AreWholeRecords, column_records, ends_line}
 
 -- the bytes, cut after so many records, or after all where there are fewer
 pub record AreCutAfter (bytes : List ℕ) (count : ℕ) (first rest : List ℕ) : Type 0 where
   pub parts : bytes ≡ first ++ rest
-  pub first_records : plain_records first ≡ take count (plain_records bytes)
-  pub rest_records : plain_records rest ≡ drop count (plain_records bytes)
-  pub whole : AreWholeLines bytes → AreWholeLines first
+  pub first_records : column_records first ≡ take count (column_records bytes)
+  pub rest_records : column_records rest ≡ drop count (column_records bytes)
+  pub whole : (rest ≡ []) ⊎ AreWholeRecords first
 
 -- the bytes, cut after their last line end
 pub record AreCutAfterLines (bytes lines rest : List ℕ) : Type 0 where

@@ -1,5 +1,6 @@
 pub mod Column
 pub mod Record
 pub mod Cut
+pub mod Round
 pub mod Laws
 pub mod code

@@ -1,7 +1,7 @@
 -- What a cursor over a column's bytes gives of each record.
 use Rattle.std.specs.Prelude.{◌≡◌, ◌≢◌, ℕ, List, [], ◌∷◌, Option, length, MatchOption}
-use Rattle.zic_columns.specs.declared.record.Record.{Record}
-use Rattle.zic_columns.specs.declared.record.Record.TheVariants.{Pair, Other}
+use Rattle.zic_columns.specs.declared.entry.Record.{Record}
+use Rattle.zic_columns.specs.declared.entry.Record.TheVariants.{Pair, Other}
 
 -- the fields are these two, or are not two
 abbrev pub IsRecord : Record → List (List ℕ) → Type 0

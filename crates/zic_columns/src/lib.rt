@@ -1,24 +1,35 @@
-//! Records of a column without a double quote, cut among workers.
+//! A column, read in rounds of whole records that are cut into pieces for several workers.
 //!
-//! The records of a column are those that a CSV reader gives of its bytes: fields end at commas, records at a carriage
-//! return, a line feed or both, and a line without a byte makes no record. Where no byte is a double quote they are the
-//! fields of each line, so that such bytes can be cut at any line end. The functions of `laws` do nothing: they state
-//! what holds of records.
+//! The records of a column are those that a CSV reader gives of its bytes, a byte order mark at its start dropped: fields end at commas,
+//! records at a carriage return, a line feed or both, and a line without a byte makes no record. A double quote may keep commas and line
+//! ends from that. A column can be cut wherever a CSV reader stands before a record. The functions of `laws` do nothing: they state what
+//! holds of records.
 #![tactic(auto)]
 
-mod cutting;
+mod buffer;
+mod columns;
+mod entry;
+mod first;
+mod hand;
 pub mod laws;
+mod limit;
 mod line;
+mod machine;
 mod mark;
+mod pieces;
+mod plain;
 mod quote;
-mod record;
-mod records;
+mod quoted;
+mod rounds;
+mod splits;
 
-pub use cutting::{split_lines, split_records};
-pub use mark::without_mark;
-pub use quote::first_quote;
-pub use record::Record;
-pub use records::Records;
+pub use columns::{Column, Unread};
+pub use entry::Record;
+pub use pieces::MAX_PIECES;
+pub use rounds::Round;
+pub use splits::{Records, Split};
 
+#[cfg(test)]
+mod round_tests;
 #[cfg(test)]
 mod tests;

@@ -7,14 +7,14 @@ ghost use Rattle.zic_columns.specs.code.Line.{IsAfterLineEnds, IsFirstLine};
 use memchr::memchr2;
 
 /// Whether a byte ends a line.
-fn ends_line(byte: u8) -> bool
+pub(crate) fn ends_line(byte: u8) -> bool
     ensures { result ≡ ends_line byte }
 {
     byte == b'\r' || byte == b'\n'
 }
 
 /// The bytes from the first that ends no line.
-fn after_line_ends(bytes: &[u8]) -> &[u8]
+pub(crate) fn after_line_ends(bytes: &[u8]) -> &[u8]
     ensures { IsAfterLineEnds bytes.now result.now }
 {
     for (index, byte) in bytes.iter().enumerate() {

@@ -1,21 +1,24 @@
 //! Records against the kit's CSV reader, and cuts.
 
-use super::*;
+use crate::first::split_records;
+use crate::mark::without_mark;
+use crate::quote::first_quote;
+use crate::{Record, Split};
 use csv::{ByteRecord, ReaderBuilder};
 use std::alloc::Global;
 use std::process::Abort;
 use std::test::Fail;
 
-/// The bytes that matter to a column without quotes, and one that doesn't.
-const BYTES: [u8; 4] = [b'a', b',', b'\n', b'\r'];
+/// The bytes that matter to a column, and one that doesn't.
+const BYTES: [u8; 5] = [b'a', b',', b'\n', b'\r', b'"'];
 
-/// The text of this length that a number spells in base 4.
+/// The text of this length that a number spells in base 5.
 fn text(alloc: Global, number: u32, len: u32) -> Result<Vec<u8>, Fail> {
     let mut text = Vec::new(alloc);
     let mut left = number;
     for _ in 0..len {
-        text.push(BYTES[(left % 4) as usize])?;
-        left /= 4;
+        text.push(BYTES[(left % 5) as usize])?;
+        left /= 5;
     }
     Ok(text)
 }
@@ -28,7 +31,8 @@ fn count_same(rt: &impl Abort, alloc: Global, bytes: &[u8]) -> Result<u32, Fail>
         .from_reader(alloc, bytes);
     let mut row = ByteRecord::new(alloc);
     let mut records = 0u32;
-    for record in Records::new(bytes) {
+    let split = Split::new(alloc, bytes)?;
+    for record in split.records() {
         assert!(rt;
             reader.read_byte_record(&mut row)?,
             "one record too many: {bytes:?}"
@@ -52,21 +56,13 @@ fn count_same(rt: &impl Abort, alloc: Global, bytes: &[u8]) -> Result<u32, Fail>
 
 #[test]
 fn records_are_those_of_a_csv_reader(rt: HostRuntime) -> Result<(), Fail> {
-    for (len, count) in [
-        (0, 1),
-        (1, 4),
-        (2, 16),
-        (3, 64),
-        (4, 256),
-        (5, 1024),
-        (6, 4096),
-    ] {
+    for (len, count) in [(0, 1), (1, 5), (2, 25), (3, 125), (4, 625)] {
         for number in 0..count {
             let text = text(rt.alloc(), number, len)?;
             let all = count_same(&rt, rt.alloc(), &text)?;
             let (first, rest) = split_records(&text, 1);
-            let before = Records::new(first).count();
-            let after = Records::new(rest).count();
+            let before = Split::new(rt.alloc(), first)?.records().count();
+            let after = Split::new(rt.alloc(), rest)?.records().count();
             assert_eq!(rt; before, (all as usize).min(1), "{text:?}");
             assert_eq!(rt; before.wrapping_add(after), all as usize, "{text:?}");
         }
@@ -97,19 +93,32 @@ fn lines_end_at_a_return_a_feed_or_both(rt: HostRuntime) -> Result<(), Fail> {
 }
 
 #[test]
-fn lines_are_cut_after_the_last_end(rt: HostRuntime) {
-    let rows: [(&[u8], &[u8], &[u8]); 5] = [
-        (b"", b"", b""),
-        (b"a,0", b"", b"a,0"),
-        (b"a,0\r", b"a,0\r", b""),
-        (b"a,0\nb,1\r\nc", b"a,0\nb,1\r\n", b"c"),
-        (b"\n", b"\n", b""),
+fn double_quotes_keep_commas_and_line_ends(rt: HostRuntime) -> Result<(), Fail> {
+    let rows: [(&[u8], u32); 9] = [
+        (b"\"a\",\"0\"\n", 1),
+        (b"\"a\nb\",0\nc,1\n", 2),
+        (b"\"a,b\",0\n", 1),
+        (b"a\"b,0\nc,\"1\n", 2),
+        (b"\"a\"b,0\n\"\"\"\",1\n", 2),
+        (b"\"a\r\nb\",0\r\nc,1\r\n", 2),
+        (b"\"a", 1),
+        (b"\"\"", 1),
+        (b"\"a\"\r\"b\"", 2),
     ];
-    for (bytes, lines, rest) in rows {
-        let parts = split_lines(bytes);
-        assert_eq!(rt; parts.0, lines, "{bytes:?}");
-        assert_eq!(rt; parts.1, rest, "{bytes:?}");
+    for (bytes, want) in rows {
+        assert_eq!(rt; count_same(&rt, rt.alloc(), bytes)?, want, "{bytes:?}");
     }
+    Ok(())
+}
+
+#[test]
+fn a_mark_within_a_column_is_kept(rt: HostRuntime) -> Result<(), Fail> {
+    let split = Split::new(rt.alloc(), b"\xEF\xBB\xBF\"a\",0\n")?;
+    match split.records().next() {
+        Some(Record::Pair { name, .. }) => assert_eq!(rt; name, b"\xEF\xBB\xBF\"a\"".as_slice()),
+        _ => assert!(rt; false, "no pair"),
+    }
+    Ok(())
 }
 
 #[test]

@@ -2,14 +2,16 @@
 
 use crate::no_request::NoRequest;
 use clap::error::ErrorKind;
-use clap::{Arg, ArgAction, ArgMatches, Command, value_parser};
+use clap::{Arg, ArgAction, ArgMatches, Command, Error, value_parser};
 use std::alloc::{AllocError, Global};
 use std::rt::Env;
 use std::{env, io};
-use zic_bulk::Plan;
-use zic_commands::{STANDARD_INPUT, parse_instant};
+use zic_plan::{Plan, STANDARD_INPUT, parse_instant_word};
 
-/// What the program is asked to do.
+/// The version of the program, and the kit that it is proved with.
+const VERSION: &str = "0.1.0\nproved with rattle-kit-13b logic dac8208d650f15bf";
+
+/// A request to the program.
 #[derive(Debug, Drop)]
 pub enum Request {
     /// Compile a source and list its files.
@@ -27,7 +29,7 @@ pub enum Request {
     Convert {
         source: String,
         plan: Plan,
-        /// Whether it tells how many rows there are so far.
+        /// Whether it tells the number of rows so far.
         progress: bool,
     },
     /// Tell what a file says of an instant.
@@ -35,9 +37,17 @@ pub enum Request {
         file: String,
         instant: i64,
     },
+    /// Tell this version.
+    Version {
+        text: String,
+    },
 }
 
-/// What the words of the process ask for.
+/// Returns what the words of the process ask for.
+///
+/// # Errors
+///
+/// The text of usage or of help, or memory ran out.
 pub fn requested<R: Env + AllocGlobal>(rt: &R) -> Result<Request, NoRequest> {
     let alloc = rt.alloc();
     let given = match env::args(rt) {
@@ -52,13 +62,16 @@ pub fn requested<R: Env + AllocGlobal>(rt: &R) -> Result<Request, NoRequest> {
     parse(alloc, &words)
 }
 
-/// What these words ask for, the program's name first.
+/// Returns what these words ask for, the program's name first.
+///
+/// # Errors
+///
+/// The text of usage or of help, or memory ran out.
 pub fn parse(alloc: Global, words: &[String]) -> Result<Request, NoRequest> {
     let commands = commands(alloc)?;
     let matches = match commands.try_get_matches_from(words) {
         Ok(matches) => matches,
-        Err(e) if e.kind() == ErrorKind::OutOfMemory => return Err(NoRequest::Memory),
-        Err(e) => return Err(NoRequest::Usage(e.to_string(alloc)?)),
+        Err(e) => return unmatched(alloc, &e),
     };
     match matches.subcommand() {
         Some(("check", m)) => check(alloc, m),
@@ -69,10 +82,22 @@ pub fn parse(alloc: Global, words: &[String]) -> Result<Request, NoRequest> {
     }
 }
 
-/// All commands, with what help tells of them.
+/// Returns what words that are no command ask for: the version, if anything.
+fn unmatched(alloc: Global, e: &Error) -> Result<Request, NoRequest> {
+    match e.kind() {
+        ErrorKind::OutOfMemory => Err(NoRequest::Memory),
+        ErrorKind::DisplayVersion => Ok(Request::Version {
+            text: e.to_string(alloc)?,
+        }),
+        _ => Err(NoRequest::Usage(e.to_string(alloc)?)),
+    }
+}
+
+/// Returns all commands, with what help tells of them.
 fn commands<'a>(alloc: Global) -> Result<Command<'a>, AllocError> {
     Command::new(alloc, "pzic")
         .bin_name("pzic")?
+        .version(VERSION)
         .about("Compiles time zone source text, as zic(8) reads it, to TZif files (RFC 9636)")
         .subcommand_required(true)
         .disable_help_subcommand(true)
@@ -152,7 +177,7 @@ fn show_command<'a>(alloc: Global) -> Result<Command<'a>, AllocError> {
         .arg(instant)
 }
 
-/// The command with the options that say how work is shared.
+/// Returns the command with the options that say how work is shared.
 fn with_plan<'a>(alloc: Global, command: Command<'a>) -> Result<Command<'a>, AllocError> {
     let workers = option(alloc, "workers", "4").help("How many threads work, 1 to 64");
     let zone_piece = option(alloc, "zone-piece", "16").help(
@@ -161,7 +186,7 @@ fn with_plan<'a>(alloc: Global, command: Command<'a>) -> Result<Command<'a>, All
     command.arg(workers)?.arg(zone_piece)
 }
 
-/// An option that is a number, and what it is where it isn't given.
+/// Returns an option that is a number, with its default.
 fn option<'a>(alloc: Global, name: &'a str, default: &'a str) -> Arg<'a> {
     Arg::new(alloc, name)
         .long(name)
@@ -218,13 +243,13 @@ fn show(alloc: Global, matches: &ArgMatches<'_>) -> Result<Request, NoRequest> {
     let Some(instant) = matches.get_str("INSTANT") else {
         return Err(usage(alloc, "no INSTANT"));
     };
-    let Some(instant) = parse_instant(instant) else {
+    let Some(instant) = parse_instant_word(instant) else {
         return Err(usage(alloc, "INSTANT is no number of seconds"));
     };
     Ok(Request::Show { file, instant })
 }
 
-/// How work is shared, where there is no column.
+/// Returns how work is shared, where there is no column.
 fn plan(alloc: Global, matches: &ArgMatches<'_>) -> Result<Plan, NoRequest> {
     let workers = number(alloc, matches, "workers")?;
     let zone_piece = number(alloc, matches, "zone-piece")?;
@@ -237,7 +262,7 @@ fn plan(alloc: Global, matches: &ArgMatches<'_>) -> Result<Plan, NoRequest> {
     }
 }
 
-/// How work is shared, and how many rows and bytes a column may have.
+/// Returns how work is shared, and how many rows and bytes a column may have.
 fn column_plan(alloc: Global, matches: &ArgMatches<'_>) -> Result<Plan, NoRequest> {
     let workers = number(alloc, matches, "workers")?;
     let zone_piece = number(alloc, matches, "zone-piece")?;
@@ -253,7 +278,7 @@ fn column_plan(alloc: Global, matches: &ArgMatches<'_>) -> Result<Plan, NoReques
     }
 }
 
-/// The number of an option.
+/// Returns the number of an option.
 fn number(alloc: Global, matches: &ArgMatches<'_>, id: &str) -> Result<u64, NoRequest> {
     match matches.get_one::<u64>(id) {
         Some(number) => Ok(number),
@@ -261,7 +286,7 @@ fn number(alloc: Global, matches: &ArgMatches<'_>, id: &str) -> Result<u64, NoRe
     }
 }
 
-/// The word for what is required.
+/// Returns the word for what is required.
 fn word(alloc: Global, matches: &ArgMatches<'_>, id: &str) -> Result<String, NoRequest> {
     match matches.get_str(id) {
         Some(word) => Ok(String::from_str(alloc, word)?),
@@ -269,7 +294,7 @@ fn word(alloc: Global, matches: &ArgMatches<'_>, id: &str) -> Result<String, NoR
     }
 }
 
-/// That the words can't be what they are.
+/// Returns the refusal of words that can't be what they are.
 fn usage(alloc: Global, text: &str) -> NoRequest {
     match format!(in alloc; "error: {text}\n\nFor more information, try 'pzic --help'.\n") {
         Ok(text) => NoRequest::Usage(text),

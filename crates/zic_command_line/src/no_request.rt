@@ -8,9 +8,9 @@ use std::alloc::{AllocError, AllocFailed};
 /// Why the words of the command line ask for nothing.
 #[derive(Debug, Drop)]
 pub enum NoRequest {
-    /// They ask for no command, or for help: what is told in place of it.
+    /// They ask for no command, or for help: the text that is told in place of it.
     Usage(String),
-    /// Memory was wanting.
+    /// Memory ran out.
     Memory,
 }
 

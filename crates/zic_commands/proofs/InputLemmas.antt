@@ -24,7 +24,7 @@ at_end (Some x) (Some y) bs limit p end h =
     let all : x ≡ bs = p ∙ ap (λ l. bs ++ l) end ∙ append-nil bs in
     sym (ap (take limit) all ∙ take_all limit bs h)
 
--- A reader that was asked for so many octets and gave none is at its end, where it was asked for some.
+-- A reader that was asked for so many bytes and gave none is at its end, where it was asked for some.
 pub stopped : (a b : Option (List ℕ)) (bs : List ℕ) (limit room : ℕ) → Consumes a b bs → length bs ≤ limit → (0 < room → IsAtEnd b) → (room ≡ 0 → length bs ≡ limit) → IfSome a (λ all. bs ≡ take limit all)
 stopped a b bs limit zero p short end filled = full a b bs limit p (filled refl)
 stopped a b bs limit (suc room) p short end filled = at_end a b bs limit p (end (omega arith)) short

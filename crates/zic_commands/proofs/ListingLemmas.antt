@@ -4,7 +4,7 @@ use Rattle.std.specs.Prelude.{IfSome, slice_get}
 use Rattle.std.specs.List.{flat_map}
 use Rattle.std.proofs.lemmas.List.{take_more, flat_map_more}
 use Rattle.std.proofs.lemmas.Option.{slice_get_cases}
-use Rattle.zic_bulk.specs.Files.{File}
+use Rattle.zic_files.specs.File.{File}
 
 -- one file more
 pub line_more : (line_of : File → List ℕ) (files : List File) (i : ℕ) (old new : List ℕ) → i < length files → old ≡ flat_map line_of (take i files)

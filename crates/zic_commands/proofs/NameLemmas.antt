@@ -1,14 +1,12 @@
--- Names are text.
-use Rattle.std.proofs.Common.{◌≡◌, ℕ, ◌<◌, eqb, leb, ◌&&◌, ◌||◌, not, true, inl, inr, List, length, arith}
+-- Names are ASCII.
+use Rattle.std.proofs.Common.{◌≡◌, ℕ, ◌<◌, eqb, leb, ◌&&◌, ◌||◌, not, true, inl, inr, List, [], ◌∷◌, ◌++◌, All, length, take, get_or, ◌+◌, sym, ap, subst, ◌∙◌, append_assoc, arith}
 use Rattle.std.specs.Char.{is_ascii_alphanumeric}
 use Rattle.std.specs.List.{list_all, slice_split}
 use Rattle.std.specs.Prelude.{nat_le, ◌==◌}
-use Rattle.std.specs.Str.{IsUtf8}
 use Rattle.std.proofs.lemmas.Bool.{eqb-true, and_parts, or_cases, leb-true}
-use Rattle.std.proofs.lemmas.List.Elements.{All-weaker}
+use Rattle.std.proofs.lemmas.List.Elements.{All-get_or, All-weaker}
 use Rattle.std.proofs.lemmas.List.Sums.{AllPass-from_list_all}
-use Rattle.std.proofs.lemmas.Str.{IsUtf8-from_ascii}
-use Rattle.std.proofs.lemmas.Str.Ascii.{IsAscii-from_all}
+use Rattle.std.proofs.lemmas.List.{take_more}
 use Rattle.zic_words.specs.Dash.{is_dash}
 use Rattle.zic_words.specs.Name.{is_name, is_name_byte, is_name_part}
 use Rattle.zic_words.specs.declared.name.TheConstants.{LONGEST_NAME}
@@ -48,11 +46,20 @@ low_byte b h =
       | inr h1 ↦ omega (arith, eqb-true b 47 h1)
     ]
 
--- a name is text
-pub name_is_text : (name : List ℕ) → is_name name ≡ true → IsUtf8 name
-name_is_text name h =
+-- the bytes of a name are those of ASCII
+pub are_ascii : (name : List ℕ) → is_name name ≡ true → All (λ b. b < 128) name
+are_ascii name h =
     let long = nat_le (length name) LONGEST_NAME in
     let bytes = list_all is_name_byte name in
     let parts = list_all is_name_part (slice_split (λ byte. byte == 47) name) in
     let pass = (and_parts (long && not (is_dash name)) bytes (and_parts (long && not (is_dash name) && bytes) parts h).0).1 in
-    IsUtf8-from_ascii name (IsAscii-from_all name (All-weaker (λ b. is_name_byte b ≡ true) (λ b. b < 128) low_byte name (AllPass-from_list_all is_name_byte name pass)))
+    All-weaker (λ b. is_name_byte b ≡ true) (λ b. b < 128) low_byte name (AllPass-from_list_all is_name_byte name pass)
+
+-- one byte of a name more
+pub path_more : (folder name old new : List ℕ) (i letter : ℕ) → is_name name ≡ true → i < length name → letter ≡ get_or name i 0
+    → old ≡ folder ++ 47 ∷ take i name → (letter < 128 → new ≡ old ++ letter ∷ []) → new ≡ folder ++ 47 ∷ take (i + 1) name
+path_more folder name old new i letter named lt is so_far more =
+    let small : letter < 128 = subst (λ (b : ℕ). b < 128) (sym is) (All-get_or (λ b. b < 128) name i 0 lt (are_ascii name named)) in
+    let taken : take (i + 1) name ≡ take i name ++ letter ∷ [] = take_more name i 0 lt ∙ ap (λ (b : ℕ). take i name ++ b ∷ []) (sym is) in
+    more small ∙ ap (λ (l : List ℕ). l ++ letter ∷ []) so_far ∙ append_assoc folder (47 ∷ take i name) (letter ∷ [])
+    ∙ ap (λ (l : List ℕ). folder ++ 47 ∷ l) (sym taken)

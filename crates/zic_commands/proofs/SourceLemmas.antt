@@ -1,33 +1,14 @@
 -- What the words for sources and files name.
-use Rattle.std.proofs.Common.{◌≡◌, ◌≢◌, ◌⊎◌, ◌≤◌, ℕ, ℤ, inl, inr, Bool, true, false, List, [], ◌∷◌, ◌++◌, length, Option, None, ◌∙◌, refl, sym}
+use Rattle.std.proofs.Common.{◌≡◌, ◌≢◌, ◌⊎◌, ◌≤◌, ℕ, inl, inr, Bool, true, false, List, [], ◌∷◌, ◌++◌, length, Option, None, ◌∙◌, refl, sym}
 use Rattle.std.specs.Prelude.{All, IfSome, bytes_eq, if◌then◌else◌}
 use Rattle.std.proofs.lemmas.Bool.{cases_Bool, true≢false}
 use Rattle.std.proofs.lemmas.Slice.Eq.{bytes_eq-Decides}
 use Rattle.zic_counted.specs.Counts.{Counts}
-use Rattle.zic_commands.specs.Failing.{IsFailureOfOctets, IsFailureOfPath, IsFailureOfShow, IsFailureOfSources, IsFailureOfWord}
-use Rattle.zic_commands.specs.Output.{IsOutputOfShow, Writes}
+use Rattle.zic_commands.specs.Failing.{IsFailureOfSources, IsFailureOfWord}
 use Rattle.zic_commands.specs.Sources.{known_of, known_after, AreTextsOf, IsTextOf}
 use Rattle.zic_commands.specs.declared.failure.Failure.{Failure}
-use Rattle.zic_commands.specs.declared.input.TheConstants.{MOST_SOURCE}
-use Rattle.zic_commands.specs.declared.sources.TheConstants.{STANDARD_INPUT}
-
--- octets that a reader gave are some octets
-pub show_some : (known : Option (List ℕ)) (instant : ℤ) (old new : Option (List ℕ)) → Writes (IsOutputOfShow known instant) old new → Writes (IsOutputOfShow None instant) old new
-show_some known instant old new w = record { output = w.output; is_output = record { octets = w.is_output.octets; is_front = tt; is_showing = w.is_output.is_showing }; wrote = w.wrote }
-
--- why `show` of a file gives up
-pub show_path : {R W : Type 0} (contents : W → Option (List ℕ)) (path : List ℕ) (reader reader' : Counts R) (known : Option (List ℕ)) (instant : ℤ) (writer writer' : Counts W) (failure : Failure)
-    → IsFailureOfShow contents (IsFailureOfOctets path reader reader') known instant writer writer' failure → IsFailureOfShow contents (IsFailureOfPath path) None instant writer writer' failure
-show_path contents path reader reader' known instant writer writer' failure (inl (inl memory)) = inl (inl memory)
-show_path contents path reader reader' known instant writer writer' failure (inl (inr unread)) = inl (inr unread.0)
-show_path contents path reader reader' known instant writer writer' failure (inr (inl bad)) =
-    inr (inl (record { octets = bad.octets; is_front = tt; reason = bad.reason; is_fault = bad.is_fault; is = bad.is }))
-show_path contents path reader reader' known instant writer writer' failure (inr (inr o)) =
-    inr (inr (record {
-      is = o.is;
-      failed = o.failed;
-      written = record { output = o.written.output; is_output = record { octets = o.written.is_output.octets; is_front = tt; is_showing = o.written.is_output.is_showing }; wrote = o.written.wrote };
-    }))
+use Rattle.zic_commands.specs.declared.input.TheConstants.{MAX_SOURCE}
+use Rattle.zic_plan.specs.declared.word.TheConstants.{STANDARD_INPUT}
 
 -- what is known of standard input once the texts of words were read
 abbrev pub known_afters : List (List ℕ) → Option (List ℕ) → Option (List ℕ)
@@ -48,7 +29,7 @@ of_none true text = tt
 of_none false text = tt
 
 -- the text of a word, by what its reader has left
-pub text_of : (word : List ℕ) (known left : Option (List ℕ)) (text : List ℕ) → IsKnown known left → length text ≤ MOST_SOURCE → IfSome (known_of word left) (λ all. text ≡ all) → IsTextOf word known text
+pub text_of : (word : List ℕ) (known left : Option (List ℕ)) (text : List ℕ) → IsKnown known left → length text ≤ MAX_SOURCE → IfSome (known_of word left) (λ all. text ≡ all) → IsTextOf word known text
 text_of word known left text (inl none) fits whole = record { fits = fits; whole = rw none (of_none (bytes_eq word STANDARD_INPUT.now) text) }
 text_of word known left text (inr is) fits whole = record { fits = fits; whole = rw is whole }
 

@@ -3,7 +3,7 @@ use Rattle.std.proofs.Common.{◌≡◌, ◌≢◌, ℕ, ◌+◌, ◌<◌, refl,
 use Rattle.std.specs.Prelude.{IfSome, slice_get}
 use Rattle.std.proofs.lemmas.List.{map-append}
 use Rattle.std.proofs.lemmas.Option.{slice_get_cases}
-use Rattle.zic_bulk.specs.Files.{File}
+use Rattle.zic_files.specs.File.{File}
 use Rattle.zic_commands.proofs.ListLemmas.{taken, parts}
 use Rattle.zic_commands.specs.Failing.{IsFailureOfFolder, IsUnplaced}
 use Rattle.zic_commands.specs.Tree.{Gains, in_folder, Placed}

@@ -1,51 +1,66 @@
 -- What `convert` writes, and why it gives up.
-use Rattle.std.specs.Prelude.{◌≡◌, ◌≤◌, ◌⊎◌, ℕ, List, [], ◌∷◌, length, Option, IfSome}
+use Rattle.std.specs.Prelude.{◌≡◌, ◌⊎◌, ℕ, List, length, Option, IfSome}
 use Rattle.zic_bulk.specs.Build.{AreFilesOfTexts}
-use Rattle.zic_bulk.specs.Files.{File}
-use Rattle.zic_bulk.specs.Plan.{Limits}
-use Rattle.zic_bulk.specs.declared.stop.RunStop.{RunStop}
+use Rattle.zic_files.specs.File.{File}
+use Rattle.zic_plan.specs.Plan.{Limits}
+use Rattle.zic_plan.specs.declared.stop.RunStop.{RunStop}
 use Rattle.zic_convert.specs.Convert.{IsCauseOf, WritesAll, WritesAt}
 use Rattle.zic_counted.specs.Counts.{Counts}
-use Rattle.zic_commands.specs.Failing.{IsCannotRead, IsFailureOfTexts, run_failure}
+use Rattle.zic_commands.specs.Failing.{IsFailureOfTexts, run_failure}
 use Rattle.zic_commands.specs.declared.failure.Failure.{Failure}
-use Rattle.zic_commands.specs.declared.failure.Failure.TheVariants as failures
-use Rattle.zic_commands.specs.declared.input.TheConstants.{MOST_SOURCE}
 
--- What the writer holds grew by the text of all rows of the column that the reader had left, made by the files of a source that is one
--- text, and there are n.
-pub record ConvertsAll (text : List ℕ) (column : Option (List ℕ)) (most n : ℕ) (old new : Option (List ℕ)) : Type 0 where
+-- The reader and the writer of a conversion, before it and after it, the column that the reader
+-- had left, and what the writer held and holds, where these are known.
+pub record Conversion (R W : Type 0) : Type 0 where
+  pub reader : Counts R
+  pub reader' : Counts R
+  pub writer : Counts W
+  pub writer' : Counts W
+  pub column : Option (List ℕ)
+  pub held : Option (List ℕ)
+  pub held' : Option (List ℕ)
+
+abbrev pub conversion : {R W : Type 0} → (R → Option (List ℕ)) → (W → Option (List ℕ))
+    → Counts R → Counts R → Counts W → Counts W → Conversion R W
+conversion remaining contents reader reader' writer writer' = record {
+  reader = reader;
+  reader' = reader';
+  writer = writer;
+  writer' = writer';
+  column = remaining reader.inner;
+  held = contents writer.inner;
+  held' = contents writer'.inner;
+}
+
+-- What the writer holds grew by the text of all rows of the column, made by the files of the
+-- texts, and there are n.
+pub record ConvertsAll {R W : Type 0} (texts : List (List ℕ)) (plan : Limits) (n : ℕ)
+    (run : Conversion R W) : Type 0 where
   pub files : List File
-  pub are_files : AreFilesOfTexts (text ∷ []) files
-  pub writes : IfSome column (λ column. WritesAll files most column n old new)
+  pub are_files : AreFilesOfTexts texts files
+  pub writes : IfSome run.column
+      (λ column. WritesAll files plan.max_rows column n run.held run.held')
 
--- the source has no files, nothing is read of the column, and nothing is written
-pub record IsFailureBefore {R W : Type 0} (text : List ℕ) (reader reader' : Counts R) (writer writer' : Counts W) (failure : Failure) : Type 0 where
-  pub of_text : IsFailureOfTexts (text ∷ []) failure
-  pub unread : reader' ≡ reader
-  pub unwritten : writer' ≡ writer
+-- the texts have no files, nothing is read of the column, and nothing is written
+pub record IsFailureBefore {R W : Type 0} (texts : List (List ℕ)) (run : Conversion R W)
+    (failure : Failure) : Type 0 where
+  pub of_texts : IsFailureOfTexts texts failure
+  pub unread : run.reader' ≡ run.reader
+  pub unwritten : run.writer' ≡ run.writer
 
--- the source has files, and the conversion of the column by them ends early
-pub record IsFailureOfColumn {R W : Type 0} (text : List ℕ) (plan : Limits) (column : Option (List ℕ)) (reader reader' : Counts R) (writer writer' : Counts W) (old new : Option (List ℕ)) (failure : Failure) : Type 0 where
+-- the texts have files, and the conversion of the column by them ends early
+pub record IsFailureOfColumn {R W : Type 0} (texts : List (List ℕ)) (plan : Limits)
+    (run : Conversion R W) (failure : Failure) : Type 0 where
   pub files : List File
-  pub are_files : AreFilesOfTexts (text ∷ []) files
+  pub are_files : AreFilesOfTexts texts files
   pub stop : RunStop
-  pub is : failure ≡ run_failure stop 1
-  pub cause : IsCauseOf plan.max_bytes reader reader' writer writer' stop
-  pub writes : IfSome column (λ column. WritesAt files plan.max_rows column stop old new)
+  pub is : failure ≡ run_failure stop (length texts)
+  pub cause : IsCauseOf plan.max_bytes run.reader run.reader' run.writer run.writer' stop
+  pub writes : IfSome run.column
+      (λ column. WritesAt files plan.max_rows column stop run.held run.held')
 
--- why a text doesn't convert a column: it has no files, or the conversion by them ends early
-abbrev pub IsFailureOfConvert : {R W : Type 0} → List ℕ → Limits → Option (List ℕ) → Counts R → Counts R → Counts W → Counts W → Option (List ℕ) → Option (List ℕ) → Failure → Type 0
-IsFailureOfConvert text plan column reader reader' writer writer' old new failure =
-    IsFailureBefore text reader reader' writer writer' failure ⊎ IsFailureOfColumn text plan column reader reader' writer writer' old new failure
-
--- a fact of the text of a file, of which no more is known than that it is no longer than a text of a source may be
-pub record OfFile (IsSo : List ℕ → Type 0) : Type 0 where
-  pub text : List ℕ
-  pub fits : length text ≤ MOST_SOURCE
-  pub is_so : IsSo text
-
--- the source at this path isn't read, nothing is read of the column, and nothing is written
-pub record IsUnreadSource {R W : Type 0} (path : List ℕ) (reader reader' : Counts R) (writer writer' : Counts W) (failure : Failure) : Type 0 where
-  pub of_path : (failure ≡ failures.Memory) ⊎ IsCannotRead path failure
-  pub unread : reader' ≡ reader
-  pub unwritten : writer' ≡ writer
+-- why texts don't convert a column: they have no files, or the conversion by them ends early
+abbrev pub IsFailureOfConvert : {R W : Type 0} → List (List ℕ) → Limits → Conversion R W → Failure
+    → Type 0
+IsFailureOfConvert texts plan run failure =
+    IsFailureBefore texts run failure ⊎ IsFailureOfColumn texts plan run failure

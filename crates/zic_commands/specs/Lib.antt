@@ -4,5 +4,4 @@ pub mod Sources
 pub mod Tree
 pub mod Words
 pub mod Failing
-pub mod Instant
 pub mod Converting

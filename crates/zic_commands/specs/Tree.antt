@@ -1,12 +1,12 @@
 -- What is placed into a tree of files.
 use Rattle.std.specs.Prelude.{◌≡◌, ◌≢◌, ℕ, ⊤, List, [], ◌∷◌, ◌++◌, map, Option, Some, None}
 use Rattle.zic_bulk.specs.Build.{AreFilesOfTexts}
-use Rattle.zic_bulk.specs.Files.{File}
+use Rattle.zic_files.specs.File.{File}
 
--- a file in a tree: its path and its octets
+-- a file in a tree: its path and its bytes
 pub record Placed : Type 0 where
   pub path : List ℕ
-  pub octets : List ℕ
+  pub bytes : List ℕ
 
 -- what was placed into a tree, where that is known, grew by these, in order
 abbrev pub Gains : Option (List Placed) → Option (List Placed) → List Placed → Type 0
@@ -16,11 +16,12 @@ Gains (Some placed) (Some placed') files = placed' ≡ placed ++ files
 
 -- a file of a source in a folder: its path is that of the folder, a slash and its name
 abbrev pub in_folder : List ℕ → File → Placed
-in_folder folder file = record { path = folder ++ 47 ∷ file.name; octets = file.image.octets }
+in_folder folder file = record { path = folder ++ 47 ∷ file.name; bytes = file.image.octets }
 
--- the files of the texts were placed in the folder, in the order of the texts and their lines; where there is a file, the folder has a
--- name
-pub record AreBuilt (texts : List (List ℕ)) (folder : List ℕ) (old new : Option (List Placed)) : Type 0 where
+-- the files of the texts were placed in the folder, in the order of the texts and their lines;
+-- where there is a file, the folder has a name
+pub record AreBuilt (texts : List (List ℕ)) (folder : List ℕ)
+    (old new : Option (List Placed)) : Type 0 where
   pub files : List File
   pub are_files : AreFilesOfTexts texts files
   pub named : files ≢ [] → folder ≢ []

@@ -3,8 +3,8 @@ use Rattle.std.specs.Prelude.{ℕ, codes, List, ◌++◌, string_bytes}
 use Rattle.std.specs.Fmt.{decimal}
 use Rattle.zic_base.specs.declared.fault.Kind.{Kind}
 use Rattle.zic_base.specs.declared.fault.Kind.TheVariants as kind
-use Rattle.zic_bulk.specs.declared.stop.RowKind.{RowKind}
-use Rattle.zic_bulk.specs.declared.stop.RowKind.TheVariants as row
+use Rattle.zic_plan.specs.declared.stop.RowKind.{RowKind}
+use Rattle.zic_plan.specs.declared.stop.RowKind.TheVariants as row
 use Rattle.zic_tzif.specs.declared.reason.Reason.{Reason}
 use Rattle.zic_tzif.specs.declared.reason.Reason.TheVariants as reason
 use Rattle.zic_commands.specs.declared.failure.Failure.{Failure}
@@ -73,9 +73,12 @@ reason_word reason.TooLarge = codes "TooLarge"
 
 -- what the program prints of a failure
 abbrev pub failure_text : Failure → List ℕ
-failure_text (failures.Line line kind) = codes "line " ++ decimal line ++ codes ": " ++ kind_word kind
-failure_text (failures.TextLine text line kind) = codes "text " ++ decimal text ++ codes " line " ++ decimal line ++ codes ": " ++ kind_word kind
-failure_text (failures.Row row kind) = codes "row " ++ decimal row ++ codes ": " ++ row_kind_word kind
+failure_text (failures.Line line kind) =
+    codes "line " ++ decimal line ++ codes ": " ++ kind_word kind
+failure_text (failures.TextLine text line kind) =
+    codes "text " ++ decimal text ++ codes " line " ++ decimal line ++ codes ": " ++ kind_word kind
+failure_text (failures.Row row kind) =
+    codes "row " ++ decimal row ++ codes ": " ++ row_kind_word kind
 failure_text failures.ColumnTooLong = codes "column: ColumnTooLong"
 failure_text (failures.File reason) = codes "file: " ++ reason_word reason
 failure_text (failures.CannotRead path) = codes "cannot read " ++ string_bytes path
@@ -86,8 +89,8 @@ failure_text failures.CannotWriteOutput = codes "cannot write output"
 failure_text failures.Memory = codes "out of memory"
 failure_text failures.NoThread = codes "no thread"
 
--- The status with which the program ends: 1 where what is read is at fault, 3 where something can't be read or written, 4 where memory
--- or a thread is wanting.
+-- The status with which the program ends: 1 where what is read is at fault, 3 where something
+-- can't be read or written, 4 where memory runs out or no thread starts.
 abbrev pub status_of : Failure → ℕ
 status_of (failures.Line line kind) = 1
 status_of (failures.TextLine text line kind) = 1

@@ -1,7 +1,7 @@
 //! Why a command gives up, and the status that the program then ends with.
 
 ghost use Rattle.std.specs.Prelude.{◌≡◌, ◌⊎◌};
-ghost use Rattle.zic_commands.specs.declared.failure.Failure.TheVariants.{Memory};
+ghost use Rattle.zic_commands.specs.declared.failure.Failure.TheVariants.{CannotWriteOutput, Memory};
 ghost use Rattle.zic_commands.specs.Failing.{fault_failure, run_failure, IsCannotRead};
 ghost use Rattle.zic_commands.specs.Words.{status_of};
 
@@ -9,6 +9,7 @@ use crate::names::{kind_name, reason_name, row_kind_name};
 use std::alloc::{AllocError, AllocFailed, Global};
 use std::{error, fmt};
 use zic_bulk::{RowKind, RunStop};
+use zic_counted::WriteFailed;
 use zic_source::{Fault, Kind};
 use zic_tzif::{ReadStop, Reason};
 
@@ -35,15 +36,15 @@ pub enum Failure {
     CannotWriteRows,
     /// `cannot write output`.
     CannotWriteOutput,
-    /// A growth of memory was refused: `out of memory`.
+    /// Memory ran out: `out of memory`.
     Memory,
-    /// No thread could be started: `no thread`.
+    /// No thread could be started: `no thread`. Never answered.
     NoThread,
 }
 
 impl Failure {
-    /// The status of a program that ends with the failure: 1 for a fault of what is read, 3 for what can't be read or written, 4 for
-    /// want of memory or of a thread.
+    /// Returns the status of a program that ends with the failure: 1 for a fault of what is read,
+    /// 3 for what can't be read or written, 4 where memory ran out or no thread could be started.
     pub fn status(&self) -> u8
         ensures { result ≡ status_of self.now }
     {
@@ -101,6 +102,14 @@ impl<T: Drop> From<AllocFailed<T>> for Failure {
     }
 }
 
+impl From<WriteFailed> for Failure {
+    ghost from_gives = { λ _ e. e ≡ CannotWriteOutput };
+
+    fn from(_e: WriteFailed) -> Failure {
+        Failure::CannotWriteOutput
+    }
+}
+
 impl From<ReadStop> for Failure {
     ghost use Rattle.zic_commands.specs.Failing.{read_failure};
 
@@ -114,7 +123,7 @@ impl From<ReadStop> for Failure {
     }
 }
 
-/// The failure of a run over a source of so many texts.
+/// Returns the failure of a run over a source of this number of texts.
 pub(crate) fn run_failure(stop: RunStop, texts: usize) -> Failure
     ensures { result ≡ run_failure stop texts }
 {
@@ -129,7 +138,7 @@ pub(crate) fn run_failure(stop: RunStop, texts: usize) -> Failure
     }
 }
 
-/// The failure for the fault of a source of so many texts.
+/// Returns the failure for the fault of a source of this number of texts.
 fn fault_failure(fault: Fault, texts: usize) -> Failure
     ensures { result ≡ fault_failure fault texts }
 {
@@ -148,7 +157,7 @@ fn fault_failure(fault: Fault, texts: usize) -> Failure
     }
 }
 
-/// That a source or a file can't be read, or want of memory to say so.
+/// Returns the failure for a source or a file that can't be read, or that memory ran out.
 pub(crate) fn cannot_read(alloc: Global, path: &str) -> Failure
     ensures { (result ≡ Memory) ⊎ IsCannotRead path.now result }
 {

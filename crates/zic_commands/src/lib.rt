@@ -1,29 +1,31 @@
-//! The commands of the program, over readers, writers, a file system and a tree of files that the caller gives: compile a source and
-//! list its files, or place them in a folder; convert a column of instants by them; and tell what a file says of an instant.
+//! The commands of the program, over texts, bytes, readers, writers and a tree of files that the
+//! caller gives: compile texts and list their files, or place them in a folder; convert a column
+//! of instants by them; and tell what a file says of an instant. Beside them stands what reads the
+//! texts and files that words name. The tests stand in `program_tests`. A module has the word
+//! `command` where the function that it is named for may not share its name.
 #![tactic(auto)]
 
-mod checking;
-mod compiling;
-mod converting;
+mod build_command;
+mod check_command;
+mod compiler;
+mod convert_command;
 mod failure;
-mod folder;
 mod input;
-mod instant;
 mod names;
 mod output;
 mod progress;
-mod showing;
+mod show_command;
 mod sources;
 mod tree;
 
-pub use checking::check;
-pub use converting::convert;
+pub use build_command::build;
+pub use check_command::check;
+pub use convert_command::convert;
 pub use failure::Failure;
-pub use folder::build;
-pub use input::{MOST_SOURCE, read_source_text};
-pub use instant::parse_instant;
+pub use input::{MAX_SOURCE, read_file_bytes, read_source_text};
 pub use names::{kind_name, reason_name, row_kind_name};
-pub use progress::Progress;
-pub use showing::show;
-pub use sources::{STANDARD_INPUT, check_source, convert_source, read_sources, show_file};
+pub use progress::{Progress, Told};
+pub use show_command::show;
+pub use sources::{read_file, read_sources};
 pub use tree::{Disk, Tree, Unplaced};
+pub use zic_plan::{STANDARD_INPUT, parse_instant_word};

@@ -7,7 +7,7 @@ use zic_bulk::RowKind;
 use zic_source::Kind;
 use zic_tzif::Reason;
 
-/// The word for a kind of fault of a source.
+/// Returns the word for a kind of fault of a source.
 pub fn kind_name(kind: Kind) -> &'static str
     ensures { result.now ≡ kind_word kind }
 {
@@ -48,7 +48,7 @@ pub fn kind_name(kind: Kind) -> &'static str
     }
 }
 
-/// The word for a kind of fault of a row.
+/// Returns the word for a kind of fault of a row.
 pub fn row_kind_name(kind: RowKind) -> &'static str
     ensures { result.now ≡ row_kind_word kind }
 {
@@ -61,7 +61,7 @@ pub fn row_kind_name(kind: RowKind) -> &'static str
     }
 }
 
-/// The word for the check that a file fails.
+/// Returns the word for the check that a file fails.
 pub fn reason_name(reason: Reason) -> &'static str
     ensures { result.now ≡ reason_word reason }
 {

@@ -6,24 +6,35 @@ use std::io::{self, Write};
 use std::marker::Model;
 use std::time::{Clock, Duration, Instant};
 
-/// How many milliseconds a line stands on a terminal before it is written anew.
+/// The time in milliseconds after which the line on a terminal is written anew.
 const PERIOD: u64 = 500;
 
-/// A writer of rows that passes each write and flush on with its answer, and tells of the rows on another writer.
+/// Where the line about rows is written, and how often.
+#[derive(Drop)]
+pub enum Told<E> {
+    /// Nowhere.
+    Never,
+    /// Once, by [`Progress::finish`].
+    Once(E),
+    /// On a terminal, where it is written anew about twice a second.
+    Anew(E),
+}
+
+/// A writer of rows that passes each write and flush on with its answer, and tells of the rows on
+/// another writer, if at all.
 ///
-/// The line has how many rows were written, and how many a second since the writer was made: `1048576 rows, 524288 rows a second`. On a
-/// terminal it is written anew about twice a second, and elsewhere just once, by [`Progress::finish`]. What can't be told is left out, and is
-/// no failure of the rows. A row ends with a line feed, and has no other.
+/// The line has the number of rows that were written, and that of rows a second since the writer
+/// was made: `1048576 rows, 524288 rows a second`. What can't be told is left out, and is no
+/// failure of the rows. A row ends with a line feed, and has no other.
 #[derive(Drop)]
 pub struct Progress<'a, W, C, E> {
     inner: W,
     clock: &'a C,
-    told: E,
-    is_terminal: bool,
+    told: Told<E>,
     start: Option<Instant>,
     /// The time since the start at which the line is written anew.
     next: Duration,
-    /// How many rows were written, or none where no write and no flush was asked for.
+    /// The number of rows that were written, or none where no write and no flush was asked for.
     rows: Option<u64>,
 }
 
@@ -34,39 +45,45 @@ impl<'a, W, C, E> Model for Progress<'a, W, C, E> {
 }
 
 impl<'a, W, C: Clock, E: Write> Progress<'a, W, C, E> {
-    /// A writer that has told of no rows.
-    pub fn new(inner: W, clock: &'a C, told: E, is_terminal: bool) -> Progress<'a, W, C, E>
+    /// Returns a writer that has told of no rows.
+    pub fn new(inner: W, clock: &'a C, told: Told<E>) -> Progress<'a, W, C, E>
         ensures { result ≡ inner }
     {
         Progress {
             inner,
             clock,
             told,
-            is_terminal,
             start: Instant::now(clock).ok(),
             next: Duration::from_millis(PERIOD),
             rows: None,
         }
     }
 
-    /// Tells of the rows for the last time, and ends the line. Where no write and no flush was asked for, it tells nothing.
+    /// Tells of the rows for the last time, and ends the line. Where no write and no flush was
+    /// asked for, it tells nothing.
     pub fn finish(&mut self)
         ensures { self.new ≡ self.old }
     {
         if let Some(rows) = self.rows {
             self.tell(rows, self.elapsed());
-            let _ = self.told.write_all(b"\n");
+            if let Told::Once(told) | Told::Anew(told) = &mut self.told {
+                let _ = told.write_all(b"\n");
+            }
         }
     }
 
-    /// Counts the rows among bytes that were written, and tells of them on a terminal where it is time to.
+    /// Counts the rows among bytes that were written, and tells of them on a terminal where it is
+    /// time to.
     fn count(&mut self, written: &[u8])
         ensures { self.new ≡ self.old }
     {
+        if matches!(self.told, Told::Never) {
+            return;
+        }
         let ends = written.iter().filter(|byte| **byte == b'\n').count() as u64;
         let rows = self.rows.unwrap_or(0).saturating_add(ends);
         self.rows = Some(rows);
-        if self.is_terminal {
+        if matches!(self.told, Told::Anew(_)) {
             let elapsed = self.elapsed();
             if self.next <= elapsed {
                 self.next = elapsed.saturating_add(Duration::from_millis(PERIOD));
@@ -75,7 +92,7 @@ impl<'a, W, C: Clock, E: Write> Progress<'a, W, C, E> {
         }
     }
 
-    /// The time since the start, or none where the clock fails.
+    /// Returns the time since the start, or zero where the clock fails.
     fn elapsed(&self) -> Duration {
         match self.start {
             Some(start) => start.elapsed(self.clock).unwrap_or(Duration::ZERO),
@@ -88,10 +105,10 @@ impl<'a, W, C: Clock, E: Write> Progress<'a, W, C, E> {
         ensures { self.new ≡ self.old }
     {
         let rate = rows as u128 * 1000 / elapsed.as_millis().max(1);
-        let _ = if self.is_terminal {
-            write!(self.told, "\r{rows} rows, {rate} rows a second\x1b[K")
-        } else {
-            write!(self.told, "{rows} rows, {rate} rows a second")
+        let _ = match &mut self.told {
+            Told::Never => Ok(()),
+            Told::Once(told) => write!(told, "{rows} rows, {rate} rows a second"),
+            Told::Anew(told) => write!(told, "\r{rows} rows, {rate} rows a second\x1b[K"),
         };
     }
 }

@@ -2,10 +2,10 @@
 use Rattle.std.proofs.Common.{◌≡◌, ◌≤◌, ◌∙◌, ℕ, ℤ, List, ◌∷◌, [], Bor, Option, Some, Result, Ok, Err, ap, refl, sym, subst}
 use Rattle.std.specs.Result.{IsErrAnd, MatchResult}
 use Rattle.zic_base.specs.State.{Shown}
-use Rattle.zic_bulk.specs.Files.{File}
-use Rattle.zic_bulk.specs.declared.stop.RowKind.{RowKind}
+use Rattle.zic_files.specs.File.{File}
+use Rattle.zic_plan.specs.declared.stop.RowKind.{RowKind}
 use Rattle.zic_rows.specs.Row.{IsRowState}
-use Rattle.zic_table.specs.Content.{Content}
+use Rattle.zic_content.specs.Content.{Content}
 use Rattle.zic_tzif.specs.Answer.{Answers}
 use Rattle.zic_convert.specs.code.Clock.{IsShown, IsTold, IsZoneOf, Told}
 use Rattle.zic_convert.specs.code.Query.{IsAsked}

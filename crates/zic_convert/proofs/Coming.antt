@@ -5,8 +5,8 @@ use Rattle.std.specs.List.{concat}
 use Rattle.std.proofs.lemmas.Bool.{cases_Bool}
 use Rattle.std.proofs.lemmas.List.Folds.{concat-append}
 use Rattle.std.proofs.lemmas.List.{append-nil, length-append}
-use Rattle.zic_bulk.specs.Files.{File}
-use Rattle.zic_bulk.specs.declared.stop.RowKind.{RowKind}
+use Rattle.zic_files.specs.File.{File}
+use Rattle.zic_plan.specs.declared.stop.RowKind.{RowKind}
 use Rattle.zic_convert.specs.Rows.{ComeTo, IsTextOf, fault_of}
 use Rattle.zic_convert.specs.code.Row.{AreRowsOf, RowsOf}
 use Rattle.zic_convert.specs.code.Pieces.{followed_by}

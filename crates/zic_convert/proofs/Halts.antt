@@ -1,19 +1,23 @@
 -- How a conversion ends, by how far it has come.
-use Rattle.std.proofs.Common.{◌≡◌, ◌≤◌, ◌+◌, ℕ, List, [], ◌++◌, length, Option, None, sym, subst, ◌∙◌, inl, inr, arith}
+use Rattle.std.proofs.Common.{◌≡◌, ◌≤◌, ◌+◌, ℕ, List, [], length, Option, None, refl, sym, subst, ◌∙◌, inl, inr, arith}
 use Rattle.std.specs.Prelude.{All}
 use Rattle.std.proofs.lemmas.List.{append-nil}
 use Rattle.zic_counted.specs.Counts.{Counts}
-use Rattle.zic_bulk.specs.Files.{File}
-use Rattle.zic_bulk.specs.declared.stop.RunStop.{RunStop}
-use Rattle.zic_bulk.specs.declared.stop.RunStop.TheVariants as stop
+use Rattle.zic_files.specs.File.{File}
+use Rattle.zic_plan.specs.declared.stop.RunStop.{RunStop}
+use Rattle.zic_plan.specs.declared.stop.RunStop.TheVariants as stop
 use Rattle.zic_convert.specs.Convert.{WritesAll, WritesAt, WritesUpTo}
 use Rattle.zic_convert.specs.code.Row.{AreRowsOf, RowsOf}
-use Rattle.zic_convert.specs.code.Pieces.{joined}
-use Rattle.zic_convert.specs.code.Progress.{AreAllLeft, ComeNext, IsSoFar, Left, Takes}
-use Rattle.zic_convert.specs.code.Written.{EndsAtRow, EndsInPieces, FailsWithin, Wrote}
-use Rattle.zic_convert.proofs.Bytes.{wrote_both, wrote_part}
-use Rattle.zic_convert.proofs.Coming.{all_texts, all_within, few_texts}
-use Rattle.zic_convert.proofs.Progress.{all_written, later, part_written, unread_part, up_to_fault}
+use Rattle.zic_convert.specs.code.Pieces.{Pieces}
+use Rattle.zic_convert.specs.code.Progress.{ComeNext, IsSoFar, Takes}
+use Rattle.zic_convert.specs.code.Written.{EndsAtRow, EndsInRound, FailsWithin, Wrote}
+use Rattle.std.specs.List.{concat}
+use Rattle.std.specs.Io.KnownBytes.{Appends}
+use Rattle.csv.proofs.WriteFacts.{appends-more}
+use Rattle.zic_columns.specs.Column.{column_records}
+use Rattle.zic_columns.specs.Round.{HasNoRecord, records_of}
+use Rattle.zic_convert.proofs.Coming.{all_texts, all_within, few_texts, no_rows}
+use Rattle.zic_convert.proofs.Progress.{all_written, if_some, later, part_written, unread_part, up_to_fault}
 use Rattle.zic_convert.proofs.Sounds.{IsKnown}
 
 -- rows without a fault are as many as their records
@@ -31,7 +35,7 @@ pub few : (files : List File) (most n : ℕ) (rs : List (List (List ℕ))) (rows
 few files most n rs rows are = omega (arith, are.count, few_texts files most n rs are.texts rows.fault are.come)
 
 module _ {W : Type 0} (contents : W → Option (List ℕ)) where
-  module _ (files : List File) (most : ℕ) (text : List ℕ) (known : All IsKnown files) (left : Left) (n : ℕ) (old : Option (List ℕ)) (mid : Counts W)
+  module _ (files : List File) (most : ℕ) (text : List ℕ) (known : All IsKnown files) (left : Option (List ℕ)) (n : ℕ) (old : Option (List ℕ)) (mid : Counts W)
       (far : IsSoFar files most text left n old (contents mid.inner)) where
     module _ (rs : List (List (List ℕ))) (come : ComeNext left rs) (rows : RowsOf) (are : AreRowsOf files most (n + 1) rs rows) (new : Counts W) where
       -- the writer failed, or a row has a fault
@@ -46,27 +50,32 @@ module _ {W : Type 0} (contents : W → Option (List ℕ)) where
       ends_at_row stop.Memory h = absurd h
       ends_at_row stop.NoThread h = absurd h
 
-      -- the writer failed in the end
-      pub ends_at_flush : (why : RunStop) (last : Counts W) → why ≡ stop.WriteFailed → Wrote contents mid last rows.text → FailsWithin contents last new []
-          → WritesAt files most text why old (contents new.inner)
-      ends_at_flush why last is_failed wrote fails =
-          let e : (rows.text ++ []) ++ [] ≡ rows.text = append-nil (rows.text ++ []) ∙ append-nil rows.text in
-          rw is_failed (ends_at_row stop.WriteFailed (subst (λ (l : List ℕ). FailsWithin contents mid new l) e (wrote_part contents mid last new rows.text [] [] wrote fails)))
-
-      -- all rows are written and flushed
-      pub all_done : (last : Counts W) → rows.fault ≡ None → AreAllLeft left rs → Wrote contents mid last rows.text → Wrote contents last new []
-          → WritesAll files most text (n + rows.count) old (contents new.inner)
-      all_done last none all wrote flushed =
-          let both = subst (λ (l : List ℕ). Wrote contents mid new l) (append-nil rows.text) (wrote_both contents mid last new rows.text [] wrote flushed) in
-          all_written files most text left n old (contents mid.inner) (contents new.inner) far rs rows are none all both.0
-
       -- and the column goes on
-      pub goes_on : (next : Left) → rows.fault ≡ None → Takes left next rs → Wrote contents mid new rows.text → IsSoFar files most text next (n + rows.count) old (contents new.inner)
+      pub goes_on : (next : Option (List ℕ)) → rows.fault ≡ None → Takes left next rs → Wrote contents mid new rows.text → IsSoFar files most text next (n + rows.count) old (contents new.inner)
       goes_on next none takes wrote = later files most text left n old (contents mid.inner) (contents new.inner) far rs rows are next none takes wrote.0
 
     -- rows could not be made, or not written, or one has a fault
-    pub ends_in_pieces : (Are : List RowsOf → Type 0) (rs : List (List (List ℕ))) → ComeNext left rs → ((rows : List RowsOf) → Are rows → AreRowsOf files most (n + 1) rs (joined rows))
-        → (new : Counts W) (why : RunStop) → EndsInPieces Are contents mid new (n + 1) why → WritesAt files most text why old (contents new.inner)
-    ends_in_pieces Are rs come are new why (inl memory) =
+    pub ends_in_round : (p : Pieces) (rs : List (List (List ℕ))) → ComeNext left rs → files ≡ p.files → most ≡ p.most → n + 1 ≡ p.first → records_of p.pieces ≡ rs
+        → (new : Counts W) (why : RunStop) → EndsInRound p contents mid new why → WritesAt files most text why old (contents new.inner)
+    ends_in_round p rs come f m number same new why (inl memory) =
         rw (memory.0, memory.1) (unread_part files most text left n old (contents mid.inner) far known)
-    ends_in_pieces Are rs come are new why (inr ends) = ends_at_row rs come (joined ends.0) (are ends.0 ends.1) new why ends.2
+    ends_in_round p rs come f m number same new why (inr ends) =
+        ends_at_row rs come ends.0 (rw (f, m, number, ← same) ends.1) new why (rw number ends.2)
+
+    -- the writer failed in the end
+    pub ends_at_flush : (new : Counts W) (why : RunStop) → why ≡ stop.WriteFailed → FailsWithin contents mid new [] → WritesAt files most text why old (contents new.inner)
+    ends_at_flush new why is fails =
+        let come : ComeNext left [] = if_some left _ (λ bytes e. (column_records bytes, refl)) in
+        rw is (ends_at_row [] come (record { text = []; count = 0; fault = None }) (no_rows files most (n + 1)) new stop.WriteFailed fails)
+
+    -- all rows are written and flushed
+    pub all_done : (new : Counts W) → HasNoRecord left → Wrote contents mid new [] → WritesAll files most text n old (contents new.inner)
+    all_done new none flushed =
+        let all = all_written files most text left n old (contents mid.inner) far none in
+        record {
+          texts = all.texts;
+          converts = all.converts;
+          count = all.count;
+          wrote = subst (λ (l : List ℕ). Appends old (contents new.inner) l) (append-nil (concat all.texts))
+              (appends-more old (contents mid.inner) (contents new.inner) (concat all.texts) [] all.wrote flushed.0);
+        }

@@ -1,83 +1,228 @@
--- The rows of the pieces of a block, put together.
-use Rattle.std.proofs.Common.{◌≡◌, ◌≤◌, ◌<◌, ◌+◌, ◌-◌, ◌*◌, ℕ, suc, List, [], ◌∷◌, ◌++◌, length, map, drop, min, Ok, refl, sym, ap, subst, ◌∙◌, arith}
-use Rattle.std.proofs.Math.Nat.{min-le_left, min-le_right, min-eq_right}
-use Rattle.std.proofs.lemmas.Grind.{div_ceil_times}
-use Rattle.std.proofs.lemmas.List.{drop-drop, drop_all, length-drop, length-take, take-append-drop}
+-- The rows of the pieces of a round, put together.
+use Rattle.std.proofs.Common.{◌≡◌, ◌≤◌, ◌<◌, ◌+◌, ◌*◌, ℕ, zero, suc, false, List, [], ◌∷◌, ◌++◌, length, take, drop, get_or, true, Option, Some, None, Result, Ok, Err, inl, inr, refl, sym, ap, subst, ◌∙◌, append_assoc, arith}
+use Rattle.std.specs.Prelude.{slice_get, IfErr, IfOk, IfSome, IsSome}
+use Rattle.std.proofs.lemmas.List.{append-nil, length-append, length-take, take-append-drop}
+use Rattle.std.proofs.lemmas.Option.{same_Some, slice_get-get_or}
+use Rattle.std.proofs.lemmas.Grind.{flat_map-append}
 use mathlib.Core.Option.{some}
 use lib.ListN.{get_elem?}
-use Rattle.csv.specs.Records.{Row, fields_of}
+use Rattle.zic_columns.specs.Round.{ArePiecesOf, records_of}
+use Rattle.zic_columns.specs.Column.{column_records}
 use Rattle.zic_pieces.specs.Task.{AreValues}
-use Rattle.zic_bulk.specs.Files.{File}
+use Rattle.zic_files.specs.File.{File}
 use Rattle.zic_convert.specs.code.Row.{AreRowsOf, RowsOf}
-use Rattle.zic_convert.specs.code.Pieces.{Pieces, IsOutcomeOf, count_of, start_of, records_of, joined}
-use Rattle.zic_convert.proofs.Coming.{no_rows, rows_followed}
+use Rattle.zic_convert.specs.code.Written.{EndsInRound, WritesRound}
+use Rattle.zic_counted.specs.Counts.{Counts}
+use Rattle.zic_plan.specs.declared.stop.RunStop.{RunStop}
+use Rattle.zic_convert.specs.code.Pieces.{ArePieces, AreRowsOfPiece, IsOutcomeOf, Pieces, joined}
+use Rattle.zic_plan.specs.declared.stop.RowKind.{RowKind}
+use Rattle.zic_convert.specs.Rows.{ComeTo}
+use Rattle.zic_convert.proofs.Coming.{come_more, no_rows, rows_followed}
 
-module _ (p : Pieces) where
-  -- a piece starts at a record, or after the last
-  pub starts_within : (i : ℕ) → start_of p i ≤ length p.records
-  starts_within i = min-le_right (i * p.size) (length p.records)
+module _ (files : List File) (most size : ℕ) where
+  -- the rows of pieces, by those of each
+  abbrev AreRowsOfEach : ℕ → List (List ℕ) → List RowsOf → Type 0
+  AreRowsOfEach first pieces values =
+      (i : ℕ) (x : RowsOf) → get_elem? values i ≡ some x → IfSome (slice_get pieces i) (λ piece. AreRowsOf files most (first + i * size) (column_records piece) x)
 
-  -- the last piece ends after the last record
-  pub last_start : 0 < p.size → start_of p (count_of p) ≡ length p.records
-  last_start positive = min-eq_right (div_ceil_times (length p.records) p.size positive).0
+  -- those of the first piece
+  first_rows : (first : ℕ) (piece : List ℕ) (pieces : List (List ℕ)) (x : RowsOf) (values : List RowsOf) → AreRowsOfEach first (piece ∷ pieces) (x ∷ values)
+      → AreRowsOf files most first (column_records piece) x
+  first_rows first piece pieces x values each =
+      let at : first + 0 * size ≡ first = omega arith in
+      subst (λ (n : ℕ). AreRowsOf files most n (column_records piece) x) at (each 0 x refl)
 
-  -- pieces start in order
-  pub starts_rise : (i : ℕ) → start_of p i ≤ start_of p (i + 1)
-  starts_rise i = min_rises (i * p.size) ((i + 1) * p.size) (length p.records) (grind arith) where
-    min_rises : (a b c : ℕ) → a ≤ b → min a c ≤ min b c
-    min_rises a b c h = omega (arith, h)
+  -- those of the pieces after it
+  later_rows : (first : ℕ) (piece : List ℕ) (pieces : List (List ℕ)) (x : RowsOf) (values : List RowsOf) → AreRowsOfEach first (piece ∷ pieces) (x ∷ values)
+      → AreRowsOfEach (first + size) pieces values
+  later_rows first piece pieces x values each =
+      λ i y e.
+      let at : first + suc i * size ≡ first + size + i * size = grind arith in
+      subst (λ (n : ℕ). IfSome (slice_get pieces i) (λ piece. AreRowsOf files most n (column_records piece) y)) at (each (suc i) y e)
 
-  -- a piece's records, and those after them
-  split : (i : ℕ) → records_of p i ++ drop (start_of p (i + 1)) p.records ≡ drop (start_of p i) p.records
-  split i =
-      let a = start_of p i in
-      let b = start_of p (i + 1) in
-      let at : a + (b - a) ≡ b = omega (arith, starts_rise i) in
-      ap (λ (l : List (List (List ℕ))). records_of p i ++ l) (sym (drop-drop (b - a) a p.records ∙ ap (λ n. drop n p.records) at))
-      ∙ take-append-drop (b - a) (drop a p.records)
+  -- the rows of all, where each piece but the last is full
+  rows_of_all : (first : ℕ) (pieces : List (List ℕ)) (values : List RowsOf) → ArePiecesOf size pieces → length values ≡ length pieces → AreRowsOfEach first pieces values
+      → AreRowsOf files most first (records_of pieces) (joined values)
+  rows_of_all first [] [] cut long each = no_rows files most first
+  rows_of_all first [] (x ∷ values) cut long each = absurd (omega (arith, long))
+  rows_of_all first (p ∷ ps) [] cut long each = absurd (omega (arith, long))
+  rows_of_all first (p ∷ []) (x ∷ y ∷ values) cut long each = absurd (omega (arith, long))
+  rows_of_all first (p ∷ []) (x ∷ []) cut long each =
+      rows_followed files most first (column_records p) [] x (joined []) x.fault refl (first_rows first p [] x [] each) (λ none. no_rows files most (first + length (column_records p)))
+  rows_of_all first (p ∷ q ∷ ps) (x ∷ values) cut long each =
+      let after = rows_of_all (first + size) (q ∷ ps) values cut.1 (omega (arith, long)) (later_rows first p (q ∷ ps) x values each) in
+      rows_followed files most first (column_records p) (records_of (q ∷ ps)) x (joined values) x.fault refl (first_rows first p (q ∷ ps) x values each)
+      (λ none. subst (λ (n : ℕ). AreRowsOf files most (first + n) (records_of (q ∷ ps)) (joined values)) (sym cut.0) after)
 
-  -- how many records a piece has
-  piece_length : (i : ℕ) → start_of p i + length (records_of p i) ≡ start_of p (i + 1)
-  piece_length i =
-      let a = start_of p i in
-      let b = start_of p (i + 1) in
-      omega (arith, length-take (b - a) (drop a p.records), length-drop a p.records, starts_rise i, starts_within (i + 1))
+-- the rows of all pieces of a round
+pub joined_round : (p : Pieces) (values : List RowsOf) → ArePieces p → AreValues (IsOutcomeOf p) (length p.pieces) values
+    → AreRowsOf p.files p.most p.first (records_of p.pieces) (joined values)
+joined_round p values sound are = rows_of_all p.files p.most p.size p.first p.pieces values sound.cut are.0 are.1
 
-  -- the rows of some pieces in a row, the last of which is the last of all
-  joined_from : (i : ℕ) (values : List RowsOf) → start_of p (i + length values) ≡ length p.records
-      → ((k : ℕ) (x : RowsOf) → get_elem? values k ≡ some x → IsOutcomeOf p (i + k) (Ok x))
-      → AreRowsOf p.files p.most (p.first + start_of p i) (drop (start_of p i) p.records) (joined values)
-  joined_from i [] end each =
-      let at : i + 0 ≡ i = omega arith in
-      let past : start_of p i ≡ length p.records = ap (start_of p) (sym at) ∙ end in
-      subst (λ (l : List (List (List ℕ))). AreRowsOf p.files p.most (p.first + start_of p i) l (joined [])) (sym (drop_all (start_of p i) p.records (omega (arith, past))))
-      (no_rows p.files p.most (p.first + start_of p i))
-  joined_from i (x ∷ values) end each =
-      let at : i + 0 ≡ i = omega arith in
-      let here = subst (λ (n : ℕ). AreRowsOf p.files p.most (p.first + start_of p n) (records_of p n) x) at (each 0 x refl) in
-      let next : i + suc (length values) ≡ i + 1 + length values = omega arith in
-      let rest = joined_from (i + 1) values (ap (start_of p) (sym next) ∙ end)
-      (λ k y e. let shift : i + suc k ≡ i + 1 + k = omega arith in subst (λ (n : ℕ). IsOutcomeOf p n (Ok y)) shift (each (suc k) y e)) in
-      let number : p.first + start_of p (i + 1) ≡ p.first + start_of p i + length (records_of p i) = omega (arith, piece_length i) in
-      subst (λ (l : List (List (List ℕ))). AreRowsOf p.files p.most (p.first + start_of p i) l (joined (x ∷ values))) (split i)
-      (rows_followed p.files p.most (p.first + start_of p i) (records_of p i) (drop (start_of p (i + 1)) p.records) x (joined values) x.fault refl here
-      (λ none. subst (λ (n : ℕ). AreRowsOf p.files p.most n (drop (start_of p (i + 1)) p.records) (joined values)) number rest))
+-- a piece has no more records than a full one
+pub piece_few : (size : ℕ) (pieces : List (List ℕ)) (i : ℕ) (piece : List ℕ) → slice_get pieces i ≡ Some piece → ArePiecesOf size pieces → length (column_records piece) ≤ size
+piece_few size [] i piece e cut = absurd cc
+piece_few size (p ∷ []) zero piece e cut = subst (λ (l : List ℕ). length (column_records l) ≤ size) (same_Some p piece e) cut.1
+piece_few size (p ∷ []) (suc i) piece e cut = absurd cc
+piece_few size (p ∷ q ∷ ps) zero piece e cut = subst (λ (l : List ℕ). length (column_records l) ≤ size) (same_Some p piece e) (omega (arith, cut.0))
+piece_few size (p ∷ q ∷ ps) (suc i) piece e cut = piece_few size (q ∷ ps) i piece e cut.1
 
-  -- the rows of all pieces
-  joined_all : (values : List RowsOf) → 0 < p.size → AreValues (IsOutcomeOf p) (count_of p) values → AreRowsOf p.files p.most p.first p.records (joined values)
-  joined_all values positive are =
-      let end : start_of p (0 + length values) ≡ length p.records = ap (start_of p) (omega (arith, are.0)) ∙ last_start positive in
-      let all = joined_from 0 values end (λ k x e. let shift : k ≡ 0 + k = omega arith in subst (λ (n : ℕ). IsOutcomeOf p n (Ok x)) shift (are.1 k x e)) in
-      let start : start_of p 0 ≡ 0 = omega (arith, min-le_left (0 * p.size) (length p.records)) in
-      let number : p.first + 0 ≡ p.first = omega arith in
-      subst (λ (n : ℕ). AreRowsOf p.files p.most n p.records (joined values)) number
-      (subst (λ (n : ℕ). AreRowsOf p.files p.most (p.first + n) (drop n p.records) (joined values)) start all)
+-- so a round has no more than so many full pieces
+round_few : (size : ℕ) (pieces : List (List ℕ)) → ArePiecesOf size pieces → length (records_of pieces) ≤ length pieces * size
+round_few size [] cut = omega arith
+round_few size (p ∷ []) cut = omega (arith, length-append (column_records p) [], cut.1)
+round_few size (p ∷ q ∷ ps) cut =
+    let after = round_few size (q ∷ ps) cut.1 in
+    let both = length-append (column_records p) (records_of (q ∷ ps)) in
+    let times : (1 + length (q ∷ ps)) * size ≡ size + length (q ∷ ps) * size = grind arith in
+    omega (arith, both, cut.0, after, times)
 
--- the rows of a block's records, by its pieces
-pub rows_of_records : (files : List File) (most first size : ℕ) (given taken : List Row) (p : Pieces)
-    → p ≡ record { files = files; records = map fields_of given; first = first; most = most; size = size } → given ≡ taken → 0 < size
-    → (rows : List RowsOf) → AreValues (IsOutcomeOf p) (count_of p) rows → AreRowsOf files most first (map fields_of taken) (joined rows)
-rows_of_records files most first size given taken p is same positive rows are =
-    let q : Pieces = record { files = files; records = map fields_of taken; first = first; most = most; size = size } in
-    let all : p ≡ q = is ∙ ap (λ (l : List Row). record { files = files; records = map fields_of l; first = first; most = most; size = size }) same in
-    joined_all q rows positive (subst (λ (r : Pieces). AreValues (IsOutcomeOf r) (count_of r) rows) all are)
+-- and some record, where it has a piece
+pub some_records : (size : ℕ) (pieces : List (List ℕ)) → 0 < length pieces → 0 < size → ArePiecesOf size pieces → 0 < length (records_of pieces)
+some_records size [] has positive cut = absurd (omega (arith, has))
+some_records size (p ∷ []) has positive cut = omega (arith, length-append (column_records p) [], cut.0)
+some_records size (p ∷ q ∷ ps) has positive cut = omega (arith, length-append (column_records p) (records_of (q ∷ ps)), positive, cut.0)
+
+-- and few enough for their numbers
+product : (a b : ℕ) → a ≤ 4294967296 → b ≤ 65536 → a * b ≤ 281474976710656
+product a b h k = grind (arith, h, k)
+
+pub few_records : (p : Pieces) → ArePieces p → length (records_of p.pieces) ≤ 281474976710656
+few_records p sound = omega (arith, round_few p.size p.pieces sound.cut, product (length p.pieces) p.size sound.few sound.small)
+
+pub small_number : (p : Pieces) (i : ℕ) → ArePieces p → i < length p.pieces → p.first + i * p.size ≤ 281475076710657
+small_number p i sound lt = omega (arith, product i p.size (omega (arith, lt, sound.few)) sound.small, sound.first)
+
+-- ---- the pieces up to one
+
+-- the first pieces of a round are pieces
+front_cut : (size n : ℕ) (pieces : List (List ℕ)) → 1 ≤ size → ArePiecesOf size pieces → ArePiecesOf size (take n pieces)
+front_cut size zero pieces least cut = tt
+front_cut size (suc n) [] least cut = tt
+front_cut size (suc zero) (p ∷ []) least cut = cut
+front_cut size (suc (suc n)) (p ∷ []) least cut = cut
+front_cut size (suc zero) (p ∷ q ∷ ps) least cut = (omega (arith, cut.0, least), omega (arith, cut.0))
+front_cut size (suc (suc n)) (p ∷ q ∷ ps) least cut = (cut.0, front_cut size (suc n) (q ∷ ps) least cut.1)
+
+pub front_sound : (p : Pieces) (i : ℕ) → ArePieces p → ArePieces (record p { pieces = take (i + 1) p.pieces; stops = false })
+front_sound p i sound = record {
+  some = sound.some;
+  small = sound.small;
+  cut = front_cut p.size (i + 1) p.pieces sound.some sound.cut;
+  few = omega (arith, length-take (i + 1) p.pieces, sound.few);
+  first = sound.first;
+}
+
+-- the records up to a piece, and its own
+front_records : (size : ℕ) (pieces : List (List ℕ)) (i : ℕ) (piece : List ℕ) → ArePiecesOf size pieces → slice_get pieces i ≡ Some piece
+    → (before : List (List (List ℕ))) × (length before ≡ i * size) × (records_of (take (suc i) pieces) ≡ before ++ column_records piece)
+front_records size [] i piece cut e = absurd cc
+front_records size (p ∷ ps) zero piece cut e = ([], omega arith, append-nil (column_records p) ∙ ap column_records (same_Some p piece e))
+front_records size (p ∷ []) (suc i) piece cut e = absurd cc
+front_records size (p ∷ q ∷ ps) (suc i) piece cut e =
+    let later = front_records size (q ∷ ps) i piece cut.1 e in (
+      column_records p ++ later.0,
+      (let times : suc i * size ≡ size + i * size = grind arith in omega (arith, length-append (column_records p) later.0, cut.0, later.1, times)),
+      ap (λ (r : List (List (List ℕ))). column_records p ++ r) later.2 ∙ sym (append_assoc (column_records p) later.0 (column_records piece)),
+    )
+
+module _ (files : List File) (most : ℕ) where
+  -- records don't come to rows with a fault and without
+  one_way : (number : ℕ) (xs : List (List (List ℕ))) (t u : List (List ℕ)) (fault : Option RowKind) → ComeTo files most number xs t None → ComeTo files most number xs u fault → IsSome fault → ⊥
+  one_way number [] t u None first second has = cc has
+  one_way number [] t u (Some kind) first second has = cc second.1
+  one_way number (x ∷ xs) [] u fault first second has = cc first.1
+  one_way number (x ∷ xs) (t ∷ ts) [] None first second has = cc has
+  one_way number (x ∷ xs) (t ∷ ts) [] (Some kind) first second has = cc (second.0 ∙ first.0)
+  one_way number (x ∷ xs) (t ∷ ts) (u ∷ us) fault first second has = one_way (number + 1) xs ts us fault first.2 second.2 has
+
+  -- nor do some that come after others
+  clash : (number : ℕ) (xs ys : List (List (List ℕ))) (t u : List (List ℕ)) (fault : Option RowKind) → ComeTo files most number (xs ++ ys) t None
+      → ComeTo files most (number + length xs) ys u fault → IsSome fault → ⊥
+  clash number [] ys t u fault first second has =
+      let at : number + 0 ≡ number = omega arith in
+      one_way number ys t u fault first (subst (λ (n : ℕ). ComeTo files most n ys u fault) at second) has
+  clash number (x ∷ xs) ys [] u fault first second has = cc first.1
+  clash number (x ∷ xs) ys (t ∷ ts) u fault first second has =
+      let at : number + suc (length xs) ≡ number + 1 + length xs = omega arith in
+      clash (number + 1) xs ys ts u fault first.2 (subst (λ (n : ℕ). ComeTo files most n ys u fault) at second) has
+
+-- the rows up to a piece that has a fault have one
+pub front_faults : (p : Pieces) (i : ℕ) (rows found : RowsOf) → ArePieces p → i < length p.pieces → AreRowsOf p.files p.most p.first (records_of (take (i + 1) p.pieces)) rows
+    → AreRowsOfPiece p i found → IsSome found.fault → rows.fault ≡ None → ⊥
+front_faults p i rows found sound lt are of_piece has none =
+    let piece = get_or p.pieces i [] in
+    let e : slice_get p.pieces i ≡ Some piece = slice_get-get_or p.pieces i [] lt in
+    let parts = front_records p.size p.pieces i piece sound.cut e in
+    let here = rw e at of_piece in
+    let at : i + 1 ≡ suc i = omega arith in
+    let all : records_of (take (i + 1) p.pieces) ≡ parts.0 ++ column_records piece = ap (λ (n : ℕ). records_of (take n p.pieces)) at ∙ parts.2 in
+    let come = rw (none, all) at are.come in
+    clash p.files p.most p.first parts.0 (column_records piece) are.texts here.texts found.fault come
+    (subst (λ (n : ℕ). ComeTo p.files p.most (p.first + n) (column_records piece) here.texts found.fault) (sym parts.1) here.come) has
+
+-- rows up to a fault are those of all
+pub front_of_all : (p : Pieces) (i : ℕ) (rows : RowsOf) (kind : RowKind) → AreRowsOf p.files p.most p.first (records_of (take (i + 1) p.pieces)) rows → rows.fault ≡ Some kind
+    → AreRowsOf p.files p.most p.first (records_of p.pieces) rows
+front_of_all p i rows kind are has =
+    let all : records_of p.pieces ≡ records_of (take (i + 1) p.pieces) ++ records_of (drop (i + 1) p.pieces) =
+    ap records_of (sym (take-append-drop (i + 1) p.pieces)) ∙ flat_map-append column_records (take (i + 1) p.pieces) (drop (i + 1) p.pieces) in
+    record {
+      texts = are.texts;
+      come = rw (all, has) (come_more p.files p.most p.first (records_of (take (i + 1) p.pieces)) (records_of (drop (i + 1) p.pieces)) are.texts kind (rw has at are.come));
+      text = are.text;
+      count = are.count;
+    }
+
+-- ---- a round that is converted again up to a fault
+
+module _ (p : Pieces) (i : ℕ) (found : RowsOf) (sound : ArePieces p) (lt : i < length p.pieces) (of_piece : AreRowsOfPiece p i found) (has : IsSome found.fault) where
+  module _ {W : Type 0} (contents : W → Option (List ℕ)) (old new : Counts W) where
+    -- its rows are not all without a fault
+    pub again_ok : (count : ℕ) → WritesRound (record p { pieces = take (i + 1) p.pieces; stops = false }) contents old new count → ⊥
+    again_ok count wrote = front_faults p i wrote.0 found sound lt wrote.1 of_piece has wrote.2.0
+
+    by_fault : (rows : RowsOf) (fault : Option RowKind) → rows.fault ≡ fault → AreRowsOf p.files p.most p.first (records_of (take (i + 1) p.pieces)) rows → AreRowsOf p.files p.most p.first (records_of p.pieces) rows
+    by_fault rows None e are = absurd (front_faults p i rows found sound lt are of_piece has e)
+    by_fault rows (Some kind) e are = front_of_all p i rows kind are e
+
+    -- it ends as the whole does
+    pub again_err : (why : RunStop) → EndsInRound (record p { pieces = take (i + 1) p.pieces; stops = false }) contents old new why → EndsInRound p contents old new why
+    again_err why (inl memory) = inl memory
+    again_err why (inr ends) = inr (ends.0, by_fault ends.0 ends.0.fault refl ends.1, ends.2)
+
+-- the rows of a round that was taken
+pub rows_of_round : (p : Pieces) (files : List File) (most first size : ℕ) (given taken : List (List ℕ)) → p ≡ record { files = files; pieces = given; first = first; most = most; size = size; stops = true }
+    → given ≡ taken → (rows : RowsOf) → AreRowsOf p.files p.most p.first (records_of p.pieces) rows → AreRowsOf files most first (records_of taken) rows
+rows_of_round p files most first size given taken is same rows are =
+    let all = is ∙ ap (λ (l : List (List ℕ)). record { files = files; pieces = l; first = first; most = most; size = size; stops = true }) same in
+    subst (λ (q : Pieces). AreRowsOf q.files q.most q.first (records_of q.pieces) rows) all are
+
+-- what holds of a value where more does
+pub on_ok : {X E : Type 0} (r : Result X E) (P Q : X → Type 0) → ((x : X) → P x → Q x) → IfOk r P → IfOk r Q
+on_ok (Ok x) P Q f is = f x is
+on_ok (Err e) P Q f is = tt
+
+pub on_err : {X E : Type 0} (r : Result X E) (P Q : E → Type 0) → ((e : E) → P e → Q e) → IfErr r P → IfErr r Q
+on_err (Ok x) P Q f is = tt
+on_err (Err e) P Q f is = f e is
+
+if_map : {X : Type 0} (o : Option X) (P Q : X → Type 0) → ((x : X) → P x → Q x) → IfSome o P → IfSome o Q
+if_map None P Q f is = tt
+if_map (Some x) P Q f is = f x is
+
+-- the rows of the records of a piece are those of the piece
+pub rows_of_piece : (p : Pieces) (i : ℕ) (split : List (List (List ℕ))) (rows : RowsOf) → IfSome (slice_get p.pieces i) (λ piece. split ≡ column_records piece)
+    → AreRowsOf p.files p.most (p.first + i * p.size) split rows → AreRowsOfPiece p i rows
+rows_of_piece p i split rows is are =
+    if_map (slice_get p.pieces i) (λ piece. split ≡ column_records piece) (λ piece. AreRowsOf p.files p.most (p.first + i * p.size) (column_records piece) rows)
+    (λ piece same. subst (λ (rs : List (List (List ℕ))). AreRowsOf p.files p.most (p.first + i * p.size) rs rows) same are) is
+
+-- the numbers of a piece's rows are no great ones
+pub few_of_piece : (p : Pieces) (i : ℕ) (split : List (List (List ℕ))) → ArePieces p → i < length p.pieces → IfSome (slice_get p.pieces i) (λ piece. split ≡ column_records piece)
+    → p.first + i * p.size + length split < 18446744073709551616
+few_of_piece p i split sound lt is =
+    let piece = get_or p.pieces i [] in
+    let e : slice_get p.pieces i ≡ Some piece = slice_get-get_or p.pieces i [] lt in
+    let same : split ≡ column_records piece = rw e at is in
+    omega (arith, small_number p i sound lt, ap length same, piece_few p.size p.pieces i piece e sound.cut, sound.small)

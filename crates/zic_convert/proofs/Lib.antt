@@ -1,16 +1,12 @@
 pub mod Coming
 pub mod Bytes
 pub mod Joining
-pub mod JoiningLines
-pub mod Records
 pub mod Faults
 pub mod Sounds
 pub mod Clocks
 pub mod SoFar
-pub mod Blocks
 pub mod Writings
 pub mod Totals
 pub mod Progress
 pub mod Halts
 pub mod Once
-pub mod Handed

@@ -7,11 +7,11 @@ use Rattle.zic_columns.specs.Laws.{RecordsAreOne}
 use Rattle.zic_tzif.specs.Answer.{Answers}
 use Rattle.zic_tzif.specs.Laws.{FilesAnswerOnce}
 use Rattle.zic_rows.specs.Row.{row_text}
-use Rattle.zic_source.proofs.Elements.{get_contained}
-use Rattle.zic_bulk.proofs.Lists.{one_by_key}
-use Rattle.zic_bulk.specs.Files.{File}
-use Rattle.zic_bulk.specs.Sound.{AreSoundFiles, IsSoundFile}
-use Rattle.zic_bulk.specs.declared.stop.RowKind.{RowKind}
+use Rattle.zic_base.proofs.Elements.{get_contained}
+use Rattle.zic_base.proofs.OrderedLists.{one_by_key}
+use Rattle.zic_files.specs.File.{File}
+use Rattle.zic_files.specs.Sound.{AreSoundFiles, IsSoundFile}
+use Rattle.zic_plan.specs.declared.stop.RowKind.{RowKind}
 use Rattle.zic_convert.specs.Laws.{ColumnsConvertOnce}
 use Rattle.zic_convert.specs.Rows.{ComeTo, IsTextOf, fault_of}
 

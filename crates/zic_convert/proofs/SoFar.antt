@@ -2,11 +2,11 @@
 use Rattle.std.proofs.Common.{◌≡◌, ◌∙◌, ◌+◌, ℕ, List, [], ◌∷◌, ◌++◌, length, None, Some, ap, append_assoc, arith, length-append, refl, sym}
 use Rattle.std.proofs.lemmas.Bool.{ne_eqb}
 use Rattle.std.proofs.lemmas.List.{append-nil}
-use Rattle.zic_bulk.specs.Files.{File}
-use Rattle.zic_bulk.specs.declared.stop.RowKind.{RowKind}
+use Rattle.zic_files.specs.File.{File}
+use Rattle.zic_plan.specs.declared.stop.RowKind.{RowKind}
 use Rattle.zic_columns.specs.Record.{IsRecord}
-use Rattle.zic_columns.specs.declared.record.Record.{Record}
-use Rattle.zic_columns.specs.declared.record.Record.TheVariants.{Pair, Other}
+use Rattle.zic_columns.specs.declared.entry.Record.{Record}
+use Rattle.zic_columns.specs.declared.entry.Record.TheVariants.{Pair, Other}
 use Rattle.zic_rows.specs.Row.{row_text}
 use Rattle.zic_convert.specs.Rows.{fault_of}
 use Rattle.zic_convert.specs.code.Clock.{IsShown, Told}

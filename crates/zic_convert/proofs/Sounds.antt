@@ -1,22 +1,21 @@
 -- What the files of a source answer.
 use Rattle.std.proofs.Common.{◌≡◌, ◌<◌, ℕ, ℤ, Bool, true, false, List, [], ◌∷◌, length, Option, Some, None, get_or, refl, sym, ap, subst}
-use Rattle.std.specs.Prelude.{All, Contains, IsSomeAnd, slice_get}
+use Rattle.std.specs.Prelude.{All, Contains, IsSomeAnd, slice_get, nat_le, ◌&&◌}
 use Rattle.std.proofs.lemmas.List.Elements.{Contains-get_or}
 use Rattle.std.proofs.lemmas.Option.{slice_get_within, get_or_from_slice_get}
-use Rattle.std.specs.Prelude.{nat_le, ◌&&◌}
 use Rattle.std.specs.List.{list_all}
 use Rattle.std.proofs.lemmas.Bool.{leb-true}
 use Rattle.zic_base.specs.Byte.{is_abbreviation_byte}
 use Rattle.zic_base.specs.State.{Shown}
 use Rattle.zic_base.specs.declared.limit.TheConstants.{LONGEST_ABBREVIATION, SHORTEST_ABBREVIATION}
-use Rattle.zic_rules.specs.Laws.{IsWithinLimits}
+use Rattle.zic_words.specs.Limits.{IsWithinLimits}
 use Rattle.zic_tzif.specs.Answer.{Answers}
-use Rattle.zic_table.specs.Content.{Content}
+use Rattle.zic_content.specs.Content.{Content}
 use Rattle.zic_rows.specs.Instant.{instant_of}
 use Rattle.zic_rows.specs.Row.{IsRowState, row_text}
 use Rattle.zic_tzif.specs.Laws.{FilesAnswerOnce}
-use Rattle.zic_bulk.specs.Files.{File}
-use Rattle.zic_bulk.specs.Sound.{AreSoundFiles}
+use Rattle.zic_files.specs.File.{File}
+use Rattle.zic_files.specs.Sound.{AreSoundFiles}
 use Rattle.zic_convert.specs.Rows.{IsTextOf}
 
 -- a file answers some state at each instant

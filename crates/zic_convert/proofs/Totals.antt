@@ -9,8 +9,8 @@ use Rattle.std.proofs.lemmas.List.Elements.{All-contains, Contains-append_right,
 use Rattle.std.proofs.lemmas.List.Folds.{concat-append}
 use Rattle.zic_base.specs.Check.{check, first_failed}
 use Rattle.zic_rows.specs.Row.{row_text}
-use Rattle.zic_bulk.specs.Files.{File}
-use Rattle.zic_bulk.specs.declared.stop.RowKind.{RowKind}
+use Rattle.zic_files.specs.File.{File}
+use Rattle.zic_plan.specs.declared.stop.RowKind.{RowKind}
 use Rattle.zic_convert.specs.Rows.{ComeTo, IsTextOf, fault_of, instant_in, is_named, is_row_instant, name_in}
 use Rattle.zic_convert.specs.code.Row.{AreRowsOf, RowsOf}
 use Rattle.zic_convert.proofs.Coming.{come_after, come_more}

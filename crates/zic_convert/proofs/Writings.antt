@@ -1,7 +1,7 @@
 -- The rows of pieces, as they are written.
 use Rattle.std.proofs.Common.{◌≡◌, ◌<◌, ◌+◌, ◌-◌, ℕ, suc, List, [], ◌∷◌, ◌++◌, length, get_or, take, drop, Option, Some, None, refl, sym, ap, subst, ◌∙◌, append_assoc, arith, drop-cons, take_all}
 use Rattle.std.proofs.lemmas.List.{append-nil, drop_all, length-drop, take-append-drop}
-use Rattle.zic_bulk.specs.declared.stop.RowKind.{RowKind}
+use Rattle.zic_plan.specs.declared.stop.RowKind.{RowKind}
 use Rattle.zic_convert.specs.code.Row.{RowsOf}
 use Rattle.zic_convert.specs.code.Pieces.{followed_by, joined}
 

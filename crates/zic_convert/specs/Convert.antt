@@ -4,10 +4,10 @@ use Rattle.std.specs.List.{concat}
 use Rattle.std.specs.Io.{StartsWith}
 use Rattle.std.specs.Io.KnownBytes.{Appends}
 use Rattle.zic_counted.specs.Counts.{Counts, HasFailedSince, greatest}
-use Rattle.zic_bulk.specs.Files.{File}
-use Rattle.zic_bulk.specs.declared.stop.RowKind.{RowKind}
-use Rattle.zic_bulk.specs.declared.stop.RunStop.{RunStop}
-use Rattle.zic_bulk.specs.declared.stop.RunStop.TheVariants as stop
+use Rattle.zic_files.specs.File.{File}
+use Rattle.zic_plan.specs.declared.stop.RowKind.{RowKind}
+use Rattle.zic_plan.specs.declared.stop.RunStop.{RunStop}
+use Rattle.zic_plan.specs.declared.stop.RunStop.TheVariants as stop
 use Rattle.zic_convert.specs.Column.{ConvertsTo}
 
 -- No row of the column has a fault, there are n, and what the writer holds, where that is known, grew by the text of all.

@@ -1,8 +1,8 @@
 -- Laws of converted columns: each is the contract of a function of the module `laws`.
 use Rattle.std.specs.Prelude.{◌≡◌, ℕ, List, Option}
-use Rattle.zic_bulk.specs.Files.{File}
-use Rattle.zic_bulk.specs.Sound.{AreSoundFiles}
-use Rattle.zic_bulk.specs.declared.stop.RowKind.{RowKind}
+use Rattle.zic_files.specs.File.{File}
+use Rattle.zic_files.specs.Sound.{AreSoundFiles}
+use Rattle.zic_plan.specs.declared.stop.RowKind.{RowKind}
 use Rattle.zic_convert.specs.Column.{ConvertsTo}
 
 -- By the files of a source a column converts to one list of texts, and one fault or none.

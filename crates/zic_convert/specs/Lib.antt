@@ -5,4 +5,5 @@ pub mod Convert
 pub mod Laws
 pub use Rattle.zic_rows.specs.Instant
 pub use Rattle.zic_rows.specs.Row
-pub use Rattle.zic_bulk.specs.Files
+pub use Rattle.zic_files.specs.File
+pub use Rattle.zic_files.specs.Sound

@@ -1,12 +1,8 @@
 -- What only the code and its proofs use. No contract of a public function cites it.
 pub mod Progress
-pub mod Block
 pub mod Row
 pub mod Query
 pub mod Clock
 pub mod Pieces
-pub mod LinePieces
 pub mod Written
 pub mod Halt
-pub mod Exchange
-pub mod Kept

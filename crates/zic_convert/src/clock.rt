@@ -11,8 +11,9 @@ use crate::query::{Query, row_instant};
 use std::alloc::AllocError;
 use std::marker::Model;
 use zic_base::State;
-use zic_bulk::{Files, RowKind};
 use zic_columns::Record;
+use zic_files::Files;
+use zic_plan::RowKind;
 use zic_rows::{RowWriter, is_plain};
 use zic_tzif::{Answer, Instants, Zone};
 

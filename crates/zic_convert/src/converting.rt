@@ -1,73 +1,45 @@
 //! Converts columns.
 
 ghost use Rattle.std.specs.Prelude.{◌≡◌, ◌≤◌, ◌+◌, IfOk, IfErr, IfSome};
-ghost use Rattle.zic_bulk.specs.Plan.{IsPlan};
+ghost use Rattle.zic_plan.specs.Plan.{IsPlan};
 ghost use Rattle.zic_counted.specs.Counts.{HasFailedSince};
 ghost use Rattle.zic_convert.specs.Convert.{IsCauseOf, WritesAll, WritesAt};
-ghost use Rattle.zic_convert.specs.code.Halt.{IsCauseOfHalt, IsReadingStop, WritesAtHalt, block_size};
-ghost use Rattle.zic_convert.specs.code.Progress.{OfEachSoFar, left_anew};
+ghost use Rattle.zic_convert.specs.code.Halt.{IsCauseOfHalt, IsReadingStop, WritesAtHalt};
 
-use crate::block::Column;
 use crate::halt::Halt;
-use crate::kept::{Begun, begin};
-use crate::performing::convert_pieces;
 use crate::pieces::RowPieces;
+use crate::round::convert_round;
 use crate::writing::flush;
 use std::alloc::Global;
 use std::io::{Read, Write};
 use std::sync::Wait;
 use std::thread::Threads;
-use zic_bulk::{Files, Plan, RunStop};
+use zic_columns::Column;
 use zic_counted::Counted;
+use zic_files::Files;
 use zic_pieces::Gate;
+use zic_plan::{Plan, RunStop};
 use zic_tzif::laws::files_answer_once;
 
-/// How many records the next block may have, where so many rows were converted: a piece for each worker, and one record more than
-/// there may be rows.
-fn block_size(plan: &Plan, count: u64) -> usize
-    requires { count ≤ plan.now.max_rows }
-    ensures size { result ≡ block_size plan.now count }
-    ensures plan { IsPlan plan.now }
-{
-    let most = plan.workers() * plan.row_piece();
-    most.min(plan.max_rows() + 1 - count) as usize
+/// How many bytes a round has at least where the column has so many at once, and at most.
+const SHORTEST_ROUND: u64 = 65_536;
+
+const LONGEST_ROUND: u64 = 4_194_304;
+
+/// How many pieces a round has for each worker, so that none waits long for the others.
+const PIECES_FOR_EACH: u64 = 16;
+
+/// How many bytes a record usually has.
+const USUAL_RECORD: u64 = 48;
+
+/// How many bytes a round is to have: some pieces for each worker, of usual records.
+fn round_len(plan: &Plan) -> usize {
+    let usual = PIECES_FOR_EACH * plan.workers() * plan.row_piece() * USUAL_RECORD;
+    usual.clamp(SHORTEST_ROUND, LONGEST_ROUND) as usize
 }
 
-/// Converts the rest of a column, record by record, in blocks as well.
-fn convert_records<T: Threads + Wait + Sync, R: Read + Drop, W: Write, G: Gate + Sync>(
-    rt: &T,
-    alloc: Global,
-    files: &Files,
-    begun: Begun<R>,
-    writer: &mut Counted<W>,
-    plan: &Plan,
-    gate: &G,
-) -> Result<u64, Halt>
-    requires { begun.count ≤ plan.now.max_rows }
-    ensures all { IfOk result (λ n. OfEachSoFar files.now plan.now.max_rows (left_anew (R.remaining begun.rest)) begun.count (W.contents writer.old.inner)
-        (λ column held. WritesAll files.now plan.now.max_rows column n held (W.contents writer.new.inner))) }
-    ensures flushed { IfOk result (λ _. writer.new.failures ≡ writer.old.failures) }
-    ensures halt { IfErr result (λ halt. OfEachSoFar files.now plan.now.max_rows (left_anew (R.remaining begun.rest)) begun.count (W.contents writer.old.inner)
-        (λ column held. WritesAtHalt files.now plan.now.max_rows column halt held (W.contents writer.new.inner))) }
-    ensures cause { IfErr result (IsCauseOfHalt writer.old writer.new) }
-{
-    // As in `convert_lines`.
-    prove!(files.len() <= usize::MAX);
-    files_answer_once();
-    let mut column = Column::new(alloc, begun.rest);
-    let mut count = begun.count;
-    loop {
-        let block = column.block(alloc, block_size(plan, count))?;
-        let pieces = RowPieces::new(files, &block.records, count + 1, plan);
-        count += convert_pieces(rt, alloc, &pieces, count + 1, writer, plan, gate)?;
-        if block.is_last {
-            flush(writer)?;
-            return Ok(count);
-        }
-    }
-}
-
-/// Converts a column: its lines up to that of the first double quote, and then the rest.
+/// Converts a column round by round: takes a round, has it converted, and writes its rows before it reads on. It answers how many rows
+/// there are.
 fn convert_column<T: Threads + Wait + Sync, R: Read + Drop, W: Write, G: Gate + Sync>(
     rt: &T,
     alloc: Global,
@@ -84,8 +56,19 @@ fn convert_column<T: Threads + Wait + Sync, R: Read + Drop, W: Write, G: Gate + 
         (λ column. WritesAtHalt files.now plan.now.max_rows column halt (W.contents writer.old.inner) (W.contents writer.new.inner))) }
     ensures cause { IfErr result (IsCauseOfHalt writer.old writer.new) }
 {
-    let begun = begin(rt, alloc, files, reader, &mut *writer, plan, gate)?;
-    convert_records(rt, alloc, files, begun, writer, plan, gate)
+    // What is left of a column that can't be read on has rows too: each file answers every instant, as `len` tells.
+    prove!(files.len() <= usize::MAX);
+    files_answer_once();
+    let mut column = Column::new(alloc, reader, plan.max_bytes())?;
+    let wanted = round_len(plan);
+    let size = plan.row_piece() as usize;
+    let mut count = 0;
+    while column.turn(alloc, wanted, size)? {
+        let pieces = RowPieces::new(files, column.round(), count + 1, plan);
+        count += convert_round(rt, alloc, &pieces, writer, plan, gate)?;
+    }
+    flush(writer)?;
+    Ok(count)
 }
 
 /// Why a column could not be read on, by what the reader has counted since it had counted so many failures and bytes.
@@ -110,11 +93,11 @@ fn reading_stop<R>(reader: &Counted<R>, failures: u64, taken: u64, most: u64) ->
 /// ends the call: `Row` has its number, from 1, and the first of its kinds: a row too many, a record of other than two fields, a name
 /// that no file has, no instant, or an instant out of range. All rows before it were written and flushed.
 ///
-/// The plan's workers convert pieces of so many records as the plan says, and pass the gate before each. The calling thread is one of
-/// them, and the others are started once for the lines before the first double quote, and from there on for each block. A piece for each
-/// worker is converted at a time, and its rows are written before the next; some of the column is read ahead, at least 64 KiB and about
-/// twice what those pieces have. None of this changes an answer. After every refusal other than `Row`, what was written is a part of the text of the
-/// rows, from its start on; how much of the column was read is open.
+/// The column is read in rounds: all whole records in hand, once so many bytes are that each worker has some pieces, and at once where a
+/// read gives fewer than 64 KiB. The plan's workers convert the pieces of a round, each of so many records as the plan says, and pass the
+/// gate before each; the calling thread is one of them. The rows of a round are written and flushed before the column is read on. None of
+/// this changes an answer. After every refusal other than `Row`, what was written is a part of the text of the rows, from its start on;
+/// how much of the column was read is open.
 ///
 /// Every error of the reader or writer ends the call, also one at which others try again, and so does a write that takes no byte; a reader
 /// that ended is not read again. `ReadFailed` and `WriteFailed` are answered only where the reader or writer counted a failure, and `ColumnTooLong` only where the

@@ -1,6 +1,6 @@
 //! Why a conversion ends early.
 
-use zic_bulk::RunStop;
+use zic_plan::RunStop;
 
 /// A conversion ends early for reading its column, or else for this.
 #[derive(Drop)]
@@ -9,24 +9,13 @@ pub(crate) enum Halt {
     Stop(RunStop),
 }
 
-impl From<crate::block::Unread> for Halt {
+impl From<zic_columns::Unread> for Halt {
     ghost use Rattle.std.specs.Prelude.{◌≡◌};
     ghost use Rattle.zic_convert.specs.declared.halt.Halt.TheVariants as halt;
 
     ghost from_gives = { λ _ e. e ≡ halt.Unread };
 
-    fn from(_e: crate::block::Unread) -> Halt {
-        Halt::Unread
-    }
-}
-
-impl From<zic_blocks::Unread> for Halt {
-    ghost use Rattle.std.specs.Prelude.{◌≡◌};
-    ghost use Rattle.zic_convert.specs.declared.halt.Halt.TheVariants as halt;
-
-    ghost from_gives = { λ _ e. e ≡ halt.Unread };
-
-    fn from(_e: zic_blocks::Unread) -> Halt {
+    fn from(_e: zic_columns::Unread) -> Halt {
         Halt::Unread
     }
 }

@@ -1,67 +1,81 @@
-//! The records of a block, in pieces for several workers.
+//! The records of a round, in pieces for several workers.
 
-ghost use Rattle.std.specs.Prelude.{◌≡◌, ◌≤◌, ◌<◌, ◌+◌, ◌*◌, map, length};
-ghost use Rattle.csv.specs.Records.{fields_of};
-ghost use Rattle.zic_bulk.specs.declared.plan.TheConstants.{MOST_OF_PIECE, MOST_ROWS, MOST_WORKERS};
-ghost use Rattle.zic_convert.specs.code.Pieces.{ArePieces, count_of, start_of};
+ghost use Rattle.std.specs.Prelude.{◌≡◌, ◌≤◌, ◌<◌, ◌+◌, true, false, length, take};
+ghost use Rattle.zic_columns.specs.Round.{ArePiecesOf};
+ghost use Rattle.zic_columns.specs.declared.pieces.TheConstants.{MAX_PIECES};
+ghost use Rattle.zic_plan.specs.declared.plan.TheConstants.{MAX_ROWS};
+ghost use Rattle.zic_convert.specs.code.Pieces.{ArePieces};
 
 use crate::row::{Rows, rows_of};
-use csv::ByteRecord;
 use std::alloc::Global;
 use std::marker::Model;
-use zic_bulk::{Files, Plan};
+use zic_columns::Round;
+use zic_files::Files;
 use zic_pieces::{PieceStop, Task};
+use zic_plan::Plan;
 
-/// The records of a block, the number of its first row, how many rows there may be, and how many records a piece has.
+/// The records of a round, the number of its first row, how many rows there may be, and how many records a piece has.
 #[derive(Drop)]
 pub(crate) struct RowPieces<'a> {
     files: &'a Files,
-    records: &'a [ByteRecord],
+    round: Round<'a>,
     first: u64,
     most: u64,
-    size: usize,
+    size: u64,
+    /// Whether a piece with a fault stops the task. If not, its rows before the fault are its value.
+    stops: bool,
 }
 
 impl<'a> Model for RowPieces<'a> {
-    ghost use Rattle.std.specs.Prelude.{map};
-    ghost use Rattle.csv.specs.Records.{fields_of};
     ghost use Rattle.zic_convert.specs.code.Pieces.{Pieces, ArePieces};
 
     ghost Value = { Pieces };
 
-    ghost view = { λ p. record { files = p.files.now; records = map fields_of p.records.now; first = p.first; most = p.most; size = p.size } };
+    ghost view = { λ p. record { files = p.files.now; pieces = p.round; first = p.first; most = p.most; size = p.size; stops = p.stops } };
 
-    ghost invariant = { λ p. ArePieces (record { files = p.files.now; records = map fields_of p.records.now; first = p.first; most = p.most; size = p.size }) };
+    ghost invariant = { λ p. ArePieces (record { files = p.files.now; pieces = p.round; first = p.first; most = p.most; size = p.size; stops = p.stops }) };
 }
 
 impl<'a> RowPieces<'a> {
-    /// The records, in pieces as the plan has them. The first is the row of this number.
-    pub(crate) fn new(
-        files: &'a Files,
-        records: &'a [ByteRecord],
-        first: u64,
-        plan: &Plan,
-    ) -> RowPieces<'a>
-        requires first { first ≤ MOST_ROWS + 1 }
-        requires few { length records.now ≤ MOST_WORKERS * MOST_OF_PIECE }
-        ensures pieces { result ≡ record { files = files.now; records = map fields_of records.now; first = first; most = plan.now.max_rows; size = plan.now.row_piece } }
+    /// The round, in pieces as the plan has them, as a task that stops at a fault. The first record is the row of this number.
+    pub(crate) fn new(files: &'a Files, round: Round<'a>, first: u64, plan: &Plan) -> RowPieces<'a>
+        requires first { first ≤ MAX_ROWS + 1 }
+        requires few { length round ≤ MAX_PIECES }
+        requires cut { ArePiecesOf plan.now.row_piece round }
+        ensures pieces { result ≡ record { files = files.now; pieces = round.entry; first = first; most = plan.now.max_rows; size = plan.now.row_piece; stops = true } }
         ensures sound { ArePieces result }
     {
         RowPieces {
             files,
-            records,
+            round,
             first,
             most: plan.max_rows(),
-            size: plan.row_piece() as usize,
+            size: plan.row_piece(),
+            stops: true,
         }
     }
 
-    /// The number of the first record of a piece, and of the end of the piece before it.
-    fn start(&self, i: u64) -> usize
-        requires { i ≤ count_of self.now }
-        ensures { result ≡ start_of self.now i }
+    /// The number of the first row.
+    pub(crate) fn first(&self) -> u64
+        ensures first { result ≡ self.now.first }
+        ensures sound { ArePieces self.now }
     {
-        (i as usize * self.size).min(self.records.len())
+        self.first
+    }
+
+    /// The pieces up to one that has a fault, as a task that goes on there.
+    pub(crate) fn up_to(&self, i: u64) -> RowPieces<'_>
+        requires { i < length self.now.pieces }
+        ensures { result ≡ record self.now { pieces = take (i + 1) self.now.pieces; stops = false } }
+    {
+        RowPieces {
+            files: self.files,
+            round: self.round.front(i as usize + 1),
+            first: self.first,
+            most: self.most,
+            size: self.size,
+            stops: false,
+        }
     }
 }
 
@@ -70,28 +84,28 @@ impl<'a> Task for RowPieces<'a> {
 
     type Fault = ();
 
-    ghost use Rattle.zic_convert.specs.code.Pieces.{IsOutcomeOf, count_of};
+    ghost use Rattle.std.specs.Prelude.{length};
+    ghost use Rattle.zic_convert.specs.code.Pieces.{IsOutcomeOf};
 
-    ghost count = { count_of };
+    ghost count = { λ p. length p.pieces };
 
     ghost outcome = { IsOutcomeOf };
 
     fn pieces(&self) -> u64 {
-        self.records.len().div_ceil(self.size) as u64
+        self.round.len() as u64
     }
 
     fn perform(&self, alloc: Global, i: u64) -> Result<Rows, PieceStop<()>> {
-        let start = self.start(i);
-        let records = &self.records[start..self.start(i + 1)];
-        match rows_of(
-            alloc,
-            self.files,
-            self.most,
-            self.first + start as u64,
-            records,
-        ) {
-            Ok(rows) => Ok(rows),
-            Err(_) => Err(PieceStop::Memory),
+        let Ok(split) = self.round.split(alloc, i as usize) else {
+            return Err(PieceStop::Memory);
+        };
+        let first = self.first + i * self.size;
+        let Ok(rows) = rows_of(alloc, self.files, self.most, first, split.records()) else {
+            return Err(PieceStop::Memory);
+        };
+        if self.stops && rows.fault.is_some() {
+            return Err(PieceStop::Fault(()));
         }
+        Ok(rows)
     }
 }

@@ -3,7 +3,7 @@
 ghost use Rattle.std.specs.Prelude.{◌≡◌, MatchResult};
 ghost use Rattle.zic_convert.specs.code.Query.{IsAsked, IsFaultOfField};
 
-use zic_bulk::RowKind;
+use zic_plan::RowKind;
 use zic_rows::{FIRST_INSTANT, LAST_INSTANT, parse_instant};
 
 /// What a record asks for: local time of the zone of a name, at an instant that a row may have. The field names the instant.

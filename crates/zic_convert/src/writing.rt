@@ -6,8 +6,8 @@ ghost use Rattle.zic_convert.specs.code.Written.{Wrote, FailsWithin, WritesRows,
 
 use crate::row::Rows;
 use std::io::Write;
-use zic_bulk::RunStop;
 use zic_counted::Counted;
+use zic_plan::RunStop;
 
 /// Writes all of the bytes.
 ///
@@ -37,8 +37,8 @@ pub(crate) fn flush<W: Write>(writer: &mut Counted<W>) -> Result<(), RunStop>
     }
 }
 
-/// Writes the rows of pieces, one after another, up to the first that has a fault, and tells how many there are. The first is the row
-/// of this number.
+/// Writes the rows of pieces, one after another, up to the first that has a fault, flushes, and tells how many there are. The first is
+/// the row of this number.
 pub(crate) fn write_rows<W: Write>(
     writer: &mut Counted<W>,
     first: u64,
@@ -60,5 +60,6 @@ pub(crate) fn write_rows<W: Write>(
             });
         }
     }
+    flush(writer)?;
     Ok(count)
 }

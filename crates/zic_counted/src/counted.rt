@@ -8,13 +8,14 @@ ghost use Rattle.zic_counted.specs.Counts.{CountsNothing, CountsFailure, CountsT
 use std::io::{self, Read, Write};
 use std::marker::Model;
 
-/// A reader or writer that passes each read, write and flush on with its answer, and counts the failures and the bytes
-/// that reads gave. Both counts stay at the greatest `u64` once they reach it.
+/// A reader or writer that passes each read, write and flush on with its answer, and counts the
+/// failures and the bytes that reads gave. Both counts stay at the greatest `u64` once they reach
+/// it.
 ///
-/// It tells a failure of what is read or written from want of memory of what reads or writes through it: `read_to_end`,
-/// say, answers an error for both. Take `failures` before such a call, and ask [`Counted::has_failed_since`] after it.
-/// An error with no failure came from no read, write or flush. An error that a caller of reads or writes tries again at,
-/// as [`io::ErrorKind::Interrupted`], is a failure too.
+/// It tells a failure of the reader or writer from one of memory: `read_to_end`, say, answers an
+/// error for both. Take `failures` before such a call, and ask [`Counted::has_failed_since`] after
+/// it. An error with no failure came from no read, write or flush. An error at which callers try
+/// again, as [`io::ErrorKind::Interrupted`], is a failure too.
 #[derive(Debug, Drop)]
 pub struct Counted<T> {
     inner: T,
@@ -31,7 +32,7 @@ impl<T> Model for Counted<T> {
 }
 
 impl<T> Counted<T> {
-    /// One that has counted nothing.
+    /// Returns a reader or writer that has counted nothing.
     pub fn new(inner: T) -> Counted<T>
         ensures { result ≡ record { inner = inner; failures = 0; taken = 0 } }
     {
@@ -42,28 +43,30 @@ impl<T> Counted<T> {
         }
     }
 
-    /// How many reads, writes and flushes failed: each error, and each write that took no byte of some.
+    /// Returns the number of reads, writes and flushes that failed: of errors, and of writes that
+    /// took no byte of some.
     pub fn failures(&self) -> u64
         ensures { result ≡ self.now.failures }
     {
         self.failures
     }
 
-    /// How many bytes reads gave.
+    /// Returns the number of bytes that reads gave.
     pub fn taken(&self) -> u64
         ensures { result ≡ self.now.taken }
     {
         self.taken
     }
 
-    /// Whether there are more failures than `before`, which [`Counted::failures`] gave, or as many as can be counted.
+    /// Returns whether there are more failures than `before`, which [`Counted::failures`] gave, or
+    /// as many as can be counted.
     pub fn has_failed_since(&self, before: u64) -> bool
         ensures { IsTrue result ↔ HasFailedSince self.now before }
     {
         before < self.failures || self.failures == u64::MAX
     }
 
-    /// The reader or writer itself.
+    /// Returns the reader or writer itself.
     pub fn into_inner(self) -> T
         ensures { result ≡ self.inner }
     {
@@ -85,7 +88,8 @@ impl<T: Read> Read for Counted<T> {
     /// Reads from the inner reader.
     fn read(&mut self, buf: &mut [u8]) -> io::Result<usize>
         ensures bound { ReadsAtMost result buf.new }
-        ensures bytes { ReadConsumes (T.remaining self.old.inner) (T.remaining self.new.inner) result buf.new }
+        ensures bytes { ReadConsumes (T.remaining self.old.inner)
+            (T.remaining self.new.inner) result buf.new }
         ensures taken { IfOk result (CountsTaken self.old self.new) }
         ensures failure { OnErr result (CountsFailure self.old self.new) }
     {
@@ -104,9 +108,11 @@ impl<T: Write> Write for Counted<T> {
     /// Writes to the inner writer.
     fn write(&mut self, buf: &[u8]) -> io::Result<usize>
         ensures bound { WritesAtMost result buf.now }
-        ensures bytes { WriteAppends (T.contents self.old.inner) (T.contents self.new.inner) result buf.now }
+        ensures bytes { WriteAppends (T.contents self.old.inner)
+            (T.contents self.new.inner) result buf.now }
         ensures some { IfOk result (λ n. 0 < n → CountsNothing self.old self.new) }
-        ensures none { IfOk result (λ n. n ≡ 0 → 0 < length buf.now → CountsFailure self.old self.new) }
+        ensures none { IfOk result (λ n. n ≡ 0 → 0 < length buf.now
+            → CountsFailure self.old self.new) }
         ensures empty { IfOk result (λ _. length buf.now ≡ 0 → CountsNothing self.old self.new) }
         ensures failure { OnErr result (CountsFailure self.old self.new) }
     {

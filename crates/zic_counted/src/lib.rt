@@ -1,6 +1,9 @@
-//! A reader or writer that counts its failures.
+//! A reader or writer that counts its failures, and writes through it. The tests stand in
+//! `src/counted/tests.rt`.
 #![tactic(auto)]
 
 mod counted;
+mod output;
 
 pub use counted::Counted;
+pub use output::{WriteFailed, flush, write_all};

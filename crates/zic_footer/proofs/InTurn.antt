@@ -7,7 +7,7 @@ use Rattle.zic_lines.specs.declared.moment.Moment.{Moment}
 use Rattle.zic_lines.specs.declared.rule.Rule.{Rule}
 use Rattle.zic_lines.specs.declared.zone_line.ZoneLine.{ZoneLine}
 use Rattle.zic_source.specs.Sound.{IsSoundRule}
-use Rattle.zic_source.proofs.Elements.{get_contained}
+use Rattle.zic_base.proofs.Elements.{get_contained}
 use Rattle.zic_occurrences.specs.Laws.{IsLastNotAfter}
 use Rattle.zic_occurrences.specs.Occurrence.{RuleSet, Occurrence, IsOccurrence, nominal, nominal_second, year_second}
 use Rattle.zic_occurrences.specs.Order.{IsInstant, IsInOrder, instant_by}

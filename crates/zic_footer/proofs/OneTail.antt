@@ -9,7 +9,7 @@ use Rattle.zic_lines.specs.declared.rule.Rule.{Rule}
 use Rattle.zic_lines.specs.declared.rules.Rules.{Rules}
 use Rattle.zic_lines.specs.declared.rules.Rules.TheVariants.{Set}
 use Rattle.zic_lines.specs.declared.zone_line.ZoneLine.{ZoneLine}
-use Rattle.zic_source.proofs.Elements.{all_got, get_contained}
+use Rattle.zic_base.proofs.Elements.{all_got, get_contained}
 use Rattle.zic_occurrences.specs.Occurrence.{IsMember, year_second}
 use Rattle.zic_occurrences.proofs.Bounds.{years_apart}
 use Rattle.zic_states.specs.Abbreviation.{abbreviation}

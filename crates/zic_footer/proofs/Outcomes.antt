@@ -14,7 +14,7 @@ use Rattle.zic_states.specs.Until.{set_of}
 use Rattle.zic_states.specs.Zone.{Zone}
 use Rattle.zic_states.proofs.TailKept.{given}
 use Rattle.zic_states.proofs.TailSet.{IsNamedTo}
-use Rattle.zic_rules.specs.Laws.{IsWithinLimits}
+use Rattle.zic_words.specs.Limits.{IsWithinLimits}
 use Rattle.zic_rules.specs.Tail.{IsConstantTail, IsRulesTail}
 use Rattle.zic_rules.specs.Timeline.{IsWhole}
 use Rattle.zic_rules.specs.declared.tail.TailRule.{TailRule}

@@ -14,7 +14,7 @@ use Rattle.zic_lines.specs.declared.rule.Rule.{Rule}
 use Rattle.zic_lines.specs.declared.rules.Rules.{Rules}
 use Rattle.zic_lines.specs.declared.zone_line.ZoneLine.{ZoneLine}
 use Rattle.zic_source.specs.Sound.{IsSoundRule, IsWithinDay}
-use Rattle.zic_source.proofs.Elements.{got, all_got}
+use Rattle.zic_base.proofs.Elements.{got, all_got}
 use Rattle.zic_occurrences.specs.Occurrence.{RuleSet, IsMember}
 use Rattle.zic_states.specs.Fault.{HasOffsetOutOfRange, IsSavingOf}
 use Rattle.zic_states.specs.Laws.{IsOrderly}

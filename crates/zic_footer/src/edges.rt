@@ -25,15 +25,15 @@ const LEAP_YEAR: i64 = 4;
 /// The week of the last such weekday of a month.
 const LAST_WEEK: u8 = 5;
 
-/// A day in the terms of POSIX, and how many days after it the day lies that is meant.
+/// A day in the terms of POSIX, and the days from it to the day that is meant.
 #[derive(Clone, Copy)]
 struct ShiftedDay {
     day: DayRule,
     shift: i32,
 }
 
-/// The edge at which a rule takes over, where standard time is so many seconds east of UT and so many seconds are saved
-/// before it.
+/// Returns the edge at which a rule takes over, where standard time is `standard` seconds east of
+/// UT and `saved` seconds are saved before it.
 pub(crate) fn edge_of(standard: i32, rule: &TailRule, saved: i32) -> Edge
     requires standard { IsWithinDay standard }
     requires rule { IsYearly rule.now.moment }
@@ -48,7 +48,7 @@ pub(crate) fn edge_of(standard: i32, rule: &TailRule, saved: i32) -> Edge
     }
 }
 
-/// The time of a rule's AT by the wall clocks before it.
+/// Returns the time of a rule's AT by the wall clocks before it.
 fn wall_time(standard: i32, at: ClockTime, saved: i32) -> i32
     requires standard { IsWithinDay standard }
     requires at { IsWithin LATEST_TIME at.seconds }
@@ -63,7 +63,7 @@ fn wall_time(standard: i32, at: ClockTime, saved: i32) -> i32
     }
 }
 
-/// The day of a form that fits the month in every year.
+/// Returns the day of a form that fits the month in every year.
 fn day_of_form(month: u8, on: On) -> ShiftedDay
     requires month { IsMonth month }
     requires fits { (year : ℤ) → FormFits year month on }
@@ -94,7 +94,7 @@ fn day_of_form(month: u8, on: On) -> ShiftedDay
     }
 }
 
-/// The number of a day of a common year, from 1.
+/// Returns the number of a day of a common year, from 1.
 fn number_in_year(month: u8, day: u8) -> u16
     requires month { IsMonth month }
     requires fits { FormFits (pos 1) month (On.Day day) }
@@ -104,7 +104,7 @@ fn number_in_year(month: u8, day: u8) -> u16
     (day_of(COMMON_YEAR, month, On::Day(day)) - before + 1) as u16
 }
 
-/// The last such weekday of a month.
+/// Returns the last such weekday of a month.
 fn last_of(month: u8, weekday: u8) -> ShiftedDay
     ensures day { result.day ≡ DayRule.M month 5 weekday }
     ensures shift { result.shift ≡ pos 0 }
@@ -119,7 +119,8 @@ fn last_of(month: u8, weekday: u8) -> ShiftedDay
     }
 }
 
-/// The first such weekday on or after a day of a month, which may lie before the month's first.
+/// Returns the first such weekday on or after a day of a month, which may lie before the month's
+/// first.
 fn by_week(month: u8, weekday: u8, day: i32) -> ShiftedDay
     requires low { neg_ℤ (pos 6) ≤ℤ day }
     requires high { day ≤ℤ pos 31 }

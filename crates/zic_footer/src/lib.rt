@@ -1,9 +1,10 @@
-//! The footer of a TZif file: a POSIX TZ string that says what a zone shows for ever.
+//! The footer of a TZif file: a POSIX TZ string that says what a zone shows for ever. The tests
+//! stand in `zone_tests`.
 #![tactic(auto)]
 
 mod edges;
-mod making;
+mod maker;
 mod turns;
 
-pub use making::make;
+pub use maker::make;
 pub use zic_posix::{Abbr, DayRule, Dst, Edge, Footer, ParseStop, parse, print};

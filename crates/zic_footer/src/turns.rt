@@ -1,22 +1,20 @@
-//! Whether two rules follow each other in turn for ever.
+//! Rules that follow each other in turn for ever.
 
-ghost use Rattle.std.specs.Prelude.{◌≡◌, ◌↔◌, pos, IsTrue};
+ghost use Rattle.std.specs.Prelude.{◌↔◌, pos, IsTrue};
 ghost use Rattle.std.specs.Int.{IsInRange};
-ghost use Rattle.zic_occurrences.specs.Occurrence as occurrence;
-ghost use Rattle.zic_footer.specs.code.Turns.{IsYearly, IsNear, LiesBetween, FollowInTurn, AreMonthsApart};
+ghost use Rattle.zic_footer.specs.code.Turns.{IsYearly, LiesBetween, FollowInTurn, AreMonthsApart};
 
-use zic_calendar::day_of;
+use zic_occurrences::nominal_second;
 use zic_source::Moment;
-
-const SECONDS_OF_DAY: i64 = 86_400;
 
 /// The first year of a cycle of the calendar. It could be any.
 const FIRST_YEAR: u16 = 2000;
 
-/// After so many years the calendar comes again.
+/// The years after which the calendar comes again.
 const YEARS_OF_CYCLE: u16 = 400;
 
-/// Whether between any two neighbouring moments of each lies one of the other, in all years.
+/// Returns whether between any two neighbouring moments of each lies one of the other, in all
+/// years.
 pub(crate) fn follow_in_turn(a: &Moment, b: &Moment) -> bool
     requires a { IsYearly a.now }
     requires b { IsYearly b.now }
@@ -25,15 +23,16 @@ pub(crate) fn follow_in_turn(a: &Moment, b: &Moment) -> bool
     are_months_apart(a.month, b.month) || follow_in_cycle(a, b)
 }
 
-/// Whether from each of the two months to the next of the other it is three months or more. Moments of such months follow in
-/// turn, since a day form and a time lead at most 19 days out of the month.
+/// Returns whether from each of the two months to the next of the other it is three months or
+/// more. Moments of such months follow in turn, since a day form and a time lead at most 19 days
+/// out of the month.
 fn are_months_apart(a: u8, b: u8) -> bool
     ensures { IsTrue result ↔ AreMonthsApart a b }
 {
     matches!(a.abs_diff(b), 3..=9)
 }
 
-/// The same as `follow_in_turn`, year by year through a cycle of the calendar.
+/// Returns the same as `follow_in_turn`, year by year through a cycle of the calendar.
 fn follow_in_cycle(a: &Moment, b: &Moment) -> bool
     requires a { IsYearly a.now }
     requires b { IsYearly b.now }
@@ -47,30 +46,21 @@ fn follow_in_cycle(a: &Moment, b: &Moment) -> bool
     true
 }
 
-/// Whether between the moment `a` of a year and that of the next lies a moment `b`, which may be of a neighbouring year.
+/// Returns whether between the moment `a` of a year and that of the next lies a moment `b`, which
+/// may be of a neighbouring year.
 fn lies_between(a: &Moment, b: &Moment, year: u16) -> bool
     requires a { IsYearly a.now }
     requires b { IsYearly b.now }
     requires year { IsInRange 2 9990 year }
     ensures { IsTrue result ↔ LiesBetween a.now b.now (pos year) }
 {
-    let from = nominal_second(a, year);
-    let to = nominal_second(a, year + 1);
+    let from = nominal_second(year, a);
+    let to = nominal_second(year + 1, a);
     for other in year - 1..year + 3 {
-        let second = nominal_second(b, other);
+        let second = nominal_second(other, b);
         if from < second && second < to {
             return true;
         }
     }
     false
-}
-
-/// The second of a moment in a year, from 1970-01-01 00:00 by its clock.
-fn nominal_second(moment: &Moment, year: u16) -> i64
-    requires moment { IsYearly moment.now }
-    requires year { IsInRange 1 9999 year }
-    ensures value { result ≡ occurrence.nominal_second (pos year) moment.now }
-    ensures near { IsNear result }
-{
-    SECONDS_OF_DAY * day_of(i64::from(year), moment.month, moment.on) + i64::from(moment.at.seconds)
 }

@@ -1,9 +1,9 @@
-//! What one line says.
+//! Entries: lines by their keywords.
 
 ghost use Rattle.std.specs.Prelude.{◌≡◌, ◌<◌, OnOk, IfOk, IfErr, Some, None, length};
 ghost use Rattle.zic_base.specs.Check.{first_failed};
 ghost use Rattle.zic_base.specs.Fault.{fault_of, IsFirstFailed};
-ghost use Rattle.zic_base.specs.Memory.{IfRefusal, OnWantOfMemory};
+ghost use Rattle.zic_base.specs.Memory.{IfRefusal, OnOutOfMemory};
 ghost use Rattle.zic_lines.specs.Entry.{is_continuation};
 ghost use Rattle.zic_lines.specs.Grammar.{FieldsSay};
 ghost use Rattle.zic_lines.specs.Checks.{field_checks, keyword_checks};
@@ -19,17 +19,17 @@ use std::borrow::CowSlice;
 use zic_base::{Kind, Place, Stop};
 use zic_words::{Keyword, Name, parse_keyword};
 
-/// What a line that isn't blank says.
+/// A line that isn't blank, taken apart.
 #[derive(Drop)]
 pub enum Entry {
     Rule(Rule),
-    /// The zone's name, and its first line.
+    /// The zone's name and its first line.
     Zone(Name, ZoneLine),
     Continuation(ZoneLine),
     Link(Link),
 }
 
-/// What fields say, or the kind of their fault.
+/// Returns the entry of the fields, or the kind of their first fault.
 fn parse_entry(
     alloc: Global,
     awaited: bool,
@@ -57,7 +57,8 @@ fn parse_entry(
     }
 }
 
-/// What fields say. Where a continuation line is awaited they are its fields.
+/// Returns the entry of the fields, or the first fault of a line at this place. Where a
+/// continuation line is awaited, the fields are its own.
 pub fn line_entry(
     alloc: Global,
     awaited: bool,
@@ -67,8 +68,9 @@ pub fn line_entry(
     requires { 0 < length fields.now }
     ensures says { IfOk result
         (λ entry. FieldsSay place fields.now (Some entry) × (is_continuation entry ≡ awaited)) }
-    ensures fault { IfRefusal fault_of result (IsFirstFailed place (field_checks awaited fields.now)) }
-    ensures memory { OnWantOfMemory fault_of result
+    ensures fault { IfRefusal fault_of result
+        (IsFirstFailed place (field_checks awaited fields.now)) }
+    ensures memory { OnOutOfMemory fault_of result
         (first_failed (field_checks awaited fields.now) ≡ None) }
 {
     match parse_entry(alloc, awaited, place, fields.texts()) {

@@ -3,7 +3,7 @@
 ghost use Rattle.std.specs.Prelude.{◌≡◌, ◌≤◌, false, [], length, slice_range, IfOk, OnOk};
 ghost use Rattle.std.specs.Cow.{cow_slice_items};
 ghost use Rattle.zic_base.specs.Fault.{fault_of, IsFirstFailed};
-ghost use Rattle.zic_base.specs.Memory.{IfRefusal, OnWantOfMemory};
+ghost use Rattle.zic_base.specs.Memory.{IfRefusal, OnOutOfMemory};
 ghost use Rattle.zic_lines.specs.Field.{is_space, is_allowed, dash_if_empty, fields};
 ghost use Rattle.zic_lines.specs.Grammar.{IsLine};
 ghost use Rattle.zic_lines.specs.Checks.{byte_checks};
@@ -15,31 +15,31 @@ use std::borrow::CowSlice;
 use std::marker::Model;
 use zic_base::{Kind, Place, Stop};
 
-/// How many bytes a line may have without its newline.
+/// The greatest length of a line, in bytes, without its newline.
 pub const LONGEST_LINE: usize = 2048;
 
-/// White space in a line.
+/// Returns whether the byte is white space in a line.
 fn is_space(byte: u8) -> bool
     ensures { result ≡ is_space byte }
 {
     matches!(byte, b' ' | b'\t' | 0x0b..=0x0d)
 }
 
-/// White space or a printable ASCII character.
+/// Returns whether the byte is white space or a printable ASCII character.
 fn is_allowed(byte: u8) -> bool
     ensures { result ≡ is_allowed byte }
 {
     is_space(byte) || matches!(byte, 0x21..=0x7e)
 }
 
-/// A byte that is text wherever it stands, as most are.
+/// Returns whether the byte is text wherever it stands outside a comment, as most bytes are.
 fn is_plain(byte: u8) -> bool
     ensures { result ≡ is_plain byte }
 {
     matches!(byte, b'$'..=b'~')
 }
 
-/// What a byte is for its line.
+/// The role of a byte in its line.
 #[derive(Clone, Copy, Debug)]
 enum Role {
     /// It begins the comment.
@@ -54,7 +54,7 @@ enum Role {
     Text,
 }
 
-/// What a byte is, where it is quoted or not.
+/// Returns the role of a byte, in a quoted part or outside.
 #[tactic(auto, unfolding(crate::specs::code::Taken::role_of))]
 fn role_of(byte: u8, quoted: bool) -> Role
     ensures { result ≡ role_of byte quoted }
@@ -69,7 +69,7 @@ fn role_of(byte: u8, quoted: bool) -> Role
     }
 }
 
-/// Where the plain bytes end that stand from here on.
+/// Returns the end of the plain bytes that begin at `start`.
 fn plain_end(line: &[u8], start: usize) -> usize
     requires { start ≤ length line.now }
     ensures rises { start ≤ result }
@@ -83,10 +83,12 @@ fn plain_end(line: &[u8], start: usize) -> usize
     end
 }
 
-/// The text of a field that has double quotes: what is left without them, or `-`.
+/// Returns the text of a field that has double quotes: the rest without them, or `-` where there is
+/// none.
 #[cold]
 fn text_without_quotes<'a>(alloc: Global, field: &[u8]) -> Result<CowSlice<'a, u8>, AllocError>
-    ensures { IfOk result (λ text. cow_slice_items text ≡ dash_if_empty (without_quotes field.now)) }
+    ensures { IfOk result
+        (λ text. cow_slice_items text ≡ dash_if_empty (without_quotes field.now)) }
 {
     let mut text = Vec::new(alloc);
     for byte in field {
@@ -100,10 +102,11 @@ fn text_without_quotes<'a>(alloc: Global, field: &[u8]) -> Result<CowSlice<'a, u
     Ok(CowSlice::Owned(text))
 }
 
-/// The fields of one line, without their double quotes, in a list that serves line after line.
+/// The fields of one line, without their double quotes, in a list that is used for one line after
+/// the other.
 #[derive(Debug, Drop)]
 pub struct Fields<'a> {
-    /// Parts of the line; only what has double quotes is copied.
+    /// Parts of the line; only a field with double quotes is copied.
     texts: Vec<CowSlice<'a, u8>>,
 }
 
@@ -117,7 +120,7 @@ impl<'a> Model for Fields<'a> {
 }
 
 impl<'a> Fields<'a> {
-    /// No fields; takes no memory yet.
+    /// Returns a list of no fields. Takes no memory.
     pub fn new(alloc: Global) -> Self
         ensures { result ≡ [] }
     {
@@ -126,25 +129,25 @@ impl<'a> Fields<'a> {
         }
     }
 
-    /// How many fields there are.
+    /// Returns the number of fields.
     pub fn len(&self) -> usize
         ensures { result ≡ length self.now }
     {
         self.texts.len()
     }
 
-    /// The texts of the fields.
+    /// Returns the texts of the fields.
     pub(crate) fn texts(&self) -> &[CowSlice<'a, u8>]
         ensures { texts_of result.now ≡ self.now }
     {
         &self.texts
     }
 
-    /// Takes a line apart: the fields up to its comment.
+    /// Splits a line into the fields up to its comment, or returns its first fault at this place.
     pub fn take_line(&mut self, alloc: Global, place: Place, line: &'a [u8]) -> Result<(), Stop>
         ensures ok { OnOk result (IsLine line.now × (self.new ≡ fields line.now)) }
         ensures fault { IfRefusal fault_of result (IsFirstFailed place (byte_checks line.now)) }
-        ensures memory { OnWantOfMemory fault_of result (length line.now ≤ LONGEST_LINE) }
+        ensures memory { OnOutOfMemory fault_of result (length line.now ≤ LONGEST_LINE) }
     {
         if line.len() > LONGEST_LINE {
             return Err(Stop::at(place, Kind::LineTooLong));
@@ -152,7 +155,7 @@ impl<'a> Fields<'a> {
         self.take_code(alloc, place, line)
     }
 
-    /// Takes the bytes of a line up to its comment.
+    /// Splits a line that isn't too long.
     fn take_code(&mut self, alloc: Global, place: Place, line: &'a [u8]) -> Result<(), Stop>
         requires { length line.now ≤ LONGEST_LINE }
         ensures ok { OnOk result (IsLine line.now × (self.new ≡ fields line.now)) }
@@ -187,7 +190,7 @@ impl<'a> Fields<'a> {
         Ok(())
     }
 
-    /// Adds a field, if there is one: between two gaps there is none.
+    /// Adds a field, unless it is empty, as between two gaps.
     #[inline]
     fn push_field(
         &mut self,

@@ -8,10 +8,10 @@ use std::alloc::{AllocError, Global};
 use zic_base::ShortText;
 use zic_words::{is_dash, split_at_most_once};
 
-/// A part of a FORMAT, printable ASCII and white space; up to 16 octets are kept inline.
+/// A part of a FORMAT, printable ASCII and white space; up to 16 bytes are kept inline.
 pub type FormatPart = ShortText<16>;
 
-/// The FORMAT of a Zone or continuation line: how times are abbreviated.
+/// The FORMAT of a Zone or continuation line: the form of its abbreviations (zic(8), FORMAT).
 #[derive(Debug, Drop)]
 pub enum Format {
     /// This abbreviation, empty where the field is `-`.
@@ -24,14 +24,14 @@ pub enum Format {
     Pair(FormatPart, FormatPart),
 }
 
-/// Whether `/` stands in the text.
+/// Returns whether the text has a `/`.
 fn has_slash(text: &[u8]) -> bool
     ensures { result ≡ has_slash text.now }
 {
     text.contains(&b'/')
 }
 
-/// Two parts.
+/// Returns copies of two parts.
 fn parts(alloc: Global, first: &[u8], second: &[u8]) -> Result<(FormatPart, FormatPart), AllocError>
     ensures { IfOk result (λ parts. (parts.0 ≡ first.now) × (parts.1 ≡ second.now)) }
 {
@@ -40,10 +40,11 @@ fn parts(alloc: Global, first: &[u8], second: &[u8]) -> Result<(FormatPart, Form
     Ok((first, second))
 }
 
-/// A FORMAT without `%`: one abbreviation, or two with `/` between them.
+/// Returns a FORMAT without `%`: one abbreviation, or two with `/` between them.
 fn slashed(alloc: Global, text: &[u8]) -> Option<Result<Format, AllocError>>
     ensures just { is_some result ≡ is_some (slashed (split_at_most_once text.now 47)) }
-    ensures format { IfSome result (λ made. IfOk made (λ format. slashed (split_at_most_once text.now 47) ≡ Some format)) }
+    ensures format { IfSome result
+        (λ made. IfOk made (λ format. slashed (split_at_most_once text.now 47) ≡ Some format)) }
 {
     let (standard, daylight) = split_at_most_once(text, b'/')?;
     let Some(daylight) = daylight else {
@@ -52,10 +53,11 @@ fn slashed(alloc: Global, text: &[u8]) -> Option<Result<Format, AllocError>>
     Some(parts(alloc, standard, daylight).map(|parts| Format::Pair(parts.0, parts.1)))
 }
 
-/// A FORMAT with these texts before and after its `%`.
+/// Returns the FORMAT that has these texts before and after its `%`.
 fn conversion(alloc: Global, before: &[u8], rest: &[u8]) -> Option<Result<Format, AllocError>>
     ensures just { is_some result ≡ is_some (conversion before.now rest.now) }
-    ensures format { IfSome result (λ made. IfOk made (λ format. conversion before.now rest.now ≡ Some format)) }
+    ensures format { IfSome result
+        (λ made. IfOk made (λ format. conversion before.now rest.now ≡ Some format)) }
 {
     match rest {
         [b's', after @ ..] => Some(parts(alloc, before, after).map(|parts| Format::Letter(
@@ -68,11 +70,12 @@ fn conversion(alloc: Global, before: &[u8], rest: &[u8]) -> Option<Result<Format
     }
 }
 
-/// What a FORMAT says, or none where it is wrong.
+/// Returns the FORMAT that the field is, or `None` where it is wrong.
 #[tactic(auto, unfolding(crate::specs::Format::format_of))]
 pub(crate) fn parse_format(alloc: Global, field: &[u8]) -> Option<Result<Format, AllocError>>
     ensures just { is_some result ≡ is_some (format_of field.now) }
-    ensures format { IfSome result (λ made. IfOk made (λ format. format_of field.now ≡ Some format)) }
+    ensures format { IfSome result
+        (λ made. IfOk made (λ format. format_of field.now ≡ Some format)) }
 {
     if is_dash(field) {
         return Some(ShortText::new(alloc, &[]).map(Format::Plain));

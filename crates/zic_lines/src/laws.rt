@@ -1,5 +1,5 @@
-//! Laws of lines as contracts: no function here does anything. The crates above cite the lemmas in `proofs/` that prove
-//! them.
+//! Laws of lines as contracts: no function here does anything. The crates above cite the lemmas in
+//! `proofs/` that prove them.
 ghost use Rattle.zic_lines.specs.Laws.{SaysWherePassing, SaysOneThing};
 
 /// A line says something just where no check fails.

@@ -1,4 +1,5 @@
-//! Lines of time zone source text: what one Rule, Zone, continuation or Link line says, or its first fault.
+//! Lines of time zone source text: each is one Rule, Zone, continuation or Link line, or has a
+//! first fault. The tests stand in `source_tests`.
 //!
 //! The input format is that of zic(8); `docs/DEFINITIONS.md` lists where each rule is stated.
 #![tactic(auto)]

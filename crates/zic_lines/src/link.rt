@@ -15,7 +15,7 @@ use zic_words::Name;
 /// A Link line: one more name for a zone.
 #[derive(Debug, Drop)]
 pub struct Link {
-    /// Where the line stands.
+    /// The place of the line.
     pub place: Place,
     /// The name of a zone or of another link.
     pub target: Name,
@@ -23,7 +23,7 @@ pub struct Link {
     pub name: Name,
 }
 
-/// The link of these names, where there was memory for both.
+/// Returns the link of these names, or out of memory where one of them is.
 fn link_of(
     place: Place,
     target: Result<Name, AllocError>,
@@ -40,7 +40,7 @@ fn link_of(
     })
 }
 
-/// What the fields of a Link line say.
+/// Returns the link of the fields of a Link line, or the kind of their first fault.
 pub(crate) fn link_line(
     alloc: Global,
     place: Place,

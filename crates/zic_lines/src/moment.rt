@@ -10,6 +10,7 @@ pub struct Moment {
     pub month: u8,
     /// ON or DAY: the form of the day.
     pub on: On,
-    /// AT or TIME: seconds after 00:00 of that day, within 300:00:00 either way, and the clock by which they are meant.
+    /// AT or TIME: seconds after 00:00 of that day, within 300:00:00 either way, and the clock by
+    /// which they are meant.
     pub at: ClockTime,
 }

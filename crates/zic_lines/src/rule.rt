@@ -4,10 +4,11 @@ use crate::moment::Moment;
 use zic_base::Place;
 use zic_words::{Letter, Saving, SetName};
 
-/// A Rule line: each year from the first to the last, a day and a time when the saving of its set changes.
+/// A Rule line: in each year from the first to the last, a day and a time when the saving of its
+/// set changes.
 #[derive(Debug, Drop)]
 pub struct Rule {
-    /// Where the line stands.
+    /// The place of the line.
     pub place: Place,
     /// The set to which the rule belongs.
     pub name: SetName,
@@ -15,10 +16,10 @@ pub struct Rule {
     pub first: u16,
     /// TO: the last year, from the first to 9000; `None` where there is no last year.
     pub last: Option<u16>,
-    /// IN, ON and AT: when the change comes in each year.
+    /// IN, ON and AT: the moment of the change in each year.
     pub moment: Moment,
-    /// SAVE: what is added to standard time from then on, and whether this is daylight saving time.
+    /// SAVE: the saving from then on.
     pub saving: Saving,
-    /// LETTER/S: what `%s` of a FORMAT stands for.
+    /// LETTER/S: the text for which `%s` of a FORMAT stands.
     pub letter: Letter,
 }

@@ -26,7 +26,7 @@ struct Years {
     last: Option<u16>,
 }
 
-/// FROM and TO.
+/// Returns the years of FROM and TO, or the kind of their first fault.
 fn rule_years(from: &[u8], to: &[u8]) -> Result<Years, Kind>
     ensures says { IfOk result (SayYears from.now to.now) }
     ensures fault { IfErr result (λ kind. first_failed (year_checks from.now to.now) ≡ Some kind) }
@@ -43,7 +43,7 @@ fn rule_years(from: &[u8], to: &[u8]) -> Result<Years, Kind>
     Ok(Years { first, last })
 }
 
-/// IN, ON and AT of a rule for these years.
+/// Returns the moment of IN, ON and AT of a rule for these years, or the kind of their first fault.
 fn rule_moment(years: Years, month: &[u8], day: &[u8], time: &[u8]) -> Result<Moment, Kind>
     ensures says { IfOk result (SayMoment years month.now day.now time.now) }
     ensures fault { IfErr result
@@ -61,7 +61,7 @@ fn rule_moment(years: Years, month: &[u8], day: &[u8], time: &[u8]) -> Result<Mo
     Ok(Moment { month, on, at })
 }
 
-/// The rule of these parts, where there was memory for its name.
+/// Returns the rule of these parts, or out of memory where its name is.
 fn rule_of(
     place: Place,
     name: Result<SetName, AllocError>,
@@ -85,7 +85,7 @@ fn rule_of(
     })
 }
 
-/// What the fields of a Rule line say.
+/// Returns the rule of the fields of a Rule line, or the kind of their first fault.
 pub(crate) fn rule_line(
     alloc: Global,
     place: Place,

@@ -7,7 +7,7 @@ use std::alloc::{AllocError, Global};
 use zic_base::Kind;
 use zic_words::{Saving, SetName, is_dash, save};
 
-/// What the RULES of a Zone or continuation line say.
+/// The RULES of a Zone or continuation line (zic(8), RULES).
 #[derive(Debug, Drop)]
 pub enum Rules {
     /// `-`: standard time.
@@ -18,7 +18,7 @@ pub enum Rules {
     Set(SetName),
 }
 
-/// Whether the field begins as an amount does: with a digit, `-` or `+`.
+/// Returns whether the field begins as an amount does: with a digit, `-` or `+`.
 fn begins_amount(field: &[u8]) -> bool
     ensures { result ≡ begins_amount field.now }
 {
@@ -28,7 +28,7 @@ fn begins_amount(field: &[u8]) -> bool
     }
 }
 
-/// What RULES say.
+/// Returns the RULES that the field is, or the kind of its fault.
 #[tactic(auto, unfolding(crate::specs::RulesField::rules_of))]
 pub(crate) fn parse_rules(alloc: Global, field: &[u8]) -> Result<Result<Rules, AllocError>, Kind>
     ensures ok { OnOk result (is_some (rules_of field.now) ≡ true) }

@@ -9,16 +9,16 @@ use std::borrow::CowSlice;
 use zic_calendar::is_leap_year;
 use zic_words::{clock_time, parse_day_form, parse_month, parse_year};
 
-/// When the line that follows takes over.
+/// The UNTIL of a line: the moment at which the line that follows takes over (zic(8), UNTIL).
 #[derive(Clone, Copy, Debug, PartialEq, Eq)]
 pub struct Until {
-    /// 1 to 9000.
+    /// YEAR: 1 to 9000.
     pub year: u16,
     /// MONTH, DAY and TIME. A plain day is one that the month has in that year.
     pub moment: Moment,
 }
 
-/// YEAR MONTH DAY TIME.
+/// Returns the UNTIL of the fields YEAR MONTH DAY TIME, or `None` where one of them is wrong.
 #[tactic(auto, unfolding(crate::specs::Until::until_at))]
 fn until_at(year: &[u8], month: &[u8], day: &[u8], time: &[u8]) -> Option<Until>
     ensures { result ≡ until_at year.now month.now day.now time.now }
@@ -31,7 +31,8 @@ fn until_at(year: &[u8], month: &[u8], day: &[u8], time: &[u8]) -> Option<Until>
     Some(Until { year, moment })
 }
 
-/// The UNTIL of these fields: YEAR [MONTH [DAY [TIME]]], or none where there is no field.
+/// Returns the UNTIL of the fields YEAR [MONTH [DAY [TIME]]], and `Some(None)` of no field; `None`
+/// where a field is wrong.
 #[tactic(auto, unfolding(crate::specs::Until::until_of))]
 pub(crate) fn parse_until(fields: &[CowSlice<'_, u8>]) -> Option<Option<Until>>
     requires { length fields.now ≤ 4 }

@@ -15,22 +15,24 @@ use std::borrow::CowSlice;
 use zic_base::{Kind, Place};
 use zic_words::{Name, offset};
 
-/// A Zone or continuation line: what holds from the UNTIL of the line before it, if there is one, up to its own.
+/// A Zone or continuation line, which governs from the UNTIL of the line before it, if there is
+/// one, up to its own (zic(8), Zone lines).
 #[derive(Debug, Drop)]
 pub struct ZoneLine {
-    /// Where the line stands.
+    /// The place of the line.
     pub place: Place,
     /// STDOFF: the standard UT offset, in seconds, positive east, within 24:00:00 either way.
     pub offset: i32,
-    /// RULES: what saving is kept.
+    /// RULES: the saving.
     pub rules: Rules,
-    /// FORMAT: how times are abbreviated.
+    /// FORMAT: the form of its abbreviations.
     pub format: Format,
-    /// UNTIL: when the next line of the zone takes over; `None` on its last line.
+    /// UNTIL: the moment at which the next line of the zone takes over; `None` on the last line.
     pub until: Option<Until>,
 }
 
-/// What Zone and continuation lines have in common: STDOFF RULES FORMAT and the fields of an UNTIL.
+/// Returns the line of STDOFF, RULES, FORMAT and the fields of an UNTIL, which Zone and
+/// continuation lines have in common, or the kind of their first fault.
 fn zone_part(
     alloc: Global,
     place: Place,
@@ -41,11 +43,14 @@ fn zone_part(
 ) -> Result<Result<ZoneLine, AllocError>, Kind>
     requires { length until.now ≤ 4 }
     ensures ok { OnOk result
-        (first_failed (zone_part_checks stdoff.now rules.now format.now (texts_of until.now)) ≡ None) }
+        (first_failed (zone_part_checks stdoff.now rules.now format.now (texts_of until.now))
+        ≡ None) }
     ensures says { IfOk result
-        (λ made. IfOk made (IsContinuationLine place (stdoff.now ∷ rules.now ∷ format.now ∷ texts_of until.now))) }
+        (λ made. IfOk made
+        (IsContinuationLine place (stdoff.now ∷ rules.now ∷ format.now ∷ texts_of until.now))) }
     ensures fault { IfErr result
-        (λ kind. first_failed (zone_part_checks stdoff.now rules.now format.now (texts_of until.now)) ≡ Some kind) }
+        (λ kind. first_failed
+        (zone_part_checks stdoff.now rules.now format.now (texts_of until.now)) ≡ Some kind) }
 {
     let Some(offset) = offset(stdoff) else {
         return Err(Kind::Offset);
@@ -60,7 +65,7 @@ fn zone_part(
     Ok(zone_line_of(place, offset, rules, format, until))
 }
 
-/// The line of these parts, where there was memory for all.
+/// Returns the line of these parts, or out of memory where one of them is.
 fn zone_line_of(
     place: Place,
     offset: i32,
@@ -83,7 +88,7 @@ fn zone_line_of(
     })
 }
 
-/// What the fields of a continuation line say.
+/// Returns the line of the fields of a continuation line, or the kind of their first fault.
 pub(crate) fn continuation_line(
     alloc: Global,
     place: Place,
@@ -111,7 +116,8 @@ pub(crate) fn continuation_line(
     )
 }
 
-/// What the fields of a Zone line say: the zone's name, and its first line.
+/// Returns the zone's name and first line of the fields of a Zone line, or the kind of their first
+/// fault.
 pub(crate) fn zone_line(
     alloc: Global,
     place: Place,
@@ -144,7 +150,7 @@ pub(crate) fn zone_line(
     Ok(named(name, line))
 }
 
-/// The zone of this name with this line, where there was memory for both.
+/// Returns this name and this line, or out of memory where one of them is.
 fn named(
     name: Result<Name, AllocError>,
     line: Result<ZoneLine, AllocError>,

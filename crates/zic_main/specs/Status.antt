@@ -7,7 +7,7 @@ use Rattle.zic_commands.specs.Words.{status_of}
 use Rattle.zic_main.specs.declared.failure.Refusal.{Refusal}
 use Rattle.zic_main.specs.declared.failure.Refusal.TheVariants as refusals
 
--- where its words ask for nothing: the text of usage, or want of memory
+-- where its words ask for nothing: the text of usage, or that memory ran out
 abbrev pub refusal_of : NoRequest → Refusal
 refusal_of (reasons.Usage text) = refusals.Usage text
 refusal_of reasons.Memory = refusals.Command Memory

@@ -20,7 +20,8 @@ pub enum Refusal {
 }
 
 impl Refusal {
-    /// The status of a program that ends so: 2 for its words, else that of the command's failure.
+    /// Returns the status of a program that ends so: 2 for its words, else that of the command's
+    /// failure.
     pub fn status(&self) -> u8
         ensures { result ≡ refusal_status self.now }
     {

@@ -1,20 +1,22 @@
-//! `pzic`: compiles time zone source to TZif files, converts instants by them, and reads such files.
+//! `pzic`: compiles time zone source to TZif files, converts instants by them, and reads such
+//! files. The commands are in `zic_commands`, and their tests in `program_tests`: here their texts
+//! are read.
 #![tactic(auto)]
 
 mod failure;
 
 use failure::Refusal;
 use std::fs::Files;
-use std::io::{self, IsTerminal, Write};
+use std::io::{self, IsTerminal, Read, Write};
 use std::process::ExitCode;
 use std::rt::Env;
 use std::sync::Wait;
 use std::thread::Threads;
 use std::time::Clock;
-use zic_bulk::Plan;
 use zic_command_line::Request;
-use zic_commands::{Disk, Failure, Progress};
-use zic_counted::Counted;
+use zic_commands::{Disk, Failure, Progress, Told};
+use zic_counted::{Counted, flush, write_all};
+use zic_plan::Plan;
 
 fn main(rt: HostRuntime) -> ExitCode {
     match run(&rt, rt.stderr()) {
@@ -26,6 +28,7 @@ fn main(rt: HostRuntime) -> ExitCode {
     }
 }
 
+/// Does what the words of the process ask for.
 fn run<
     R: Env + Files + Input + Print + Clock + AllocGlobal + Threads + Wait + Sync,
     E: Write + IsTerminal + Drop,
@@ -34,15 +37,10 @@ fn run<
     let mut input = Counted::new(rt.reader());
     let mut output = Counted::new(io::writer(rt));
     match zic_command_line::requested(rt)? {
-        Request::Check { source, plan } => zic_commands::check_source(
-            rt,
-            alloc,
-            &plan,
-            rt,
-            &mut input,
-            source.as_str(),
-            &mut output,
-        )?,
+        Request::Check { source, plan } => {
+            let texts = zic_commands::read_sources(alloc, rt, &mut input, &[source])?;
+            zic_commands::check(rt, alloc, &plan, &texts, &mut output)?
+        }
         Request::Build {
             folder,
             sources,
@@ -55,49 +53,49 @@ fn run<
         Request::Convert {
             source,
             plan,
-            progress: false,
+            progress,
         } => {
-            zic_commands::convert_source(
-                rt,
-                alloc,
-                &plan,
-                rt,
-                source.as_str(),
-                &mut input,
-                &mut output,
-            )?;
+            let texts = zic_commands::read_sources(alloc, rt, &mut input, &[source])?;
+            convert(rt, &plan, &texts, &mut input, told(progress, errors))?
         }
-        Request::Convert {
-            source,
-            plan,
-            progress: true,
-        } => convert_telling(rt, &plan, source.as_str(), errors)?,
         Request::Show { file, instant } => {
-            zic_commands::show_file(alloc, rt, file.as_str(), instant, &mut output)?
+            let bytes = zic_commands::read_file(alloc, rt, file.as_str())?;
+            zic_commands::show(alloc, &bytes, instant, &mut output)?
         }
+        Request::Version { text } => tell(text.as_str(), &mut output)?,
     }
     Ok(())
 }
 
-/// Converts standard input by the source at a path, and tells of the rows on the other writer.
-fn convert_telling<
-    R: Files + Input + Print + Clock + AllocGlobal + Threads + Wait + Sync,
-    E: Write + IsTerminal + Drop,
->(rt: &R, plan: &Plan, source: &str, errors: E) -> Result<(), Failure> {
-    let is_terminal = errors.is_terminal();
-    let progress = Progress::new(io::writer(rt), rt, errors, is_terminal);
-    let mut output = Counted::new(progress);
-    let converted = zic_commands::convert_source(
-        rt,
-        rt.alloc(),
-        plan,
-        rt,
-        source,
-        &mut Counted::new(rt.reader()),
-        &mut output,
-    );
-    let mut progress = output.into_inner();
-    progress.finish();
+/// Writes a text.
+fn tell<W: Write>(text: &str, output: &mut Counted<W>) -> Result<(), Failure> {
+    write_all(output, text.as_bytes())?;
+    flush(output)?;
+    Ok(())
+}
+
+/// Returns where the rows are told of, if that is asked for.
+fn told<E: IsTerminal + Drop>(progress: bool, errors: E) -> Told<E> {
+    if !progress {
+        Told::Never
+    } else if errors.is_terminal() {
+        Told::Anew(errors)
+    } else {
+        Told::Once(errors)
+    }
+}
+
+/// Converts the input by the files of the texts to standard output, and tells of the rows.
+fn convert<R: Print + Clock + AllocGlobal + Threads + Wait + Sync, I: Read, E: Write + Drop>(
+    rt: &R,
+    plan: &Plan,
+    texts: &[Vec<u8>],
+    input: &mut Counted<I>,
+    told: Told<E>,
+) -> Result<(), Failure> {
+    let mut output = Counted::new(Progress::new(io::writer(rt), rt, told));
+    let converted = zic_commands::convert(rt, rt.alloc(), plan, texts, input, &mut output);
+    output.into_inner().finish();
     converted?;
     Ok(())
 }

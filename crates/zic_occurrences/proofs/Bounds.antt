@@ -14,7 +14,7 @@ use Rattle.zic_lines.specs.declared.rule.Rule.{Rule}
 use Rattle.zic_words.specs.declared.clock.ClockForm.{ClockForm}
 use Rattle.zic_words.specs.declared.clock.ClockForm.TheVariants.{Wall, Standard, Universal}
 use Rattle.zic_source.specs.Sound.{IsSoundRule, IsSoundMoment, OccursIn, IsWithinDay}
-use Rattle.zic_source.proofs.Elements.{all_got}
+use Rattle.zic_base.proofs.Elements.{all_got}
 use Rattle.zic_occurrences.specs.Occurrence.{RuleSet, Occurrence, IsOccurrence, nominal, nominal_second, year_second}
 use Rattle.zic_occurrences.specs.Order.{IsSavedBefore, IsInstant, instant_by}
 

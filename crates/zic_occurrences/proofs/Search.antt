@@ -8,7 +8,7 @@ use Rattle.std.proofs.lemmas.Option.{slice_get_within}
 use Rattle.zic_lines.specs.declared.rule.Rule.{Rule}
 use Rattle.zic_source.specs.Source.{is_of_set}
 use Rattle.zic_source.specs.Sound.{OccursIn}
-use Rattle.zic_source.proofs.Elements.{got}
+use Rattle.zic_base.proofs.Elements.{got}
 use Rattle.zic_occurrences.specs.Occurrence.{RuleSet, Occurrence, IsOccurrence, AreSame, nominal}
 use Rattle.zic_occurrences.proofs.Same.{same_numbered}
 

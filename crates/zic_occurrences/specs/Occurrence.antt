@@ -1,5 +1,6 @@
 -- The occurrences of a set's rules: zic(8), FILES, Rule lines.
-use Rattle.std.specs.Prelude.{◌≡◌, ℕ, ℤ, pos, ◌+ℤ◌, ◌*ℤ◌, true, List, slice_get, Some}
+use Rattle.std.specs.Prelude.{◌≡◌, ℕ, ◌^◌, ◌≤◌, ℤ, ◌+ℤ◌, ◌*ℤ◌, unsigned_abs, true, List, slice_get, Some}
+use Rattle.zic_calendar.specs.declared.clock.TheConstants.{SECONDS_OF_DAY}
 use Rattle.zic_calendar.specs.DayForm.{form_day}
 use Rattle.zic_calendar.specs.Calendar.{day_number}
 use Rattle.zic_lines.specs.declared.moment.Moment.{Moment}
@@ -36,7 +37,7 @@ pub record AreSame (o p : Occurrence) : Type 0 where
 -- the seconds from 1970-01-01 00:00 to a moment of a year, by the clock by which it is meant: 86,400 times the number of the
 -- day that month and day form name, plus the time
 unfoldable pub nominal_second : ℤ → Moment → ℤ
-nominal_second year moment = (pos 86_400 *ℤ form_day year moment.month moment.on) +ℤ moment.at.seconds
+nominal_second year moment = (SECONDS_OF_DAY *ℤ form_day year moment.month moment.on) +ℤ moment.at.seconds
 
 -- the nominal second of an occurrence
 abbrev pub nominal : Occurrence → ℤ
@@ -44,4 +45,8 @@ nominal o = nominal_second o.year o.rule.moment
 
 -- the second at which a year begins
 unfoldable pub year_second : ℤ → ℤ
-year_second year = pos 86_400 *ℤ day_number year 1 1
+year_second year = SECONDS_OF_DAY *ℤ day_number year 1 1
+
+-- a second so near 1970 that the code can add offsets to it
+abbrev pub IsNear : ℤ → Type 0
+IsNear second = unsigned_abs second ≤ 10 ^ 12

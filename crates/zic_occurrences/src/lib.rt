@@ -1,4 +1,5 @@
-//! The occurrences of a set's rules: one for each rule and each year in which it holds, and their order in all years.
+//! The occurrences of a set's rules: one for each rule and each year in which it holds, and their
+//! order in all years. The tests stand in `zone_tests`.
 #![tactic(auto)]
 
 pub mod laws;
@@ -6,4 +7,6 @@ mod nominal;
 mod occurrence;
 mod walk;
 
+pub use nominal::{nominal_second, year_second};
 pub use occurrence::{TimedOccurrence, last_named_year, occurrences};
+pub use walk::instant_by;

@@ -12,7 +12,7 @@ use crate::nominal::{has_tie, in_order};
 use crate::walk::timed;
 use std::alloc::Global;
 use zic_base::{Kind, Place, Stop};
-use zic_source::{MOST_RULES, Source};
+use zic_source::{MAX_RULES, Source};
 use zic_words::SetName;
 
 /// An occurrence of a rule, with its instant.
@@ -26,11 +26,13 @@ pub struct TimedOccurrence {
     pub year: u16,
 }
 
-/// How many years after the last that a set names its order is looked at. The occurrences of 400 years later stand in the same
-/// order, so a disorder of any later year stands in these years too.
+/// The number of years after the last that a set names in which its order is checked. The
+/// occurrences of 400 years later stand in the same order, so a disorder of any later year stands
+/// in these years too.
 const YEARS_IN_QUESTION: u16 = 405;
 
-/// The last year that the lines of a set name: the greatest TO of its rules, and FROM of those without a last year.
+/// Returns the last year that the lines of a set name: the greatest TO of its rules, and FROM of
+/// those without a last year.
 pub fn last_named_year(source: &Source, set: &SetName) -> u16
     requires { is_set set.now source.now.rules ≡ true }
     ensures { IsLastNamed (record { rules = source.now.rules; name = set.now }) result }
@@ -43,9 +45,9 @@ pub fn last_named_year(source: &Source, set: &SetName) -> u16
     greatest
 }
 
-/// All occurrences of a set of nominal seconds before the year `before`, and perhaps some more, in the order of their instants
-/// on a line whose standard UT offset is `offset` seconds, positive east; the line is of the zone whose Zone line stands at
-/// `zone_place`.
+/// Returns all occurrences of a set of nominal seconds before the year `before`, and perhaps some
+/// more, in the order of their instants on a line whose standard UT offset is `offset` seconds,
+/// positive east; the line is of the zone whose Zone line stands at `zone_place`.
 ///
 /// `RulesOutOfOrder` where the set is out of order in any year.
 pub fn occurrences(
@@ -62,13 +64,14 @@ pub fn occurrences(
     ensures order { IfOk result
         (λ _. IsInOrder (record { rules = source.now.rules; name = set.now }) offset) }
     ensures all { IfOk result
-        (λ made. AreOccurrencesTo (record { rules = source.now.rules; name = set.now }) offset before made.items) }
+        (λ made. AreOccurrencesTo
+        (record { rules = source.now.rules; name = set.now }) offset before made.items) }
     ensures err { IfRefusal fault_of result
         (λ fault. (fault ≡ fault_at zone_place Kind.RulesOutOfOrder)
         × IsOutOfOrder (record { rules = source.now.rules; name = set.now }) offset) }
 {
     // So the number of each rule fits 16 bits.
-    prove!(source.rules() <= MOST_RULES);
+    prove!(source.rules() <= MAX_RULES);
     let last = before.max(last_named_year(source, set) + YEARS_IN_QUESTION);
     let nominals = in_order(alloc, source, set, last)?;
     if has_tie(&nominals) {

@@ -4,8 +4,8 @@ ghost use Rattle.std.specs.Prelude.{◌≡◌, ◌<◌, ◌<ℤ◌, pos, length,
 ghost use Rattle.zic_base.specs.Fault.{fault_at, fault_of};
 ghost use Rattle.zic_base.specs.Memory.{IfRefusal};
 ghost use Rattle.zic_source.specs.Sound.{IsWithinDay};
+ghost use Rattle.zic_occurrences.specs.Occurrence.{IsNear};
 ghost use Rattle.zic_occurrences.specs.Order.{instant_by};
-ghost use Rattle.zic_occurrences.specs.code.Nominals.{IsNear};
 ghost use Rattle.zic_occurrences.specs.code.Timed.{timed_from, HasFall, ComesAfter, ComesNotAfter};
 
 use crate::nominal::Nominal;
@@ -15,12 +15,10 @@ use zic_base::{Kind, Place, Stop};
 use zic_source::Source;
 use zic_words::ClockForm;
 
-/// The instant at which a clock shows this nominal second, where standard time is `offset` seconds east of UT and `saved`
-/// seconds are saved.
-fn instant_by(form: ClockForm, offset: i32, saved: i32, second: i64) -> i64
-    requires offset { IsWithinDay offset }
-    requires saved { IsWithinDay saved }
-    requires second { IsNear second }
+/// Returns the instant at which a clock shows this nominal second, where standard time is `offset`
+/// seconds east of UT and `saved` seconds are saved (zic(8), AT).
+pub fn instant_by(form: ClockForm, offset: i32, saved: i32, second: i64) -> i64
+    requires { IsNear second }
     ensures { result ≡ instant_by form offset saved second }
 {
     match form {
@@ -30,7 +28,7 @@ fn instant_by(form: ClockForm, offset: i32, saved: i32, second: i64) -> i64
     }
 }
 
-/// Whether an instant comes after the last of these, if there is one.
+/// Returns whether an instant comes after the last of these, if there is one.
 fn comes_after(instant: i64, timed: &[TimedOccurrence]) -> bool
     ensures { MatchBool result (ComesAfter timed.now instant) (ComesNotAfter timed.now instant) }
 {
@@ -40,7 +38,7 @@ fn comes_after(instant: i64, timed: &[TimedOccurrence]) -> bool
     }
 }
 
-/// These occurrences with their instants, if each comes after the one before it.
+/// Returns these occurrences with their instants, if each comes after the one before it.
 pub(crate) fn timed(
     alloc: Global,
     zone_place: Place,
@@ -51,7 +49,8 @@ pub(crate) fn timed(
     requires offset { IsWithinDay offset }
     requires known { All (λ n. n.rule < length source.now.rules) nominals.now }
     requires near { All (λ n. IsNear n.second) nominals.now }
-    ensures items { IfOk result (λ made. made.items ≡ timed_from source.now.rules offset (pos 0) nominals.now) }
+    ensures items { IfOk result
+        (λ made. made.items ≡ timed_from source.now.rules offset (pos 0) nominals.now) }
     ensures rising { IfOk result (λ made. AllPairs (λ a b. a.instant <ℤ b.instant) made.items) }
     ensures err { IfRefusal fault_of result
         (λ fault. (fault ≡ fault_at zone_place Kind.RulesOutOfOrder)

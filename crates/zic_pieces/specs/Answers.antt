@@ -21,9 +21,12 @@ DrawsThenGlances i g v w = Draws i v × (i < v.pieces) × (g ≤ v.seen) × (w �
 abbrev pub Answers : Known → Claim → Known → Type 0
 Answers v (Do i) w = (g : ℕ) × DrawsThenGlances i g v w × (i ≤ g)
 Answers v (Skip i) w = (g : ℕ) × DrawsThenGlances i g v w × (g < i)
-Answers v End w = ((v.ended ≡ true) × (w ≡ v)) ⊎ ((i : ℕ) × Draws i v × (v.pieces ≤ i) × (w ≡ drew i v))
+Answers v End w =
+    ((v.ended ≡ true) × (w ≡ v)) ⊎ ((i : ℕ) × Draws i v × (v.pieces ≤ i) × (w ≡ drew i v))
 
 -- A pass with room is cut in two, and one of room 0 stays as it is
 abbrev pub IsCut : Held → Split → Type 0
-IsCut p (Two old new) = (1 < p.known.parts) × (old.table ≡ p.table) × (old.known ≡ left p.known) × (new.table ≡ p.table) × (new.known ≡ right p.known)
+IsCut p (Two old new) =
+    (1 < p.known.parts) × (old.table ≡ p.table) × (old.known ≡ left p.known)
+    × (new.table ≡ p.table) × (new.known ≡ right p.known)
 IsCut p (Full same) = (p.known.parts ≡ 1) × (same ≡ p)

@@ -1,5 +1,6 @@
--- The pure core: the two words NEXT and FAULT, and what each pass knows. Three events change it: a draw, a report and a glance.
--- Splitting and joining passes move what is known, and change neither word.
+-- The pure core: the two words NEXT and FAULT, and what each pass knows. Three events change it: a
+-- draw, a report and a glance. Splitting and joining passes move what is known, and change neither
+-- word.
 use Rattle.std.specs.Prelude.{◌≡◌, ℕ, zero, suc, ◌+◌, ◌-◌, ◌<◌, ◌≤◌, ◌⊎◌, Bool, true, false, ◌||◌, nat_le, min, List, [], ◌∷◌, ◌++◌}
 use mathlib.Core.Option.{some}
 use lib.ListN.{get_elem?}
@@ -14,27 +15,60 @@ first n = record { pieces = n; parts = 1024; seen = n; ended = false; events = [
 
 -- a draw of i keeps what the pass had seen; a pass that draws n or more has ended
 abbrev pub drew : ℕ → Known → Known
-drew i v = record { pieces = v.pieces; parts = v.parts; seen = v.seen; ended = nat_le v.pieces i; events = v.events ++ Drew i v.seen ∷ [] }
+drew i v = record {
+  pieces = v.pieces;
+  parts = v.parts;
+  seen = v.seen;
+  ended = nat_le v.pieces i;
+  events = v.events ++ Drew i v.seen ∷ [];
+}
 
 -- a report of i lowers what the pass has seen to i, if that is less
 abbrev pub reported : ℕ → Known → Known
-reported i v = record { pieces = v.pieces; parts = v.parts; seen = min v.seen i; ended = v.ended; events = v.events ++ Reported i ∷ [] }
+reported i v = record {
+  pieces = v.pieces;
+  parts = v.parts;
+  seen = min v.seen i;
+  ended = v.ended;
+  events = v.events ++ Reported i ∷ [];
+}
 
--- a glance that finds `least` keeps the greatest draw of its pass, and lowers what the pass has seen
+-- a glance that finds `least` keeps the greatest draw of its pass, and lowers what the pass has
+-- seen
 abbrev pub glanced : ℕ → Known → Known
-glanced least v = record { pieces = v.pieces; parts = v.parts; seen = min v.seen least; ended = v.ended; events = v.events ++ Glanced least (past v.events) ∷ [] }
+glanced least v = record {
+  pieces = v.pieces;
+  parts = v.parts;
+  seen = min v.seen least;
+  ended = v.ended;
+  events = v.events ++ Glanced least (past v.events) ∷ [];
+}
 
 -- the old pass, once another was split off: the events stay with it
 abbrev pub left : Known → Known
-left v = record { pieces = v.pieces; parts = v.parts - 1; seen = v.seen; ended = v.ended; events = v.events }
+left v = record {
+  pieces = v.pieces;
+  parts = v.parts - 1;
+  seen = v.seen;
+  ended = v.ended;
+  events = v.events;
+}
 
--- the pass split off has room 0 and no events, and keeps what the old one had seen and whether it had ended
+-- the pass split off has room 0 and no events, and keeps what the old one had seen and whether it
+-- had ended
 abbrev pub right : Known → Known
 right v = record { pieces = v.pieces; parts = 1; seen = v.seen; ended = v.ended; events = [] }
 
--- two passes made one: all events of both, the lesser of what they had seen; it has ended if either had
+-- two passes made one: all events of both, the lesser of what they had seen; it has ended if
+-- either had
 abbrev pub both : Known → Known → Known
-both v w = record { pieces = v.pieces; parts = v.parts + w.parts; seen = min v.seen w.seen; ended = v.ended || w.ended; events = v.events ++ w.events }
+both v w = record {
+  pieces = v.pieces;
+  parts = v.parts + w.parts;
+  seen = min v.seen w.seen;
+  ended = v.ended || w.ended;
+  events = v.events ++ w.events;
+}
 
 -- what is left of a pass that is now part of another
 abbrev pub spent : Known
@@ -58,7 +92,8 @@ parts_if false parts = 0
 abbrev pub SomeHas : List Known → Event → Type 0
 SomeHas passes e = (id : ℕ) × (v : Known) × (get_elem? passes id ≡ some v) × Has v.events e
 
--- A pass that is part of another has no events. Any other is one of n pieces, and FAULT is at most what it has seen. No pass drew NEXT or more, and where one has ended every piece was drawn
+-- A pass that is part of another has no events. Any other is one of n pieces, and FAULT is at most
+-- what it has seen. No pass drew NEXT or more, and where one has ended every piece was drawn
 pub record Stands (n next fault : ℕ) (v : Known) : Type 0 where
   pub idle : v.parts ≡ 0 → v.events ≡ []
   pub pieces : 0 < v.parts → v.pieces ≡ n
@@ -82,7 +117,10 @@ pub record IsCore (n next fault : ℕ) (passes : List Known) : Type 0 where
   pub kept : (i s : ℕ) → SomeHas passes (Drew i s) → fault ≤ s
   -- a reported number is below n, and FAULT is at most that
   pub told : (i : ℕ) → SomeHas passes (Reported i) → (fault ≤ i) × (i < n)
-  -- every draw that a glance kept is below NEXT, and what it found is FAULT or more, and n or a reported number
-  pub glances : (g b : ℕ) → SomeHas passes (Glanced g b) → (b ≤ next) × (fault ≤ g) × ((g ≡ n) ⊎ SomeHas passes (Reported g))
+  -- every draw that a glance kept is below NEXT, and what it found is FAULT or more, and n or a
+  -- reported number
+  pub glances : (g b : ℕ) → SomeHas passes (Glanced g b) → (b ≤ next) × (fault ≤ g)
+      × ((g ≡ n) ⊎ SomeHas passes (Reported g))
   -- where a draw of i kept s, a glance that kept a draw of i or more found at most s
-  pub heard : (i s g b : ℕ) → SomeHas passes (Drew i s) → SomeHas passes (Glanced g b) → i < b → g ≤ s
+  pub heard : (i s g b : ℕ) → SomeHas passes (Drew i s) → SomeHas passes (Glanced g b) → i < b
+      → g ≤ s

@@ -13,7 +13,8 @@ given_by n (Glanced g past) f = []
 
 -- a draw of i below n and a glance right after it that found less: i was skipped
 abbrev pub skipped_by : ℕ → Event → Event → List ℕ
-skipped_by n (Drew i seen) (Glanced least past) = if nat_lt i n && nat_lt least i then i ∷ [] else []
+skipped_by n (Drew i seen) (Glanced least past) =
+    if nat_lt i n && nat_lt least i then i ∷ [] else []
 skipped_by n (Drew i seen) (Drew j s) = []
 skipped_by n (Drew i seen) (Reported j) = []
 skipped_by n (Reported i) f = []

@@ -19,7 +19,8 @@ pub record Held : Type 0 where
 abbrev pub IsOf : Shared → Held → Type 0
 IsOf claims pass = (pass.table ≡ claims.table) × (pass.known.pieces ≡ claims.pieces)
 
--- What holds of every pass at every moment. Since two passes can be joined, it also says what holds between them
+-- What holds of every pass at every moment. Since two passes can be joined, it also says what
+-- holds between them
 pub record IsSound (v : Known) : Type 0 where
   -- no number was drawn twice
   pub once : (x : ℕ) → times x (draws v.events) ≤ 1

@@ -10,7 +10,9 @@ IsEachBelow m xs = (x : ℕ) → (x < m → times x xs ≡ 1) × (m ≤ x → ti
 
 -- the least number reported, n if none was
 abbrev pub IsLeast : ℕ → List Event → ℕ → Type 0
-IsLeast n events least = ((least ≡ n) ⊎ Has events (Reported least)) × ((i : ℕ) → Has events (Reported i) → least ≤ i) × (least ≤ n)
+IsLeast n events least =
+    ((least ≡ n) ⊎ Has events (Reported least)) × ((i : ℕ) → Has events (Reported i) → least ≤ i)
+    × (least ≤ n)
 
 -- every glance found n, or a number that was reported
 abbrev pub FindReports : ℕ → List Event → Type 0

@@ -8,7 +8,7 @@ use Rattle.zic_pieces.specs.declared.task.TaskStop.{TaskStop}
 use Rattle.zic_pieces.specs.declared.task.TaskStop.TheVariants.{Fault as FaultAt, Memory as MemoryAt, NoThread}
 
 module _ {X F : Type 0} where
-  -- a fault is the piece's own; want of memory tells nothing of it
+  -- a fault is the piece's own; that memory ran out tells nothing of it
   abbrev pub IsReason : (Result X F → Type 0) → PieceStop F → Type 0
   IsReason outcome (Fault f) = outcome (Err f)
   IsReason outcome Memory = Unit {0}
@@ -24,9 +24,11 @@ module _ {X F : Type 0} where
 
   -- the values of all n pieces, in order
   abbrev pub AreValues : (ℕ → Result X F → Type 0) → ℕ → List X → Type 0
-  AreValues outcome n xs = (length xs ≡ n) × ((i : ℕ) (x : X) → get_elem? xs i ≡ some x → outcome i (Ok x))
+  AreValues outcome n xs =
+      (length xs ≡ n) × ((i : ℕ) (x : X) → get_elem? xs i ≡ some x → outcome i (Ok x))
 
-  -- The least piece that stopped the task: every piece below it has a value. A task never stops for want of a thread
+  -- The least piece that stopped the task: every piece below it has a value. A task never stops
+  -- because a thread can't be started
   abbrev pub IsStop : (ℕ → Result X F → Type 0) → ℕ → TaskStop F → Type 0
   IsStop outcome n (FaultAt i f) = (i < n) × HaveValues outcome i × outcome i (Err f)
   IsStop outcome n (MemoryAt (Some i)) = (i < n) × HaveValues outcome i

@@ -27,7 +27,7 @@ pub enum Split {
 pub struct Settled {
     /// The least number reported, or the number of pieces if none was.
     pub least: u64,
-    /// How many pieces were given.
+    /// The number of pieces that were given.
     pub given: u64,
     /// Whether the pass had ended: then every piece was drawn.
     pub ended: bool,

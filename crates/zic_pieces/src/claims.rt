@@ -16,15 +16,16 @@ use atomic_table::Table;
 use std::alloc::{AllocError, Global};
 use std::marker::Model;
 
-/// The most pieces that claims share out.
-pub const MOST_PIECES: u64 = 4_294_967_296;
+/// The greatest number of pieces that claims share out.
+pub const MAX_PIECES: u64 = 4_294_967_296;
 
-/// The most passes there are at once.
-const MOST_PASSES: u64 = 1024;
+/// The number of passes that the first pass stands for.
+const MAX_PASSES: u64 = 1024;
 
-/// Claims on pieces 0, 1, 2, .. for any number of threads, over two atomic words. No call waits for another.
+/// Claims on pieces 0, 1, 2, .. for any number of threads, over two atomic words. No call waits
+/// for another.
 ///
-/// Contracts see which claims they are, and how many pieces there are.
+/// Contracts see which claims they are, and the number of pieces.
 #[derive(Drop)]
 pub struct Claims {
     table: Table<(), Known, u64, Core, Global>,
@@ -39,11 +40,13 @@ impl Model for Claims {
 
     ghost view = { λ c. record { table = c.table.shared.table_id; pieces = c.pieces } };
 
-    ghost invariant = { λ c. (c.table.shared.table_id.words ≡ 2) × (c.table.shared.table_id.slots ≡ 0) × (c.table.shared.key ≡ c.pieces) × (c.pieces ≤ 4294967296) };
+    ghost invariant = { λ c.
+        (c.table.shared.table_id.words ≡ 2) × (c.table.shared.table_id.slots ≡ 0)
+        × (c.table.shared.key ≡ c.pieces) × (c.pieces ≤ 4294967296) };
 }
 
 impl Claims {
-    /// Claims on `pieces` pieces, and their first pass. `Err` where memory was refused.
+    /// Returns claims on `pieces` pieces, and their first pass, or an error where memory runs out.
     pub fn new(alloc: Global, pieces: u64) -> Result<(Claims, Pass), AllocError>
         requires { pieces ≤ 4294967296 }
         ensures claims { IfOk result (λ r. (r.0.pieces ≡ pieces) × IsOf r.0 r.1) }
@@ -52,15 +55,15 @@ impl Claims {
         let (table, seat) = Table::of_words(alloc, &[0, pieces], &pieces)?;
         let pass = Pass {
             seat,
-            room: MOST_PASSES - 1,
+            room: MAX_PASSES - 1,
             ended: false,
             given: 0,
         };
         Ok((Claims { table, pieces }, pass))
     }
 
-    /// Draws a number, by one atomic step, and where it is a piece looks at the least number reported, by another.
-    /// A pass that has ended answers `End` and takes no step.
+    /// Draws a number, by one atomic step, and where it is a piece looks at the least number
+    /// reported, by another. A pass that has ended answers `End` and takes no step.
     pub fn claim(&self, pass: &mut Pass) -> Claim
         requires { IsOf self.now pass.old }
         ensures whose { pass.new.table ≡ pass.old.table }
@@ -83,8 +86,8 @@ impl Claims {
         Claim::Do(i)
     }
 
-    /// Cuts a pass of room r above 0 into one of room r - 1, which keeps the events, and one of room 0. Both keep what
-    /// the old pass had seen, and whether it had ended.
+    /// Cuts a pass of room r above 0 into one of room r - 1, which keeps the events, and one of
+    /// room 0. Both keep what the old pass had seen, and whether it had ended.
     pub fn split(&self, mut pass: Pass) -> Split
         requires { IsOf self.now pass }
         ensures { IsCut pass result }
@@ -103,12 +106,14 @@ impl Claims {
         Split::Two(pass, other)
     }
 
-    /// Makes two passes one. Its room is the sum of the two rooms and 1; it has the first pass's events and then the
-    /// second's, and the lesser of what they had seen; and it has ended if either had.
+    /// Makes two passes one. Its room is the sum of the two rooms and 1; it has the first pass's
+    /// events and then the second's, and the lesser of what they had seen; and it has ended if
+    /// either had.
     pub fn join(&self, first: Pass, second: Pass) -> Pass
         requires first { IsOf self.now first }
         requires second { IsOf self.now second }
-        ensures joined { (result.table ≡ first.table) × (result.known ≡ both first.known second.known) }
+        ensures joined { (result.table ≡ first.table)
+            × (result.known ≡ both first.known second.known) }
         ensures sound { IsSound result.known }
     {
         let Pass {
@@ -128,11 +133,12 @@ impl Claims {
         }
     }
 
-    /// Reports the number `i`: no claim of a greater number that looks later is given.
+    /// Reports the number `i`: a claim of a greater number that looks later isn't given.
     pub fn report(&self, pass: &mut Pass, i: u64)
         requires whose { IsOf self.now pass.old }
         requires piece { i < self.now.pieces }
-        ensures reported { (pass.new.table ≡ pass.old.table) × (pass.new.known ≡ reported i pass.old.known) }
+        ensures reported { (pass.new.table ≡ pass.old.table)
+            × (pass.new.known ≡ reported i pass.old.known) }
         ensures sound { IsSound pass.new.known }
     {
         self.table
@@ -140,28 +146,33 @@ impl Claims {
             .fetch_min::<Report>(&mut pass.seat, FAULT, i);
     }
 
-    /// The least number reported so far, or the number of pieces if none was.
+    /// Returns the least number reported so far, or the number of pieces if none was.
     pub fn glance(&self, pass: &mut Pass) -> u64
         requires { IsOf self.now pass.old }
-        ensures glanced { (pass.new.table ≡ pass.old.table) × (pass.new.known ≡ glanced result pass.old.known) }
+        ensures glanced { (pass.new.table ≡ pass.old.table)
+            × (pass.new.known ≡ glanced result pass.old.known) }
         ensures seen { result ≤ pass.old.known.seen }
         ensures sound { IsSound pass.new.known }
     {
         self.table.shared.load::<Glance>(&mut pass.seat, FAULT)
     }
 
-    /// Ends the claims, once all passes are joined to one.
+    /// Ends the claims, once all passes are joined to one, and returns what they came to.
     pub fn settle(self, pass: Pass) -> Settled
         requires whose { IsOf self pass }
         requires all { pass.known.parts ≡ 1024 }
-        ensures draws { (m : ℕ) × (m ≤ self.pieces + 1024) × IsEachBelow m (draws pass.known.events) }
+        ensures draws { (m : ℕ) × (m ≤ self.pieces + 1024)
+            × IsEachBelow m (draws pass.known.events) }
         ensures glances { FindReports self.pieces pass.known.events }
         ensures least { IsLeast self.pieces pass.known.events result.least }
         ensures given { result.given ≡ length (given self.pieces pass.known.events) }
         ensures ended { result.ended ≡ pass.known.ended }
-        ensures all { IsTrue result.ended → (i : ℕ) → i < self.pieces → times i (draws pass.known.events) ≡ 1 }
-        ensures each { IsTrue result.ended → (i : ℕ) → i < self.pieces → i ≤ result.least → times i (given self.pieces pass.known.events) ≡ 1 }
-        ensures skipped { (i : ℕ) → i ≤ result.least → times i (skipped self.pieces pass.known.events) ≡ 0 }
+        ensures all { IsTrue result.ended → (i : ℕ) → i < self.pieces
+            → times i (draws pass.known.events) ≡ 1 }
+        ensures each { IsTrue result.ended → (i : ℕ) → i < self.pieces → i ≤ result.least
+            → times i (given self.pieces pass.known.events) ≡ 1 }
+        ensures skipped { (i : ℕ) → i ≤ result.least
+            → times i (skipped self.pieces pass.known.events) ≡ 0 }
     {
         let Claims { table, pieces: _ } = self;
         let Pass {

@@ -8,18 +8,22 @@ pub enum Event {
     Drew(u64, u64),
     /// The pass reported this number.
     Reported(u64),
-    /// The pass found this to be the least number reported; then one more than its greatest draw, 0 if it had none.
+    /// The pass found this to be the least number reported; then one more than its greatest draw,
+    /// 0 if it had none.
     Glanced(u64, u64),
 }
 
 /// What a pass knows.
 pub struct Known {
-    /// How many pieces there are.
+    /// The number of pieces.
     pub pieces: u64,
-    /// How many passes this one stands for: one more than its room, and 0 once it is part of another.
+    /// The number of passes that this one stands for: one more than its room, and 0 once it is
+    /// part of another.
     pub parts: u64,
     /// The least number that it has seen reported, `pieces` if none.
     pub seen: u64,
+    /// Whether a claim of it has answered `End`.
     pub ended: bool,
+    /// Its events, the first one first.
     pub events: LinkedList<Event>,
 }

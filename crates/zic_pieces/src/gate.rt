@@ -1,8 +1,9 @@
 //! Gates, which workers pass before they perform a piece.
 
-/// A worker enters the gate of a piece before it performs the piece. A gate may hold it back, to show in which order
-/// pieces can be begun.
+/// A gate that a worker enters before it performs a piece. It may hold the worker back, to show in
+/// which order pieces can begin.
 pub trait Gate {
+    /// Returns once the worker may begin piece `i`.
     fn enter(&self, i: u64);
 }
 

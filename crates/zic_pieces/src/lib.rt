@@ -1,4 +1,5 @@
 //! Pieces of work for several threads: numbers that threads claim by atomic steps, without a lock.
+//! The tests stand in `src/tests.rt`.
 #![tactic(auto)]
 
 mod claim;
@@ -17,7 +18,7 @@ mod tests;
 mod work;
 
 pub use claim::{Claim, Settled, Split};
-pub use claims::{Claims, MOST_PIECES};
+pub use claims::{Claims, MAX_PIECES};
 pub use event::{Event, Known};
 pub use gate::{Gate, Open};
 pub use pass::Pass;

@@ -7,10 +7,11 @@ use crate::event::Known;
 use atomic_table::Seat;
 use std::marker::Model;
 
-/// A caller's token of claims. It tells its thread's calls apart from those of other threads, and remembers what they did.
+/// A caller's token of claims. It tells its thread's calls apart from those of other threads, and
+/// remembers what they did.
 ///
-/// Contracts see whose it is and what it knows: its events in order, the least number that it has seen, its room and
-/// whether it has ended.
+/// Contracts see whose it is and what it knows: its events in order, the least number that it has
+/// seen, its room and whether it has ended.
 #[derive(Drop)]
 pub struct Pass {
     pub(crate) seat: Seat<(), Known>,
@@ -31,21 +32,22 @@ impl Model for Pass {
 }
 
 impl Pass {
-    /// How often it can still be split: at most 1,023.
+    /// Returns how often the pass can still be split, at most 1,023 times.
     pub fn room(&self) -> u64
         ensures { self.now.known.parts ≡ result + 1 }
     {
         self.room
     }
 
-    /// Whether a claim of it has answered `End`, or of a pass that it came from or took in.
+    /// Returns whether a claim has answered `End`: of this pass, or of one that it came from or
+    /// took in.
     pub fn ended(&self) -> bool
         ensures { result ≡ self.now.known.ended }
     {
         self.ended
     }
 
-    /// How many pieces its claims gave.
+    /// Returns the number of pieces that its claims gave.
     pub fn given(&self) -> u64
         ensures { result ≡ length (given self.now.known.pieces self.now.known.events) }
     {

@@ -18,7 +18,8 @@ use std::sync::Wait;
 use std::thread;
 use std::thread::Threads;
 
-/// Has a worker for each pass claim pieces until none is left, each in a thread of its own where one can be started.
+/// Has a worker for each pass claim pieces until none is left, each in a thread of its own where
+/// one can be started.
 fn start_workers<R: Threads + Sync, T: Task + Sync, G: Gate + Sync>(
     rt: &R,
     alloc: Global,
@@ -30,7 +31,9 @@ fn start_workers<R: Threads + Sync, T: Task + Sync, G: Gate + Sync>(
     requires fresh { All (IsFresh claims.now) passes.items }
     requires pieces { claims.now.pieces ≡ T.count task.now }
     ensures len { IfOk result (λ all. vec_len all ≡ vec_len passes) }
-    ensures each { IfOk result (λ all. (i : ℕ) (d : _) (p : _) → i < vec_len passes → DidWork (T.outcome task.now) claims.now (slice_index_or passes.items i p).known.parts (slice_index_or all.items i d)) }
+    ensures each { IfOk result (λ all. (i : ℕ) (d : _) (p : _) → i < vec_len passes
+        → DidWork (T.outcome task.now) claims.now (slice_index_or passes.items i p).known.parts
+        (slice_index_or all.items i d)) }
 {
     thread::map_vec(
         rt,
@@ -42,7 +45,7 @@ fn start_workers<R: Threads + Sync, T: Task + Sync, G: Gate + Sync>(
     )
 }
 
-/// The work of all workers as one.
+/// Runs the workers, and returns the work of all as that of one.
 fn run_workers<R: Threads + Sync, T: Task + Sync, G: Gate + Sync>(
     rt: &R,
     alloc: Global,
@@ -63,7 +66,7 @@ fn run_workers<R: Threads + Sync, T: Task + Sync, G: Gate + Sync>(
     merge_all::<T>(claims, last, others)
 }
 
-/// How the task ends where `piece` is the least that stopped.
+/// Returns how the task ends where `piece` is the least that stopped.
 fn stop_at<F: Drop>(piece: u64, reason: PieceStop<F>) -> TaskStop<F>
     ensures { result ≡ the_stop piece reason }
 {
@@ -73,7 +76,7 @@ fn stop_at<F: Drop>(piece: u64, reason: PieceStop<F>) -> TaskStop<F>
     }
 }
 
-/// What the task comes to, by the least piece that was reported.
+/// Returns what the task comes to, by the least piece that was reported.
 fn answer<T: Task>(
     alloc: Global,
     task: &T,
@@ -82,7 +85,8 @@ fn answer<T: Task>(
 ) -> Result<Vec<T::Out>, TaskStop<T::Fault>>
     requires work { DidWork (T.outcome task.now) claims 1024 all }
     requires pieces { claims.pieces ≡ T.count task.now }
-    ensures ok { IfOk result (λ values. AreValues (T.outcome task.now) (T.count task.now) values.items) }
+    ensures ok { IfOk result
+        (λ values. AreValues (T.outcome task.now) (T.count task.now) values.items) }
     ensures stop { IfErr result (IsStop (T.outcome task.now) (T.count task.now)) }
 {
     let pieces = task.pieces();
@@ -97,12 +101,17 @@ fn answer<T: Task>(
     }
 }
 
-/// Runs a task by `workers` workers, 1 to 64, but at most one for each piece. The calling thread is one of them, and
-/// each other has a thread of its own, if one can be started: else the others do its work.
+/// Runs a task of at most 4,294,967,296 pieces by `workers` workers, 1 to 64, but at most one for
+/// each piece. The calling thread is one of them, and each other has a thread of its own, if one
+/// can be started: else the others do its work.
 ///
-/// The answer is that of one thread which performs the pieces in order: the values of all pieces, or the least piece that
-/// stopped. `Memory(Some(i))` says that piece i answered want of memory, or that its value could not be kept,
-/// `Memory(None)` that memory was refused elsewhere. `NoThread` is never answered. The task has at most 4,294,967,296 pieces.
+/// The answer is that of one thread which performs the pieces in order: the values of all pieces.
+///
+/// # Errors
+///
+/// The least piece that stopped. `Memory(Some(i))` says that piece `i` ran out of memory, or that
+/// its value could not be kept, `Memory(None)` that memory ran out elsewhere. `NoThread` is never
+/// answered.
 pub fn run_task<R: Threads + Wait + Sync, T: Task + Sync, G: Gate + Sync>(
     rt: &R,
     alloc: Global,
@@ -112,7 +121,8 @@ pub fn run_task<R: Threads + Wait + Sync, T: Task + Sync, G: Gate + Sync>(
 ) -> Result<Vec<T::Out>, TaskStop<T::Fault>>
     requires workers { (1 ≤ workers) × (workers ≤ 64) }
     requires pieces { T.count task.now ≤ 4294967296 }
-    ensures ok { IfOk result (λ values. AreValues (T.outcome task.now) (T.count task.now) values.items) }
+    ensures ok { IfOk result
+        (λ values. AreValues (T.outcome task.now) (T.count task.now) values.items) }
     ensures stop { IfErr result (IsStop (T.outcome task.now) (T.count task.now)) }
 {
     let pieces = task.pieces();

@@ -8,14 +8,14 @@ use std::alloc::Global;
 /// Why a piece has no value.
 #[derive(Debug, Drop)]
 pub enum PieceStop<F> {
-    /// The piece's fault.
+    /// The fault of the piece.
     Fault(F),
-    /// Memory was refused. That tells nothing of the piece.
+    /// Memory ran out. That tells nothing of the piece.
     Memory,
 }
 
-/// A task of pieces 0, 1, 2, .., each of which comes to a value or a fault. Where more than one would be right, the task's relation
-/// tells them all.
+/// A task of pieces 0, 1, 2, .., each of which comes to a value or a fault. Where more than one is
+/// right, the task's relation has them all.
 pub trait Task {
     type Out: Send + Drop;
 
@@ -23,17 +23,17 @@ pub trait Task {
 
     ghost use Rattle.std.specs.Prelude.{ℕ, Result};
 
-    // How many pieces there are.
+    // the number of pieces
     ghost count: { Self → ℕ };
 
-    // What each piece may come to: a value, or a fault.
+    // what each piece may come to: a value, or a fault
     ghost outcome: { Self → ℕ → Result Self.Out Self.Fault → Type 0 };
 
-    /// How many pieces there are.
+    /// Returns the number of pieces.
     fn pieces(&self) -> u64
         ensures { result ≡ count self.now };
 
-    /// The value of piece `i`, or why it has none.
+    /// Returns the value of piece `i`, or why it has none.
     fn perform(&self, alloc: Global, i: u64) -> Result<Self::Out, PieceStop<Self::Fault>>
         requires { i < count self.now }
         ensures { IsOutcome (outcome self.now i) result };
@@ -44,8 +44,9 @@ pub trait Task {
 pub enum TaskStop<F> {
     /// This piece has this fault, and every piece below it has a value.
     Fault(u64, F),
-    /// Memory was refused: in this piece, or to keep its value, and every piece below it has a value; or elsewhere.
+    /// Memory ran out: in this piece, or to keep its value, and every piece below it has a value;
+    /// or elsewhere.
     Memory(Option<u64>),
-    /// A worker could not be started. It is never answered, since the other workers go on.
+    /// A worker could not be started. Never answered, since the other workers go on.
     NoThread,
 }

@@ -144,7 +144,7 @@ fn two_threads_draw_each_number_once(rt: HostRuntime) -> Result<(), Fail> {
     Ok(())
 }
 
-/// Piece i has the value i * i, but two pieces have a fault, and one answers want of memory.
+/// Piece i has the value i * i, but two pieces have a fault, and one runs out of memory.
 #[derive(Drop)]
 struct Squares {
     pieces: u64,
@@ -181,7 +181,8 @@ impl Task for Squares {
     }
 }
 
-/// Runs a task, and again where it wants memory: one growth may be refused while a test runs, but no two.
+/// Runs a task, and again where it wants memory: one growth may be refused while a test runs, but
+/// no two.
 fn run<R: Threads + Wait + Sync, T: Task + Sync, G: Gate + Sync>(
     rt: &R,
     alloc: Global,
@@ -314,11 +315,11 @@ fn every_piece_up_to_the_least_fault_is_entered_once(rt: HostRuntime) {
 }
 
 /// How long a piece waits for another, in turns.
-const MOST_TURNS: u64 = 1_000_000;
+const MAX_TURNS: u64 = 1_000_000;
 
 /// Waits until the flag is up, and says whether it was in time.
 fn wait_for(flag: &AtomicU64) -> bool {
-    for _ in 0..MOST_TURNS {
+    for _ in 0..MAX_TURNS {
         if flag.load(Ordering::SeqCst) == 1 {
             return true;
         }
@@ -436,7 +437,7 @@ fn many_workers_answer_as_one(rt: HostRuntime) {
             Err(TaskStop::Fault(piece, fault)) => assert!(rt;
                 piece == least && fault == least && least < 10_000
             ),
-            Err(_) => panic!(rt; "want of memory"),
+            Err(_) => panic!(rt; "out of memory"),
         }
     }
 }

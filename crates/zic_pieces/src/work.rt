@@ -15,7 +15,8 @@ use std::alloc::Global;
 /// A piece at which a worker stopped, and why.
 pub(crate) type Halt<F> = Option<(u64, PieceStop<F>)>;
 
-/// What a worker did: its pass, the values of its pieces, each with its number, and the least piece that stopped it.
+/// What a worker did: its pass, the values of its pieces, each with its number, and the least
+/// piece that stopped it.
 #[derive(Drop)]
 pub(crate) struct Worked<O, F> {
     pub(crate) pass: Pass,
@@ -23,7 +24,7 @@ pub(crate) struct Worked<O, F> {
     pub(crate) halt: Halt<F>,
 }
 
-/// The one at the lesser piece.
+/// Returns the halt at the lesser piece.
 pub(crate) fn lesser<F: Drop>(a: Halt<F>, b: Halt<F>) -> Halt<F>
     ensures { result ≡ the_lesser a b }
 {
@@ -42,8 +43,10 @@ fn keep<T: Task>(
     values: &mut Vec<(u64, T::Out)>,
 ) -> Result<(), PieceStop<T::Fault>>
     requires { i < T.count task.now }
-    ensures ok { IfOk result (λ _. Keeps (T.outcome task.now i) i values.old.items values.new.items) }
-    ensures err { IfErr result (λ stop. IsReason (T.outcome task.now i) stop × (values.new.items ≡ values.old.items)) }
+    ensures ok { IfOk result
+        (λ _. Keeps (T.outcome task.now i) i values.old.items values.new.items) }
+    ensures err { IfErr result (λ stop.
+        IsReason (T.outcome task.now i) stop × (values.new.items ≡ values.old.items)) }
 {
     let value = task.perform(alloc, i)?;
     if values.push((i, value)).is_err() {
@@ -66,7 +69,8 @@ pub(crate) fn work<T: Task, G: Gate>(
     ensures whose { IsOf claims.now result.pass }
     ensures parts { result.pass.known.parts ≡ pass.known.parts }
     ensures ended { result.pass.known.ended ≡ true }
-    ensures work { IsWork (T.outcome task.now) result.pass.known.pieces result.pass.known.events result.values.items result.halt }
+    ensures work { let known = result.pass.known in
+        IsWork (T.outcome task.now) known.pieces known.events result.values.items result.halt }
 {
     let mut values = Vec::new(alloc);
     let mut halt = None;

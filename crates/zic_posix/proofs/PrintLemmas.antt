@@ -16,7 +16,8 @@ use Rattle.zic_posix.specs.declared.footer.Dst.{Dst}
 use Rattle.zic_posix.specs.declared.footer.Edge.{Edge}
 use Rattle.zic_posix.specs.Footer.{TzString, is_of_day, version_by, version_of}
 use Rattle.zic_posix.specs.Grammar.{is_letter, is_digit, SpellsName, SpellsNumber, SpellsClock, SpellsSigned, SpellsOffset, SpellsTime, SpellsDay, SpellsEdge, SpellsDaylight, Spells, IsName, IsOffset, IsDay, IsEdge, IsDaylight, IsTzString}
-use Rattle.zic_posix.specs.Printing.{printed_name, two_digits, printed_number, printed_clock, printed_seconds, printed_signed, printed_offset, printed_day, printed_edge, printed_saving, printed_daylight, printed_rest, printed}
+use Rattle.zic_base.specs.Digits.{two_digits}
+use Rattle.zic_posix.specs.Printing.{printed_name, printed_number, printed_clock, printed_seconds, printed_signed, printed_offset, printed_day, printed_edge, printed_saving, printed_daylight, printed_rest, printed}
 use Rattle.zic_posix.proofs.NumberLemmas.{AreDigits}
 use Rattle.zic_posix.proofs.SignedLemmas.{abs_neg}
 

@@ -9,7 +9,7 @@ use Rattle.zic_calendar.specs.DayForm.{IsNearSupportedDay}
 use Rattle.zic_posix.specs.declared.footer.Dst.{Dst}
 use Rattle.zic_posix.specs.declared.footer.Edge.{Edge}
 use Rattle.zic_posix.specs.declared.instants.Instants.{Instants}
-use Rattle.zic_posix.specs.declared.instants.TheConstants.{FIRST_INSTANT, LAST_INSTANT}
+use Rattle.zic_posix.specs.declared.instants.TheConstants.{MIN_INSTANT, MAX_INSTANT}
 use Rattle.zic_posix.specs.declared.span.Around.{Around}
 use Rattle.zic_posix.specs.declared.span.Phase.{Phase}
 use Rattle.zic_posix.specs.Footer.{TzString}
@@ -107,7 +107,7 @@ module _ (standard : ℤ) (dst : Dst) (t : ℤ) (offset : IsOffset standard) (da
 -- ---- all of 64 bits
 
 -- an instant that isn't after one of 64 bits, cut to 64 bits, is itself or the first of all
-cut_below : (t instant first : ℤ) → FitsSigned w64 t → instant ≤ℤ t → first ≡ saturate_signed w64 instant → (first ≡ instant) ⊎ ((first ≡ FIRST_INSTANT) × (instant <ℤ first))
+cut_below : (t instant first : ℤ) → FitsSigned w64 t → instant ≤ℤ t → first ≡ saturate_signed w64 instant → (first ≡ instant) ⊎ ((first ≡ MIN_INSTANT) × (instant <ℤ first))
 cut_below t (pos n) first fits before is = inl (omega (arith, ints))
 cut_below t (negsuc n) first fits before is =
     elim (cases_lt n 9_223_372_036_854_775_808) [
@@ -116,7 +116,7 @@ cut_below t (negsuc n) first fits before is =
     ]
 
 -- and one that isn't before it, itself or the last of all
-cut_above : (t instant last : ℤ) → FitsSigned w64 t → t ≤ℤ instant → last ≡ saturate_signed w64 instant → (last ≡ instant) ⊎ ((last ≡ LAST_INSTANT) × (last <ℤ instant))
+cut_above : (t instant last : ℤ) → FitsSigned w64 t → t ≤ℤ instant → last ≡ saturate_signed w64 instant → (last ≡ instant) ⊎ ((last ≡ MAX_INSTANT) × (last <ℤ instant))
 cut_above t (pos n) last fits after is =
     elim (cases_lt n 9_223_372_036_854_775_808) [
       | inl less ↦ inl (omega (arith, ints))
@@ -130,10 +130,10 @@ module _ (f : TzString) (dst : Dst) (t in_cycle : ℤ) (phase : Phase) (instants
     (remainder : in_cycle ≡ int_rem_euclid t (pos 12_622_780_800)) (is : IsPhase f.offset dst in_cycle phase)
     (first_is : instants.first ≡ saturate_signed w64 (t -ℤ (in_cycle -ℤ phase.from)))
     (last_is : instants.last ≡ saturate_signed w64 (t +ℤ (phase.until -ℤ in_cycle -ℤ pos 1))) where
-  cut_first : (instants.first ≡ t -ℤ (in_cycle -ℤ phase.from)) ⊎ ((instants.first ≡ FIRST_INSTANT) × ((t -ℤ (in_cycle -ℤ phase.from)) <ℤ instants.first))
+  cut_first : (instants.first ≡ t -ℤ (in_cycle -ℤ phase.from)) ⊎ ((instants.first ≡ MIN_INSTANT) × ((t -ℤ (in_cycle -ℤ phase.from)) <ℤ instants.first))
   cut_first = cut_below t (t -ℤ (in_cycle -ℤ phase.from)) instants.first fits (omega (arith, ints, is.not_after)) first_is
 
-  cut_last : (instants.last ≡ t +ℤ (phase.until -ℤ in_cycle -ℤ pos 1)) ⊎ ((instants.last ≡ LAST_INSTANT) × (instants.last <ℤ (t +ℤ (phase.until -ℤ in_cycle -ℤ pos 1))))
+  cut_last : (instants.last ≡ t +ℤ (phase.until -ℤ in_cycle -ℤ pos 1)) ⊎ ((instants.last ≡ MAX_INSTANT) × (instants.last <ℤ (t +ℤ (phase.until -ℤ in_cycle -ℤ pos 1))))
   cut_last = cut_above t (t +ℤ (phase.until -ℤ in_cycle -ℤ pos 1)) instants.last fits (omega (arith, ints, is.after)) last_is
 
   first_from : (t -ℤ (in_cycle -ℤ phase.from)) ≤ℤ instants.first
@@ -174,7 +174,7 @@ module _ (f : TzString) (dst : Dst) (t in_cycle : ℤ) (phase : Phase) (instants
   }
 
 -- a string without a daylight part has no edge at all
-pub without_edges : (f : TzString) (instants : Instants) → None ≡ f.dst → instants.first ≡ FIRST_INSTANT → instants.last ≡ LAST_INSTANT → AreBetween (HasEdgeAt f) instants
+pub without_edges : (f : TzString) (instants : Instants) → None ≡ f.dst → instants.first ≡ MIN_INSTANT → instants.last ≡ MAX_INSTANT → AreBetween (HasEdgeAt f) instants
 without_edges f instants none first last = record {
   first = inl first;
   last = inl last;

@@ -8,7 +8,7 @@ use Rattle.zic_posix.specs.declared.footer.DayRule.{DayRule}
 use Rattle.zic_posix.specs.declared.footer.DayRule.TheVariants.{J, N, M}
 use Rattle.zic_posix.specs.declared.footer.Dst.{Dst}
 use Rattle.zic_posix.specs.declared.footer.Edge.{Edge}
-use Rattle.zic_posix.specs.declared.limit.TheConstants.{SHORTEST_NAME, MOST_HOURS, MOST_WIDE_HOURS, MOST_MINUTES_OR_SECONDS, LAST_DAY, USUAL_TIME, USUAL_SAVING}
+use Rattle.zic_posix.specs.declared.limit.TheConstants.{SHORTEST_NAME, MAX_HOURS, MAX_WIDE_HOURS, MAX_MINUTES_OR_SECONDS, LAST_DAY, USUAL_TIME, USUAL_SAVING}
 use Rattle.zic_posix.specs.Footer.{TzString, version_of}
 
 -- an ASCII letter
@@ -40,7 +40,7 @@ pub record SpellsNumber (longest least most : ℕ) (text : List ℕ) (n : ℕ) :
 
 -- minutes, or seconds
 abbrev pub SpellsPart : List ℕ → ℕ → Type 0
-SpellsPart text n = SpellsNumber 2 0 MOST_MINUTES_OR_SECONDS text n
+SpellsPart text n = SpellsNumber 2 0 MAX_MINUTES_OR_SECONDS text n
 
 -- hours of up to `longest` digits from 0 to `most`, and perhaps minutes, and perhaps seconds, after colons: `seconds` in all. POSIX TZ
 pub record SpellsClock (longest most : ℕ) (text : List ℕ) (seconds : ℕ) : Type 0 where
@@ -65,13 +65,13 @@ pub record SpellsSigned (longest most : ℕ) (text : List ℕ) (seconds : ℤ) :
 
 -- An offset counts west of Greenwich. POSIX TZ
 abbrev pub SpellsOffset : List ℕ → ℤ → Type 0
-SpellsOffset text offset = (west : ℤ) × SpellsSigned 2 MOST_HOURS text west × (offset ≡ neg_ℤ west)
+SpellsOffset text offset = (west : ℤ) × SpellsSigned 2 MAX_HOURS text west × (offset ≡ neg_ℤ west)
 
 -- the time of an edge: POSIX TZ; in version 3 it may have a sign and up to 167 hours: RFC 9636, 3.3.1
 abbrev pub SpellsTime : ℕ → List ℕ → ℤ → Type 0
 SpellsTime version text time =
-    ((version ≡ 2) × ((size : ℕ) × SpellsClock 2 MOST_HOURS text size × (time ≡ pos size)))
-    ⊎ ((version ≡ 3) × SpellsSigned 3 MOST_WIDE_HOURS text time)
+    ((version ≡ 2) × ((size : ℕ) × SpellsClock 2 MAX_HOURS text size × (time ≡ pos size)))
+    ⊎ ((version ≡ 3) × SpellsSigned 3 MAX_WIDE_HOURS text time)
 
 -- the day of an edge: `Jn`, `n`, or `Mm.w.d`. POSIX TZ
 abbrev pub SpellsDay : List ℕ → DayRule → Type 0
@@ -119,7 +119,7 @@ pub record IsName (name : List ℕ) : Type 0 where
 
 -- an offset that some text spells: within 24:59:59
 abbrev pub IsOffset : ℤ → Type 0
-IsOffset offset = unsigned_abs offset < (MOST_HOURS + 1) * 3600
+IsOffset offset = unsigned_abs offset < (MAX_HOURS + 1) * 3600
 
 -- a day that some text spells
 abbrev pub IsDay : DayRule → Type 0
@@ -130,7 +130,7 @@ IsDay (M month week weekday) = (1 ≤ month) × (month ≤ 12) × (1 ≤ week) �
 -- an edge that some text of version 3 spells: its time is within 167:59:59
 pub record IsEdge (edge : Edge) : Type 0 where
   pub day : IsDay edge.day
-  pub time : unsigned_abs edge.time < (MOST_WIDE_HOURS + 1) * 3600
+  pub time : unsigned_abs edge.time < (MAX_WIDE_HOURS + 1) * 3600
 
 -- a daylight part that some text of version 3 spells
 pub record IsDaylight (standard : ℤ) (dst : Dst) : Type 0 where

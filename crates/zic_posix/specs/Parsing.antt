@@ -1,12 +1,12 @@
 -- What a parser of POSIX TZ strings refuses, and where it may want memory.
 use Rattle.std.specs.Prelude.{◌<◌, ◌⊎◌, Option, Some, None, List, ℕ, length, IsSomeAnd}
 use Rattle.zic_base.specs.declared.limit.TheConstants.{LONGEST_ABBREVIATION}
-use Rattle.zic_posix.specs.declared.parsing.ParseStop.{ParseStop}
-use Rattle.zic_posix.specs.declared.parsing.ParseStop.TheVariants as stop
+use Rattle.zic_posix.specs.declared.parser.ParseStop.{ParseStop}
+use Rattle.zic_posix.specs.declared.parser.ParseStop.TheVariants as stop
 use Rattle.zic_posix.specs.Footer.{TzString}
 use Rattle.zic_posix.specs.Grammar.{Spells}
 
--- that the parser refuses the text, and nothing where it is want of memory
+-- that the parser refuses the text, and nothing where it is out of memory
 abbrev pub refusal_of : ParseStop → Option (Unit {0})
 refusal_of stop.BadFooter = Some tt
 refusal_of stop.Memory = None

@@ -2,6 +2,7 @@
 use Rattle.std.specs.Prelude.{ℕ, ◌+◌, ◌/◌, ◌%◌, ◌&&◌, ◌==◌, nat_lt, if◌then◌else◌, int_lt, unsigned_abs, ℤ, pos, neg_ℤ, ◌+ℤ◌, Option, Some, None, List, [], ◌∷◌, ◌++◌}
 use Rattle.std.specs.List.{list_all}
 use Rattle.std.specs.Ordering.{int_eq}
+use Rattle.zic_base.specs.Digits.{two_digits}
 use Rattle.zic_posix.specs.declared.footer.DayRule.{DayRule}
 use Rattle.zic_posix.specs.declared.footer.DayRule.TheVariants.{J, N, M}
 use Rattle.zic_posix.specs.declared.footer.Dst.{Dst}
@@ -14,10 +15,6 @@ use Rattle.zic_posix.specs.Grammar.{is_letter}
 abbrev pub printed_name : List ℕ → List ℕ
 printed_name name = if list_all is_letter name then name else 60 ∷ (name ++ 62 ∷ [])
 
--- minutes and seconds have two digits
-abbrev pub two_digits : ℕ → List ℕ
-two_digits n = (48 + n / 10) ∷ (48 + n % 10) ∷ []
-
 -- a number below 1000 without leading zeros
 abbrev pub printed_number : ℕ → List ℕ
 printed_number n =
@@ -28,7 +25,7 @@ abbrev pub printed_clock : ℕ → ℕ → ℕ → List ℕ
 printed_clock h m s =
     printed_number h ++ (if (m == 0) && (s == 0) then [] else (58 ∷ two_digits m) ++ (if s == 0 then [] else 58 ∷ two_digits s))
 
--- so many seconds, as hours, minutes and seconds
+-- n seconds, as hours, minutes and seconds
 abbrev pub printed_seconds : ℕ → List ℕ
 printed_seconds n = printed_clock (n / 3600) (n / 60 % 60) (n % 60)
 

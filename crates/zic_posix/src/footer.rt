@@ -1,14 +1,13 @@
 //! A footer, and what it says.
 
 ghost use Rattle.std.specs.Prelude.{◌≡◌};
-ghost use Rattle.std.specs.Option.{option_copied};
 ghost use Rattle.zic_posix.specs.Footer.{is_of_day, version_of};
-ghost use Rattle.zic_posix.specs.Grammar.{IsTzString};
 
 use std::marker::Model;
 use zic_base::{LONGEST_ABBREVIATION, ShortText};
 
-/// The abbreviation of local time in a footer, without the `<` and `>` of its text; clauses see its octets.
+/// The abbreviation of local time in a footer, without the `<` and `>` of its text. Clauses see
+/// its bytes.
 pub type Abbr = ShortText<LONGEST_ABBREVIATION>;
 
 /// The day of a year on which daylight saving time starts or stops.
@@ -26,12 +25,13 @@ pub enum DayRule {
 #[derive(Clone, Copy, Debug, PartialEq, Eq)]
 pub struct Edge {
     pub day: DayRule,
-    /// Seconds after the day's midnight: a start's in standard time, a stop's in daylight saving time.
+    /// Seconds after the day's midnight: a start's in standard time, a stop's in daylight saving
+    /// time.
     pub time: i32,
 }
 
 impl Edge {
-    /// Whether the time is from 00:00:00 to 24:00:00.
+    /// Returns whether the time is from 00:00:00 to 24:00:00.
     fn is_of_day(&self) -> bool
         ensures { result ≡ is_of_day self.now }
     {
@@ -49,13 +49,18 @@ pub struct Dst {
     pub stop: Edge,
 }
 
-/// A POSIX TZ string, of TZif version 2 or 3.
+/// A POSIX TZ string, of TZif version 2 or 3: some text of version 3 spells it.
+///
+/// Code that makes one, or writes to a field, has to show that. Clauses see the string without
+/// where its names lie in memory.
 #[derive(Debug, Drop)]
 pub struct Footer {
-    std: Abbr,
+    /// The abbreviation of standard time.
+    pub std: Abbr,
     /// The UT offset of standard time in seconds, positive east.
-    offset: i32,
-    dst: Option<Dst>,
+    pub offset: i32,
+    /// Daylight saving time, if there is one.
+    pub dst: Option<Dst>,
 }
 
 impl Model for Footer {
@@ -71,38 +76,8 @@ impl Model for Footer {
 }
 
 impl Footer {
-    /// The string of these parts, which keep the limits of version 3.
-    pub fn new(std: Abbr, offset: i32, dst: Option<Dst>) -> Footer
-        requires { IsTzString (record { std = std; offset = offset; dst = dst }) }
-        ensures { result ≡ record { std = std; offset = offset; dst = dst } }
-    {
-        Footer { std, offset, dst }
-    }
-
-    /// The abbreviation of standard time.
-    pub fn std(&self) -> &Abbr
-        ensures { result.now ≡ self.now.std }
-    {
-        &self.std
-    }
-
-    /// The UT offset of standard time in seconds, positive east.
-    pub fn offset(&self) -> i32
-        ensures value { result ≡ self.now.offset }
-        ensures limits { IsTzString self.now }
-    {
-        self.offset
-    }
-
-    /// Daylight saving time, if there is one.
-    pub fn dst(&self) -> Option<&Dst>
-        ensures { option_copied result ≡ self.now.dst }
-    {
-        self.dst.as_ref()
-    }
-
-    /// The version of TZif of a file with this string: 2 without a daylight part or with both its times in 0 to
-    /// 24:00:00, else 3.
+    /// Returns the version of TZif of a file with this string: 2 without a daylight part or with
+    /// both its times in 0 to 24:00:00, else 3.
     pub fn version(&self) -> u8
         ensures { result ≡ version_of self.now }
     {

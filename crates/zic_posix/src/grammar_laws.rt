@@ -1,4 +1,5 @@
-//! What holds of the grammar of POSIX TZ strings.
+//! Laws of the grammar of POSIX TZ strings, each the contract of a function. No function here does
+//! anything.
 
 ghost use Rattle.zic_posix.specs.Grammar.{SpellsAtMostOne, SomeTextSpells, SpellsWithinLimits};
 
@@ -12,7 +13,8 @@ pub fn some_text_spells()
     ensures { SomeTextSpells }
 {}
 
-/// What a text spells keeps the limits, and a text spells in version 3 what it spells in version 2.
+/// A string that a text spells keeps the limits, and a text spells in version 3 what it spells in
+/// version 2.
 pub fn spells_within_limits()
     ensures { SpellsWithinLimits }
 {}

@@ -7,7 +7,7 @@ pub fn means_one_state()
     ensures { MeansOneState }
 {}
 
-/// What a footer means comes again after 400 years, and so do its edges.
+/// The meaning of a footer comes again after 400 years, and so do its edges.
 pub fn meaning_repeats()
     ensures { MeaningRepeats }
 {}

@@ -1,4 +1,4 @@
-//! What a footer means at an instant, and how long it stays so.
+//! A footer's state at an instant, and the instants round it at which it is the same.
 
 ghost use Rattle.std.specs.Prelude.{◌≤◌, unsigned_abs};
 ghost use Rattle.zic_base.specs.declared.limit.TheConstants.{FARTHEST_FILE_OFFSET};
@@ -10,38 +10,38 @@ ghost use Rattle.zic_posix.specs.code.Span.{IsAround, IsPhase};
 ghost use Rattle.zic_posix.specs.code.State.{IsInCycle, IsLatestYear, IsYearOfCycle, instant_in};
 
 use crate::footer::{Dst, Edge, Footer};
-use crate::instants::{FIRST_INSTANT, Instants, LAST_INSTANT};
+use crate::instants::{Instants, MAX_INSTANT, MIN_INSTANT};
 use crate::state::{CYCLE, daylight_state, instant_in, latest_year};
 use zic_base::State;
 
-/// What a footer says at some instants, at all of them the same.
+/// The state that a footer shows at some instants, at all of them the same.
 #[derive(Clone, Copy, Debug, PartialEq, Eq)]
-pub struct Span<'a> {
+pub struct StateSpan<'a> {
     pub state: State<'a>,
     pub instants: Instants,
 }
 
 impl Footer {
-    /// What the footer says at an instant, in seconds since 1970-01-01 00:00 UT, and the instants round it up to the next edges,
-    /// at which it says the same: from the last edge that isn't after it to just before the first one after it, or all instants
-    /// where there is no daylight part.
-    pub fn span(&self, t: i64) -> Span<'_>
+    /// Returns the state at an instant, in seconds since 1970-01-01 00:00 UT, and the instants
+    /// round it up to the next edges, at which it is the same: from the last edge that isn't after
+    /// it to just before the first one after it, or all instants where there is no daylight part.
+    pub fn span(&self, t: i64) -> StateSpan<'_>
         ensures asked { Includes result.instants t }
         ensures means { MeansThroughout self.now result.instants (shown result.state) }
         ensures edges { AreBetween (HasEdgeAt self.now) result.instants }
     {
-        let Some(dst) = self.dst() else {
+        let Some(dst) = &self.dst else {
             let instants = Instants {
-                first: FIRST_INSTANT,
-                last: LAST_INSTANT,
+                first: MIN_INSTANT,
+                last: MAX_INSTANT,
             };
-            return Span {
+            return StateSpan {
                 state: self.standard_state(),
                 instants,
             };
         };
         let in_cycle = t.rem_euclid(CYCLE);
-        let phase = phase_at(self.offset(), dst, in_cycle);
+        let phase = phase_at(self.offset, dst, in_cycle);
         let instants = Instants {
             first: t.saturating_sub(in_cycle - phase.from),
             last: t.saturating_add(phase.until - in_cycle - 1),
@@ -51,11 +51,11 @@ impl Footer {
         } else {
             self.standard_state()
         };
-        Span { state, instants }
+        StateSpan { state, instants }
     }
 }
 
-/// Which time is in force at an instant, since which edge, and until which.
+/// The time in force at an instant, the edge since which it is, and the edge until which.
 #[derive(Clone, Copy)]
 struct Phase {
     is_daylight: bool,
@@ -63,7 +63,7 @@ struct Phase {
     until: i64,
 }
 
-/// What is in force at an instant of the first 400 years from 1970 on.
+/// Returns the time in force at an instant of the first 400 years from 1970 on.
 fn phase_at(standard: i32, dst: &Dst, t: i64) -> Phase
     requires standard { IsOffset standard }
     requires dst { IsDaylight standard dst.now }
@@ -87,7 +87,8 @@ struct Around {
     next: i64,
 }
 
-/// The instants of an edge round this one, where local time has this UT offset before the edge.
+/// Returns the instants of an edge round this one, where local time has this UT offset before the
+/// edge.
 fn edges_around(t: i64, year: i64, edge: &Edge, offset: i32) -> Around
     requires year { IsLatestYear t year }
     requires range { IsYearOfCycle year }

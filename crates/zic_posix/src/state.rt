@@ -1,4 +1,4 @@
-//! What a footer means at an instant.
+//! The state of a footer at an instant.
 
 ghost use Rattle.std.specs.Prelude.{◌≡◌, ◌≤◌, unsigned_abs, MatchBool};
 ghost use Rattle.std.specs.Int.{IsInRange};
@@ -17,37 +17,38 @@ use zic_calendar::{On, civil, day_of};
 
 const SECONDS_OF_DAY: i64 = 86_400;
 
-/// After so many seconds, 400 years, the calendar comes again.
+/// The seconds of 400 years, after which the calendar comes again.
 pub(crate) const CYCLE: i64 = 146_097 * SECONDS_OF_DAY;
 
-/// An edge lies less than so many days outside its year: the time and the offset add up to at most 193:59:58.
+/// The days by which an edge may lie outside its year, all but one: its time and the offset add up
+/// to at most 193:59:58.
 const FARTHEST_DAYS: i64 = 10;
 
 impl Footer {
-    /// What the footer says at an instant, in seconds since 1970-01-01 00:00 UT.
+    /// Returns the state at an instant, in seconds since 1970-01-01 00:00 UT.
     pub fn state(&self, t: i64) -> State<'_>
         ensures { Means self.now t (shown result) }
     {
         let t = t.rem_euclid(CYCLE);
-        match self.dst() {
-            Some(dst) if is_daylight(self.offset(), dst, t) => daylight_state(dst),
+        match &self.dst {
+            Some(dst) if is_daylight(self.offset, dst, t) => daylight_state(dst),
             _ => self.standard_state(),
         }
     }
 
-    /// What standard time shows.
+    /// Returns the state of standard time.
     pub(crate) fn standard_state(&self) -> State<'_>
         ensures { shown result ≡ meaning.standard_state self.now }
     {
         State {
-            offset: self.offset(),
+            offset: self.offset,
             daylight: false,
-            name: self.std().octets(),
+            name: self.std.octets(),
         }
     }
 }
 
-/// What daylight saving time shows.
+/// Returns the state of daylight saving time.
 pub(crate) fn daylight_state(dst: &Dst) -> State<'_>
     ensures { shown result ≡ meaning.daylight_state dst.now }
 {
@@ -58,12 +59,14 @@ pub(crate) fn daylight_state(dst: &Dst) -> State<'_>
     }
 }
 
-/// Whether daylight saving time holds at an instant of the first 400 years from 1970 on.
+/// Returns whether daylight saving time holds at an instant of the first 400 years from 1970 on.
 fn is_daylight(standard: i32, dst: &Dst, t: i64) -> bool
     requires standard { IsOffset standard }
     requires dst { IsDaylight standard dst.now }
     requires t { IsInCycle t }
-    ensures { MatchBool result (IsDaylightAt standard dst.now t) (IsStandardAt standard dst.now t) }
+    ensures { MatchBool result
+        (IsDaylightAt standard dst.now t)
+        (IsStandardAt standard dst.now t) }
 {
     let year = latest_year(t);
     let start = last_not_after(t, year, &dst.start, standard);
@@ -71,7 +74,7 @@ fn is_daylight(standard: i32, dst: &Dst, t: i64) -> bool
     stop <= start
 }
 
-/// The latest year of which an edge may have come at an instant.
+/// Returns the latest year of which an edge may have come at an instant.
 pub(crate) fn latest_year(t: i64) -> i64
     requires { IsInCycle t }
     ensures year { IsLatestYear t result }
@@ -80,7 +83,8 @@ pub(crate) fn latest_year(t: i64) -> i64
     civil(t / SECONDS_OF_DAY + FARTHEST_DAYS, 0).year
 }
 
-/// The last instant of an edge that isn't after this one, where local time has this UT offset before the edge.
+/// Returns the last instant of an edge that isn't after this one, where local time has this UT
+/// offset before the edge.
 fn last_not_after(t: i64, year: i64, edge: &Edge, offset: i32) -> i64
     requires year { IsLatestYear t year }
     requires range { IsYearOfCycle year }
@@ -99,7 +103,7 @@ fn last_not_after(t: i64, year: i64, edge: &Edge, offset: i32) -> i64
     instant_in(year - 2, edge, offset)
 }
 
-/// The instant of an edge in a year, where local time has this UT offset before it.
+/// Returns the instant of an edge in a year, where local time has this UT offset before it.
 pub(crate) fn instant_in(year: i64, edge: &Edge, offset: i32) -> i64
     requires year { IsSupportedYear year }
     requires edge { IsEdge edge.now }
@@ -108,7 +112,8 @@ pub(crate) fn instant_in(year: i64, edge: &Edge, offset: i32) -> i64
     SECONDS_OF_DAY * day_in(year, edge.day) + i64::from(edge.time) - i64::from(offset)
 }
 
-/// The number of the day that a day rule names in a year; day 365 of a common year, counted from 0, is the next January 1.
+/// Returns the number of the day that a day rule names in a year. Day 365 of a common year,
+/// counted from 0, is the next January 1.
 fn day_in(year: i64, day: DayRule) -> i64
     requires year { IsSupportedYear year }
     requires day { IsDay day }
@@ -128,7 +133,8 @@ fn day_in(year: i64, day: DayRule) -> i64
     }
 }
 
-/// Week 5 is the last such weekday of the month, and the weeks before it count from its first day.
+/// Returns the day form of a weekday: week 5 is the last such weekday of the month, and the weeks
+/// before it count from its first day.
 fn week_form(week: u8, weekday: u8) -> On
     requires { IsInRange 1 5 week }
     ensures { result ≡ meaning.week_form week weekday }

@@ -1,4 +1,5 @@
-//! Names, numbers and single bytes at the start of a text: each answers what it reads and the text after it.
+//! Names, numbers and single bytes at the start of a text. Each function returns what it reads and
+//! the text after it.
 
 ghost use Rattle.std.specs.Prelude.{◌≡◌, ◌≤◌, IsTrue, All, length, IfSome};
 ghost use Rattle.std.specs.List.{prefix_len};
@@ -9,7 +10,7 @@ ghost use Rattle.zic_posix.specs.code.Reading.{Reads, after, plain_name_at, quot
 use crate::limit::SHORTEST_NAME;
 use zic_base::is_abbreviation_byte;
 
-/// The text after this byte.
+/// Returns the text after this byte.
 #[tactic(auto, unfolding(crate::specs::code::Reading::after))]
 pub(crate) fn after(byte: u8, text: &[u8]) -> Option<&[u8]>
     ensures { Reads (λ x. x.now) result (after byte text.now) }
@@ -20,7 +21,7 @@ pub(crate) fn after(byte: u8, text: &[u8]) -> Option<&[u8]>
     }
 }
 
-/// A name, without `<` and `>`.
+/// Reads a name, without `<` and `>`.
 #[tactic(auto, unfolding(crate::specs::code::Reading::name_at))]
 pub(crate) fn name_at(text: &[u8]) -> Option<(&[u8], &[u8])>
     ensures { Reads (λ x. (x.0.now, x.1.now)) result (name_at text.now) }
@@ -43,7 +44,7 @@ fn plain_name_at(text: &[u8]) -> Option<(&[u8], &[u8])>
     Some(text.split_at(length))
 }
 
-/// A name between `<` and `>`, whose `<` has been read.
+/// Reads a name between `<` and `>`, whose `<` has been read.
 #[tactic(auto, unfolding(crate::specs::code::Reading::quoted_name_at))]
 fn quoted_name_at(text: &[u8]) -> Option<(&[u8], &[u8])>
     ensures { Reads (λ x. (x.0.now, x.1.now)) result (quoted_name_at text.now) }
@@ -57,7 +58,8 @@ fn quoted_name_at(text: &[u8]) -> Option<(&[u8], &[u8])>
     Some((name, rest))
 }
 
-/// A number from `least` to `most`, of all the digits that stand there but no more than `longest`.
+/// Reads a number from `least` to `most`, of all the digits that stand there but no more than
+/// `longest`.
 #[tactic(auto, unfolding(crate::specs::code::Reading::number_at))]
 pub(crate) fn number_at(longest: usize, least: u16, most: u16, text: &[u8]) -> Option<(u16, &[u8])>
     requires { longest ≤ 3 }
@@ -70,7 +72,7 @@ pub(crate) fn number_at(longest: usize, least: u16, most: u16, text: &[u8]) -> O
     (0 < length && least <= number && number <= most).then_some((number, rest))
 }
 
-/// The number that at most three digits stand for.
+/// Returns the number that at most three digits stand for.
 fn decimal(digits: &[u8]) -> u16
     requires short { length digits.now ≤ 3 }
     requires digits { All (λ b. IsTrue (is_digit b)) digits.now }
@@ -83,7 +85,7 @@ fn decimal(digits: &[u8]) -> u16
     number
 }
 
-/// How many letters stand at the start.
+/// Counts the letters at the start.
 fn letters(text: &[u8]) -> usize
     ensures count { result ≡ prefix_len is_letter text.now }
     ensures within { result ≤ length text.now }
@@ -91,7 +93,7 @@ fn letters(text: &[u8]) -> usize
     text.iter().take_while(|b| b.is_ascii_alphabetic()).count()
 }
 
-/// How many letters, digits, `+` and `-` stand at the start.
+/// Counts the letters, digits, `+` and `-` at the start.
 fn abbreviation_bytes(text: &[u8]) -> usize
     ensures count { result ≡ prefix_len is_abbreviation_byte text.now }
     ensures within { result ≤ length text.now }
@@ -101,7 +103,7 @@ fn abbreviation_bytes(text: &[u8]) -> usize
         .count()
 }
 
-/// How many digits stand at the start.
+/// Counts the digits at the start.
 fn digits(text: &[u8]) -> usize
     ensures count { result ≡ prefix_len is_digit text.now }
     ensures within { result ≤ length text.now }

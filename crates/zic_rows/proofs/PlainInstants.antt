@@ -1,5 +1,5 @@
 -- Which fields are the plain decimals of their instants.
-use Rattle.std.proofs.Common.{◌≡◌, ◌≢◌, ℕ, zero, suc, ◌+◌, ◌-◌, ◌*◌, ◌^◌, ◌<◌, ◌≤◌, Bool, true, false, not, ◌&&◌, List, [], ◌∷◌, length, get_or, refl, sym, ap, ◌∙◌, subst, arith, ℤ, pos, neg_ℤ, Option, Some, None, fold}
+use Rattle.std.proofs.Common.{◌≡◌, ◌≢◌, ℕ, zero, suc, ◌+◌, ◌-◌, ◌*◌, ◌^◌, ◌<◌, ◌≤◌, Bool, true, false, not, ◌&&◌, List, [], ◌∷◌, length, get_or, refl, sym, ap, ◌∙◌, subst, arith, ℤ, pos, neg_ℤ, Option, Some, None, fold, rules}
 use Rattle.std.specs.Prelude.{◌↔◌, IfSome, IsTrue, nat_le, nat_eq, option_map, if◌then◌else◌}
 use Rattle.std.specs.Char.{is_ascii_digit}
 use Rattle.std.specs.Fmt.{decimal, signed_decimal}
@@ -8,7 +8,6 @@ use Rattle.std.proofs.lemmas.Bool.{and_parts, leb-true}
 use Rattle.std.proofs.lemmas.Bool.Decides.{nat_tests}
 use Rattle.std.proofs.lemmas.Fmt.{decimal-digits_value, first_decimal, decimal_digit}
 use Rattle.std.proofs.lemmas.Str.Parse.{IsNumeralModel, numerals_by_fold, digits_value_short}
-use Rattle.std.proofs.Common.{rules}
 use Rattle.zic_rows.specs.Instant.{decimal_value, number, instant_of}
 
 own : IsNumeralModel (λ (ds : List ℕ). list_all is_ascii_digit ds ≡ true) (fold (λ (n digit : ℕ). 10 * n + (digit - 48)) 0)
@@ -103,7 +102,7 @@ plain_more (b ∷ ds) long plus =
     let other : nat_eq b 45 ≡ false = grind (arith, nat_tests, plus) in
     rw other (on_option_map P pos (number 18 (b ∷ ds)) (on_number (λ n. P (pos n)) (b ∷ ds) (λ n h. more_digits (b ∷ ds) n h long)))
 
--- one octet, or none
+-- one byte, or none
 pub plain_short : (field : List ℕ) → length field < 2 → IfSome (instant_of field) (λ instant. IsTrue true ↔ (field ≡ signed_decimal instant))
 unfolding instant_of
 plain_short [] short = on_option_map (λ instant. IsTrue true ↔ ([] ≡ signed_decimal instant)) pos (number 18 []) (on_number (λ n. IsTrue true ↔ ([] ≡ decimal n)) [] (λ n h. absurd (omega (arith, h.some))))

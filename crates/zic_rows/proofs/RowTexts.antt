@@ -1,53 +1,31 @@
--- The text of a row in its octets.
-use Rattle.std.proofs.Common.{◌≡◌, ℕ, ◌+◌, ◌-◌, ◌*◌, ◌/◌, ◌%◌, ◌<◌, ◌≤◌, inl, inr, Bool, List, [], ◌∷◌, ◌++◌, sym, ◌∙◌, ap, arith, ℤ, pos, negsuc, ◌+ℤ◌, ◌-ℤ◌, unsigned_abs, append_assoc, length, take, drop, set, length-take-le, length-drop, length-set, take-add, take-take}
+-- The text of a row in its bytes.
+use Rattle.std.proofs.Common.{◌≡◌, refl, ℕ, ◌+◌, ◌-◌, ◌*◌, ◌/◌, ◌%◌, ◌<◌, ◌≤◌, Bool, List, [], ◌∷◌, ◌++◌, sym, ◌∙◌, ap, arith, ℤ, pos, negsuc, ◌+ℤ◌, ◌-ℤ◌, unsigned_abs, append_assoc, length, take, drop, set, length-take-le, length-drop, length-set, take-add, take-take}
 use Rattle.std.proofs.Math.Seq.{take-append-add, take-append_seam, drop-append_seam}
 use Rattle.std.proofs.lemmas.Int.{ints}
-use Rattle.std.proofs.lemmas.Bool.{cases_lt}
-use Rattle.std.proofs.lemmas.Bool.Decides.{nat_tests}
-use Rattle.std.proofs.lemmas.Fmt.{decimal_digit}
 use Rattle.std.proofs.lemmas.List.{take_more_set}
 use Rattle.std.proofs.lemmas.Slice.{take-put_mid, take-put_mid_below, drop-put_mid}
 use borrow.Rule.Slice.PartMut.{put_mid, same_len_mid}
-use Rattle.std.specs.Prelude.{int_lt, if◌then◌else◌}
+use Rattle.std.specs.Prelude.{if◌then◌else◌}
 use Rattle.std.specs.Fmt.{signed_decimal}
-use Rattle.itoa.proofs.Decimal.{decimal_two}
 use Rattle.zic_calendar.specs.declared.civil_time.Civil.{Civil}
-use Rattle.zic_calendar.specs.Calendar.{month_length, is_leap_year, IsSupportedDay, IsSupportedYear}
+use Rattle.zic_calendar.specs.Calendar.{IsSupportedDay, IsSupportedYear}
 use Rattle.zic_calendar.specs.Civil.{IsOnDay}
 use Rattle.zic_calendar.proofs.DateLemmas.{day_number-injective}
+use Rattle.zic_base.specs.Digits.{two_digits, clock_text, offset_text}
 use Rattle.zic_base.specs.State.{Shown, shown}
 use Rattle.zic_base.specs.declared.state.State.{State}
 use Rattle.zic_rows.specs.Local.{day_at, second_at, local_time, civil_of}
-use Rattle.zic_rows.specs.Row.{two_digits, four_digits, date_text, clock_text, civil_text, local_text, offset_text, state_text, rest_text, row_text, IsRowState}
+use Rattle.zic_rows.specs.Row.{four_digits, date_text, civil_text, local_text, state_text, rest_text, row_text, IsRowState}
 use Rattle.zic_rows.specs.code.Kept.{kept_date, before_name, IsKeptLine}
 use Rattle.zic_rows.proofs.LocalTime.{on_day}
 
--- a number below 100 in its two digits
-pub two_digits-pair : (n : ℕ) → n < 100 → two_digits n ≡ (48 + n / 10) ∷ (48 + n % 10) ∷ []
-two_digits-pair n lt =
-    elim (cases_lt n 10) [
-      | inl one ↦
-          let tens : n / 10 ≡ 0 = omega arith in
-          let ones : n % 10 ≡ n = omega arith in
-          let digit = decimal_digit n one in
-          rw (tens, ones) (grind (arith, nat_tests, digit))
-      | inr more ↦ let digits = decimal_two n more lt in grind (arith, nat_tests, digits)
-    ]
-
--- a time of day, or an offset below 100 hours
-pub clock_text-octets : (h m s : ℕ) → h < 100 → m < 100 → s < 100
-    → clock_text h m s ≡ (48 + h / 10) ∷ (48 + h % 10) ∷ 58 ∷ (48 + m / 10) ∷ (48 + m % 10) ∷ 58 ∷ (48 + s / 10) ∷ (48 + s % 10) ∷ []
-clock_text-octets h m s lt lt₂ lt₃ = rw (two_digits-pair h lt, two_digits-pair m lt₂, two_digits-pair s lt₃)
-
 -- a date
-pub date_text-octets : (c : Civil) (y : ℕ) → c.year ≡ pos y → y < 10_000 → c.month < 100 → c.day < 100
+pub date_text-octets : (c : Civil) (y : ℕ) → c.year ≡ pos y
     → date_text c
     ≡ (48 + y / 100 / 10) ∷ (48 + y / 100 % 10) ∷ (48 + y % 100 / 10) ∷ (48 + y % 100 % 10)
     ∷ 45 ∷ (48 + c.month / 10) ∷ (48 + c.month % 10) ∷ 45 ∷ (48 + c.day / 10) ∷ (48 + c.day % 10) ∷ []
-date_text-octets c y e lt lt₂ lt₃ =
-    let hundreds = two_digits-pair (y / 100) (omega arith) in
-    let rest = two_digits-pair (y % 100) (omega arith) in
-    rw (e, hundreds, rest, two_digits-pair c.month lt₂, two_digits-pair c.day lt₃)
+date_text-octets c y e =
+    rw e refl
 
 -- the date of a day is the text of each civil time of it
 pub date_text-of_day : (day : ℤ) (c : Civil) → IsSupportedDay day → IsOnDay day c → date_text (civil_of day 0) ≡ date_text c
@@ -70,18 +48,15 @@ second_at-counted (negsuc a) seconds e = omega (arith, ints)
 -- what follows the instant, in the parts that are kept
 pub rest_text-parts : (instant : ℤ) (shown : Shown) (seconds : ℕ) → instant +ℤ shown.offset +ℤ pos (719_162 * 86_400) ≡ pos seconds
     → let second = seconds % 86_400 in
-    rest_text instant shown ≡ kept_date (seconds / 86_400) ++ (clock_text (second / 3600) (second / 60 % 60) (second % 60) ++ state_text shown)
+    rest_text instant shown ≡ kept_date (seconds / 86_400) ++ (clock_text second ++ state_text shown)
 unfolding rest_text local_text local_time kept_date
 rest_text-parts instant shown seconds e =
     let t = instant +ℤ shown.offset in
     let second = seconds % 86_400 in
     let day = pos (seconds / 86_400) -ℤ pos 719_162 in
     let P : ℤ → ℕ → List ℕ = λ d s. 44 ∷ (civil_text (civil_of d s) ++ state_text shown) in
-    let here : P day second ≡ 44 ∷ (date_text (civil_of day 0) ++ 84 ∷ []) ++ (clock_text (second / 3600) (second / 60 % 60) (second % 60) ++ state_text shown) = simp append_assoc in
+    let here : P day second ≡ 44 ∷ (date_text (civil_of day 0) ++ 84 ∷ []) ++ (clock_text second ++ state_text shown) = simp append_assoc in
     ap (λ (d : ℤ). P d (second_at t)) (day_at-counted t seconds e) ∙ ap (λ (s : ℕ). P day s) (second_at-counted t seconds e) ∙ here
-
-month_length-le : (leap : Bool) (m : ℕ) → month_length leap m ≤ 31
-month_length-le leap m = grind (arith, nat_tests)
 
 -- the date of a day, from any civil time of it
 pub kept_date-octets : (day : ℕ) (x : ℤ) (c : Civil) (y : ℕ) → day < 3_652_059 → x ≡ pos day -ℤ pos 719_162 → IsOnDay x c → IsSupportedYear c.year → c.year ≡ pos y
@@ -93,22 +68,14 @@ kept_date-octets day x c y lt e is year e₂ =
     let d = pos day -ℤ pos 719_162 in
     let on : IsOnDay d c = (is.0, is.1 ∙ e) in
     let supported : IsSupportedDay d = (omega (arith, ints), omega (arith, ints)) in
-    let month = is.0.0 in
-    let of_month = is.0.1 in
-    let long = month_length-le (is_leap_year c.year) c.month in
-    let octets = date_text-octets c y e₂ (omega (arith, ints, year.1)) (omega arith) (omega arith) in
-    rw (date_text-of_day d c supported on, octets)
+    let octets = date_text-octets c y e₂ in
+    ap (λ (l : List ℕ). 44 ∷ (l ++ 84 ∷ [])) (date_text-of_day d c supported on ∙ octets)
 
--- what stands before the abbreviation
-pub before_name-octets : (offset : ℤ) (daylight : Bool) (seconds sign flag : ℕ) → unsigned_abs offset ≡ seconds → seconds < 360_000
-    → sign ≡ (if int_lt offset (pos 0) then 45 else 43) → flag ≡ (if daylight then 49 else 48)
-    → before_name offset daylight
-    ≡ 44 ∷ sign ∷ (48 + seconds / 3600 / 10) ∷ (48 + seconds / 3600 % 10) ∷ 58 ∷ (48 + seconds / 60 % 60 / 10) ∷ (48 + seconds / 60 % 60 % 10)
-    ∷ 58 ∷ (48 + seconds % 60 / 10) ∷ (48 + seconds % 60 % 10) ∷ 44 ∷ flag ∷ 44 ∷ []
-unfolding before_name offset_text
-before_name-octets offset daylight seconds sign flag e lt e₂ e₃ =
-    let octets = clock_text-octets (seconds / 3600) (seconds / 60 % 60) (seconds % 60) (omega arith) (omega arith) (omega arith) in
-    rw (e, ← e₂, ← e₃, octets)
+-- what stands before the abbreviation, by the text of the offset
+pub before_name-of : (offset : ℤ) (daylight : Bool) (flag : ℕ) → flag ≡ (if daylight then 49 else 48)
+    → 44 ∷ (offset_text offset ++ 44 ∷ flag ∷ 44 ∷ []) ≡ before_name offset daylight
+unfolding before_name
+before_name-of offset daylight flag e = ap (λ (n : ℕ). 44 ∷ (offset_text offset ++ 44 ∷ n ∷ 44 ∷ [])) e
 
 before_name-state : (s : Shown) → before_name s.offset s.daylight ++ (s.name ++ 10 ∷ []) ≡ state_text s
 unfolding before_name state_text
@@ -122,7 +89,7 @@ append_same a c b d long e = (
   sym (drop-append_seam a b) ∙ ap (drop (length a)) e ∙ ap (λ (i : ℕ). drop i (c ++ d)) long ∙ drop-append_seam c d,
 )
 
--- the text of a state, written in its parts after 20 octets
+-- the text of a state, written in its parts after 20 bytes
 pub state_written : (state : State) (octets front name : List ℕ) (n : ℕ) → IsRowState (shown state) → length octets ≡ 64 → front ≡ before_name state.offset state.daylight → length front ≡ 13
     → name ≡ state.name.now → n ≡ length state.name.now
     → let new = set (put_mid 33 (33 + n - 33) (put_mid 20 13 octets front) name) (33 + n) 10 in
@@ -211,10 +178,10 @@ line_cut old octets clock text day len date state long clock_long =
 -- the rest of a row, by the line that is kept
 pub rest_kept : (instant : ℤ) (s : Shown) (seconds day : ℕ) → pos seconds ≡ instant +ℤ s.offset +ℤ pos (719_162 * 86_400) → day ≡ seconds / 86_400
     → let second = seconds % 86_400 in
-    kept_date day ++ (clock_text (second / 3600) (second / 60 % 60) (second % 60) ++ state_text s) ≡ rest_text instant s
+    kept_date day ++ (clock_text second ++ state_text s) ≡ rest_text instant s
 rest_kept instant s seconds day counted of_day =
     let second = seconds % 86_400 in
-    ap (λ (d : ℕ). kept_date d ++ (clock_text (second / 3600) (second / 60 % 60) (second % 60) ++ state_text s)) of_day ∙ sym (rest_text-parts instant s seconds (sym counted))
+    ap (λ (d : ℕ). kept_date d ++ (clock_text second ++ state_text s)) of_day ∙ sym (rest_text-parts instant s seconds (sym counted))
 
 -- a row, appended in its parts
 pub row_joined : (old named parted numbered new name digits : List ℕ) (instant : ℤ) (s : Shown) → named ≡ old ++ name → parted ≡ named ++ 44 ∷ []

@@ -2,7 +2,7 @@
 use Rattle.std.specs.Prelude.{ℕ, ◌+◌, ◌-◌, ◌*◌, ℤ, pos, neg_ℤ, ◌≤ℤ◌, ◌≤◌, unsigned_abs, Bool, false, ◌&&◌, ◌==◌, nat_le, List, [], ◌∷◌, length, drop, fold, Option, Some, None, option_map, if◌then◌else◌}
 use Rattle.std.specs.Char.{is_ascii_digit}
 use Rattle.std.specs.List.{list_all}
-use Rattle.zic_rows.specs.declared.limit.TheConstants.{MOST_DIGITS, FIRST_INSTANT, LAST_INSTANT, FARTHEST_OFFSET}
+use Rattle.zic_rows.specs.declared.limit.TheConstants.{MAX_DIGITS, FIRST_INSTANT, LAST_INSTANT, FARTHEST_OFFSET}
 
 -- the number that decimal digits spell
 abbrev pub decimal_value : List ℕ → ℕ
@@ -19,7 +19,7 @@ is_negative (byte ∷ bytes) = byte == 45
 
 -- the instant of a field: a number of 1 to 18 digits, perhaps after a `-`
 unfoldable pub instant_of : List ℕ → Option ℤ
-instant_of field = if is_negative field then option_map (λ n. neg_ℤ (pos n)) (number MOST_DIGITS (drop 1 field)) else option_map pos (number MOST_DIGITS field)
+instant_of field = if is_negative field then option_map (λ n. neg_ℤ (pos n)) (number MAX_DIGITS (drop 1 field)) else option_map pos (number MAX_DIGITS field)
 
 -- A row may have this instant: with any offset within 24 hours the local time lies in the years 1 to 9999.
 abbrev pub IsRowInstant : ℤ → Type 0

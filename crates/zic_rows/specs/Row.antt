@@ -1,17 +1,14 @@
 -- The text of a row: own choice, in the manner of RFC 3339 for local time and offset.
-use Rattle.std.specs.Prelude.{ℕ, ◌/◌, ◌%◌, ℤ, pos, ◌+ℤ◌, ◌≤◌, length, int_lt, unsigned_abs, nat_lt, if◌then◌else◌, List, [], ◌∷◌, ◌++◌}
-use Rattle.std.specs.Fmt.{decimal, signed_decimal}
+use Rattle.std.specs.Prelude.{ℕ, ◌/◌, ◌%◌, ℤ, ◌+ℤ◌, ◌≤◌, length, unsigned_abs, if◌then◌else◌, List, [], ◌∷◌, ◌++◌}
+use Rattle.std.specs.Fmt.{signed_decimal}
+use Rattle.zic_base.specs.Digits.{two_digits, offset_text}
 use Rattle.zic_base.specs.State.{Shown}
 use Rattle.zic_calendar.specs.declared.civil_time.Civil.{Civil}
 use Rattle.zic_base.specs.declared.limit.TheConstants.{LONGEST_ABBREVIATION}
 use Rattle.zic_rows.specs.Instant.{IsRowOffset}
 use Rattle.zic_rows.specs.Local.{local_time}
 
--- a number in two digits at least
-abbrev pub two_digits : ℕ → List ℕ
-two_digits n = if nat_lt n 10 then 48 ∷ decimal n else decimal n
-
--- a number in four digits at least
+-- a number below 10,000 in four digits
 abbrev pub four_digits : ℕ → List ℕ
 four_digits n = two_digits (n / 100) ++ two_digits (n % 100)
 
@@ -19,23 +16,13 @@ four_digits n = two_digits (n / 100) ++ two_digits (n % 100)
 abbrev pub date_text : Civil → List ℕ
 date_text c = four_digits (unsigned_abs c.year) ++ 45 ∷ (two_digits c.month ++ 45 ∷ two_digits c.day)
 
--- hour, minute and second, as `01:59:59`
-abbrev pub clock_text : ℕ → ℕ → ℕ → List ℕ
-clock_text hour minute second = two_digits hour ++ 58 ∷ (two_digits minute ++ 58 ∷ two_digits second)
-
 -- date and time, as `2007-03-11T01:59:59`
 abbrev pub civil_text : Civil → List ℕ
-civil_text c = date_text c ++ 84 ∷ clock_text c.hour c.minute c.second
+civil_text c = date_text c ++ 84 ∷ (two_digits c.hour ++ 58 ∷ (two_digits c.minute ++ 58 ∷ two_digits c.second))
 
 -- the local time of an instant at this offset
 unfoldable pub local_text : ℤ → ℤ → List ℕ
 local_text instant offset = civil_text (local_time (instant +ℤ offset))
-
--- an offset's sign, hours, minutes and seconds, as `-05:00:00`
-unfoldable pub offset_text : ℤ → List ℕ
-offset_text offset =
-    let seconds = unsigned_abs offset in
-    (if int_lt offset (pos 0) then 45 else 43) ∷ clock_text (seconds / 3600) (seconds / 60 % 60) (seconds % 60)
 
 -- a state's offset, daylight flag and abbreviation after a comma each, and a newline
 unfoldable pub state_text : Shown → List ℕ

@@ -3,11 +3,11 @@
 ghost use Rattle.std.specs.Prelude.{◌≡◌, ◌<◌};
 ghost use Rattle.zic_rows.specs.code.Kept.{kept_date};
 
-use crate::digits::{ones, tens};
 use crate::limit::{DAYS, DAYS_TO_1970};
+use zic_base::two_digits;
 use zic_calendar::civil;
 
-/// A comma, the date of a day counted from 0001-01-01, and a `T`.
+/// Returns a comma, the date of a day counted from 0001-01-01, and a `T`.
 #[inline(never)]
 pub(crate) fn date_text(day: u32) -> [u8; 12]
     requires { day < DAYS }
@@ -17,18 +17,9 @@ pub(crate) fn date_text(day: u32) -> [u8; 12]
     let year = date.year as u32;
     let month = date.month as u32;
     let day = date.day as u32;
-    [
-        b',',
-        tens(year / 100),
-        ones(year / 100),
-        tens(year % 100),
-        ones(year % 100),
-        b'-',
-        tens(month),
-        ones(month),
-        b'-',
-        tens(day),
-        ones(day),
-        b'T',
-    ]
+    let [y, yy] = two_digits(year / 100);
+    let [yyy, yyyy] = two_digits(year % 100);
+    let [m, mm] = two_digits(month);
+    let [d, dd] = two_digits(day);
+    [b',', y, yy, yyy, yyyy, b'-', m, mm, b'-', d, dd, b'T']
 }

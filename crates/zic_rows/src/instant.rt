@@ -4,10 +4,11 @@ ghost use Rattle.std.specs.Prelude.{◌≡◌, ◌<◌, ◌^◌, ◌↔◌, IfSo
 ghost use Rattle.std.specs.Fmt.{signed_decimal};
 ghost use Rattle.zic_rows.specs.Instant.{instant_of, number};
 
-use crate::limit::MOST_DIGITS;
+use crate::limit::MAX_DIGITS;
 
-/// The instant of a field, in seconds from 1970-01-01T00:00:00 UT: 1 to 18 decimal digits, which may begin with
-/// zeros, perhaps after a `-`. Nothing else is an instant, no `+` and no space. Whether a row may have it is not asked.
+/// Returns the instant of a field, in seconds from 1970-01-01T00:00:00 UT: 1 to 18 decimal digits,
+/// which may begin with zeros, perhaps after a `-`. Nothing else is an instant, no `+` and no
+/// space. A row may still not have it.
 #[tactic(auto, unfolding(crate::specs::Instant::instant_of))]
 pub fn parse_instant(field: &[u8]) -> Option<i64>
     ensures { result ≡ instant_of field.now }
@@ -20,10 +21,12 @@ pub fn parse_instant(field: &[u8]) -> Option<i64>
     Some(seconds as i64)
 }
 
-/// Whether a field that names an instant has it in plain decimals, as a row has it: no zero before other digits, and no
-/// `-` before a zero. Of a field that names none the answer says nothing.
+/// Returns whether a field that names an instant has it in plain decimals, as a row has it: no
+/// zero before other digits, and no `-` before a zero. For a field that names none the result is
+/// either.
 pub fn is_plain(field: &[u8]) -> bool
-    ensures { IfSome (instant_of field.now) (λ instant. IsTrue result ↔ (field.now ≡ signed_decimal instant)) }
+    ensures { IfSome (instant_of field.now)
+        (λ instant. IsTrue result ↔ (field.now ≡ signed_decimal instant)) }
 {
     match field {
         [b'-', first, ..] => *first != b'0',
@@ -32,13 +35,14 @@ pub fn is_plain(field: &[u8]) -> bool
     }
 }
 
-/// The number that the text spells in decimal digits: at least one, and at most `MOST_DIGITS`.
+/// Returns the number that the text spells in decimal digits: at least one, and at most
+/// `MAX_DIGITS`.
 #[tactic(auto, unfolding(crate::specs::Instant::number))]
 fn number(text: &[u8]) -> Option<u64>
-    ensures value { result ≡ number MOST_DIGITS text.now }
+    ensures value { result ≡ number MAX_DIGITS text.now }
     ensures fits { IfSome result (λ n. n < 10 ^ 18) }
 {
-    if text.is_empty() || text.len() > MOST_DIGITS {
+    if text.is_empty() || text.len() > MAX_DIGITS {
         return None;
     }
     let mut n = 0;

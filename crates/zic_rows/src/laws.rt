@@ -1,4 +1,4 @@
-//! What the definitions mean, as contracts: no function here does anything.
+//! Laws of local time, each the contract of a function. No function here does anything.
 ghost use Rattle.zic_rows.specs.Local.{IsCivilTime};
 
 /// The local time of an instant is the civil time of its day and second, as `zic_calendar` has it.

@@ -1,8 +1,8 @@
-//! One row of a converted column: the instant that a field names, and the text of the row.
+//! One row of a converted column: the instant that a field names, and the text of the row. The
+//! tests stand here.
 #![tactic(auto)]
 
 mod date;
-mod digits;
 mod instant;
 pub mod laws;
 mod limit;
@@ -10,7 +10,7 @@ mod line;
 mod row;
 
 pub use instant::{is_plain, parse_instant};
-pub use limit::{FARTHEST_OFFSET, FIRST_INSTANT, LAST_INSTANT, MOST_DIGITS};
+pub use limit::{FARTHEST_OFFSET, FIRST_INSTANT, LAST_INSTANT, MAX_DIGITS};
 pub use row::{RowWriter, push_row};
 
 #[cfg(test)]

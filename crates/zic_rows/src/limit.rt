@@ -1,7 +1,7 @@
 //! Limits of an instant.
 
 /// The most digits of an instant.
-pub const MOST_DIGITS: usize = 18;
+pub const MAX_DIGITS: usize = 18;
 
 /// The first instant of a row, 0001-01-02 00:00 UT: a day after the first of the calendar.
 pub const FIRST_INSTANT: i64 = -62_135_510_400;

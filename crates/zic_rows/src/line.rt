@@ -1,35 +1,35 @@
-//! What rows have after the instant, kept from row to row.
+//! The rest of a row after the instant, kept from row to row.
 
 ghost use Rattle.std.specs.Prelude.{◌≡◌, ◌+◌, ◌*◌, ◌/◌, ◌%◌, ◌<◌, ◌≤◌, ◌++◌, take, drop, OnOk};
+ghost use Rattle.zic_base.specs.Digits.{clock_text};
 ghost use Rattle.zic_base.specs.State.{shown};
 ghost use Rattle.zic_rows.specs.Instant.{IsRowOffset};
-ghost use Rattle.zic_rows.specs.Row.{clock_text, state_text, IsRowState};
+ghost use Rattle.zic_rows.specs.Row.{state_text, IsRowState};
 ghost use Rattle.zic_rows.specs.code.Kept.{before_name, kept_date, IsKeptLine};
 
 use crate::date::date_text;
-use crate::digits::{clock_text, ones, tens};
 use crate::limit::{DAY, DAYS, DAYS_TO_1970};
 use std::alloc::AllocError;
-use zic_base::State;
+use zic_base::{State, clock_text, offset_text};
 
-/// How many octets a line has room for.
+/// The room of a line in bytes.
 const LINE: usize = 64;
 
-/// The rest of a row of a state on a day. Its octets are a comma, the date, a `T`, some time of day, the text of the
-/// state, and what isn't used.
+/// The rest of a row of a state on a day. Its bytes are a comma, the date, a `T`, some time of
+/// day, the text of the state, and some that aren't used.
 #[derive(Drop)]
 pub(crate) struct KeptLine<'a> {
     state: State<'a>,
     /// The days from 0001-01-01, below `DAYS`.
     day: u32,
     octets: [u8; LINE],
-    /// How many octets the text of the state has.
+    /// The length of the state's text in bytes.
     len: usize,
     ghost is_line: { IsKeptLine state day octets len },
 }
 
 impl<'a> KeptLine<'a> {
-    /// A line of this state, on some day.
+    /// Returns a line of this state, on some day.
     pub(crate) fn new(state: State<'a>) -> KeptLine<'a>
         requires { IsRowState (shown state) }
         ensures { result.state ≡ state.entry }
@@ -46,7 +46,7 @@ impl<'a> KeptLine<'a> {
         }
     }
 
-    /// Turns to another state.
+    /// Puts another state into the line.
     pub(crate) fn set_state(&mut self, state: State<'a>)
         requires { IsRowState (shown state) }
         ensures { self.new.state ≡ state.entry }
@@ -55,7 +55,7 @@ impl<'a> KeptLine<'a> {
         self.state = state;
     }
 
-    /// The offset of the state.
+    /// Returns the offset of the state.
     #[inline(always)]
     pub(crate) fn offset(&self) -> i32
         ensures value { result ≡ self.now.state.offset }
@@ -64,7 +64,7 @@ impl<'a> KeptLine<'a> {
         self.state.offset
     }
 
-    /// Turns to a day, whose date is written only where it is another.
+    /// Puts a day into the line, whose date is written only where it is another.
     #[inline(always)]
     pub(crate) fn turn_to(&mut self, day: u32)
         requires { day < DAYS }
@@ -79,14 +79,14 @@ impl<'a> KeptLine<'a> {
         }
     }
 
-    /// Appends the line with this second of the day. All octets are copied at once and those after the line cut off
-    /// again, since that is quicker.
+    /// Appends the line with this second of the day. All bytes are copied at once, and those after
+    /// the line cut off again, since that is quicker.
     #[inline(always)]
     pub(crate) fn push(&mut self, text: &mut Vec<u8>, second: u32) -> Result<(), AllocError>
         requires { second < DAY }
         ensures state { self.new.state ≡ self.old.state }
         ensures ok { OnOk result (text.new.items ≡ text.old.items ++ (kept_date self.old.day
-            ++ (clock_text (second / 3600) (second / 60 % 60) (second % 60) ++ state_text (shown self.old.state)))) }
+            ++ (clock_text second ++ state_text (shown self.old.state)))) }
     {
         self.octets[12..20].copy_from_slice(&clock_text(second));
         let len = text.len() + (20 + self.len);
@@ -96,7 +96,7 @@ impl<'a> KeptLine<'a> {
     }
 }
 
-/// Writes the text of a state after the first 20 octets of a line, and answers how long it is.
+/// Writes the text of a state after the first 20 bytes of a line, and returns its length.
 fn write_state(octets: &mut [u8; LINE], state: &State<'_>) -> usize
     requires { IsRowState (shown state.now) }
     ensures first { take 20 octets.new ≡ take 20 octets.old }
@@ -111,30 +111,14 @@ fn write_state(octets: &mut [u8; LINE], state: &State<'_>) -> usize
     end - 19
 }
 
-/// What the text of a state has before the abbreviation.
+/// Returns the part of a state's text before the abbreviation.
 fn before_name(offset: i32, daylight: bool) -> [u8; 13]
     requires { IsRowOffset offset }
     ensures { result ≡ before_name offset daylight }
 {
-    let seconds = offset.unsigned_abs();
-    let hour = seconds / 3600;
-    let minute = seconds / 60 % 60;
-    let second = seconds % 60;
-    let sign = if offset < 0 { b'-' } else { b'+' };
+    let [sign, h, hh, _, m, mm, _, s, ss] = offset_text(offset);
     let flag = if daylight { b'1' } else { b'0' };
     [
-        b',',
-        sign,
-        tens(hour),
-        ones(hour),
-        b':',
-        tens(minute),
-        ones(minute),
-        b':',
-        tens(second),
-        ones(second),
-        b',',
-        flag,
-        b',',
+        b',', sign, h, hh, b':', m, mm, b':', s, ss, b',', flag, b',',
     ]
 }

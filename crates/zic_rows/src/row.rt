@@ -12,9 +12,10 @@ use std::alloc::AllocError;
 use std::marker::Model;
 use zic_base::State;
 
-/// Appends the text of a row: the name, the instant in plain decimals, its local time, the UT offset, the daylight flag
-/// and the abbreviation, between commas, and a newline. The instant is one that a row may have, the offset is within
-/// 24:00:00 and the abbreviation has at most 16 octets. After want of memory a part of the row may be there.
+/// Appends the text of a row: the name, the instant in plain decimals, its local time, the UT
+/// offset, the daylight flag and the abbreviation, between commas, and a newline. The instant is
+/// one that a row may have, the offset is within 24:00:00 and the abbreviation has at most 16
+/// bytes. Where memory runs out, a part of the row may be there.
 pub fn push_row(
     text: &mut Vec<u8>,
     name: &[u8],
@@ -23,13 +24,14 @@ pub fn push_row(
 ) -> Result<(), AllocError>
     requires instant { IsRowInstant instant }
     requires state { IsRowState (shown state.now) }
-    ensures { OnOk result (text.new.items ≡ text.old.items ++ row_text name.now instant (shown state.now)) }
+    ensures { OnOk result
+        (text.new.items ≡ text.old.items ++ row_text name.now instant (shown state.now)) }
 {
     RowWriter::new(*state).push(text, name, instant)
 }
 
-/// Writes rows of one state after another, and keeps what they have in common: the date and the state's text. Clauses
-/// see the state.
+/// A writer of rows of one state after another, which keeps what they have in common: the date and
+/// the state's text. Clauses see the state.
 #[derive(Drop)]
 pub struct RowWriter<'a> {
     line: KeptLine<'a>,
@@ -44,7 +46,8 @@ impl<'a> Model for RowWriter<'a> {
 }
 
 impl<'a> RowWriter<'a> {
-    /// A writer of rows of this state, whose offset is within 24:00:00 and whose abbreviation has at most 16 octets.
+    /// Returns a writer of rows of this state, whose offset is within 24:00:00 and whose
+    /// abbreviation has at most 16 bytes.
     pub fn new(state: State<'a>) -> RowWriter<'a>
         requires { IsRowState (shown state) }
         ensures { result ≡ shown state.entry }
@@ -54,7 +57,7 @@ impl<'a> RowWriter<'a> {
         }
     }
 
-    /// Turns to rows of another state.
+    /// Sets the state of the rows to come.
     pub fn set_state(&mut self, state: State<'a>)
         requires { IsRowState (shown state) }
         ensures { self.new ≡ shown state.entry }
@@ -62,12 +65,13 @@ impl<'a> RowWriter<'a> {
         self.line.set_state(state);
     }
 
-    /// Appends the text of a row. The instant is one that a row may have. After want of memory a part of the row may be
-    /// there.
+    /// Appends the text of a row. The instant is one that a row may have. Where memory runs out, a
+    /// part of the row may be there.
     pub fn push(&mut self, text: &mut Vec<u8>, name: &[u8], instant: i64) -> Result<(), AllocError>
         requires { IsRowInstant instant }
         ensures state { self.new ≡ self.old }
-        ensures ok { OnOk result (text.new.items ≡ text.old.items ++ row_text name.now instant self.old) }
+        ensures ok { OnOk result
+            (text.new.items ≡ text.old.items ++ row_text name.now instant self.old) }
     {
         text.extend_from_slice(name)?;
         text.push(b',')?;
@@ -75,8 +79,9 @@ impl<'a> RowWriter<'a> {
         self.push_rest(text, instant)
     }
 
-    /// Appends what the text of a row has after the instant, for a caller that has appended the name and the instant: a
-    /// field that `is_plain` may stand there as it is. After want of memory a part may be there.
+    /// Appends the rest of the text of a row after the instant, for a caller that has appended the
+    /// name and the instant: a field that `is_plain` may stand there as it is. Where memory runs
+    /// out, a part may be there.
     #[inline(always)]
     pub fn push_rest(&mut self, text: &mut Vec<u8>, instant: i64) -> Result<(), AllocError>
         requires { IsRowInstant instant }
@@ -89,7 +94,7 @@ impl<'a> RowWriter<'a> {
     }
 }
 
-/// Local time in seconds from 0001-01-01T00:00:00.
+/// Returns local time in seconds from 0001-01-01T00:00:00.
 #[inline(always)]
 fn local_seconds(instant: i64, offset: i32) -> u64
     requires instant { IsRowInstant instant }

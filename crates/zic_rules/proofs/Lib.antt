@@ -11,3 +11,13 @@ pub mod TailLines
 pub mod TailTurns
 pub mod TailConstant
 pub mod Limits
+pub mod Years
+pub mod Ends
+pub mod Held
+pub mod Mine
+pub mod Untils
+pub mod Tells
+pub mod Windows
+pub mod Added
+pub mod Outcomes
+pub mod Walks

@@ -11,12 +11,12 @@ use Rattle.zic_lines.specs.declared.rules.Rules.TheVariants.{Standard, Amount, S
 use Rattle.zic_lines.specs.declared.zone_line.ZoneLine.{ZoneLine}
 use Rattle.zic_source.specs.Sound.{IsSoundSource}
 use Rattle.zic_words.specs.declared.time.TheConstants.{GREATEST_OFFSET}
-use Rattle.zic_states.specs.Abbreviation.{is_abbreviation}
+use Rattle.zic_words.specs.Limits.{is_abbreviation, IsWithinLimits}
 use Rattle.zic_states.specs.Fault.{IsSavingOf, IsSound}
 use Rattle.zic_states.specs.Kept.{Kept, RulesKeep}
 use Rattle.zic_states.specs.Zone.{Zone, Keeps, Shows}
 use Rattle.zic_states.proofs.Lines.{orderly, sound_line}
-use Rattle.zic_rules.specs.Laws.{IsWithinLimits, ShowsWithinLimits}
+use Rattle.zic_rules.specs.Laws.{ShowsWithinLimits}
 
 -- what is saved is a saving of RULES, or nothing
 saving_of : (rules : List Rule) (line : ZoneLine) (says : Rules) (IsSuch : ℤ → Type 0) (kept : Kept) → RulesKeep rules line says IsSuch kept

@@ -4,7 +4,7 @@ use Rattle.std.specs.Prelude.{ℤ, pos, ◌-ℤ◌, ◌≤ℤ◌, Contains}
 use Rattle.std.proofs.lemmas.Int.{ints}
 use Rattle.zic_base.specs.State.{Shown}
 use Rattle.zic_lines.specs.declared.zone_line.ZoneLine.{ZoneLine}
-use Rattle.zic_source.proofs.Elements.{only_one}
+use Rattle.zic_base.proofs.Elements.{only_one}
 use Rattle.zic_states.specs.End.{IsEnd}
 use Rattle.zic_states.specs.Fault.{HasNoLetter}
 use Rattle.zic_states.specs.Kept.{Kept, kept_of}

@@ -6,7 +6,7 @@ use Rattle.std.proofs.lemmas.Int.{ints, by_lt_z}
 use Rattle.std.proofs.lemmas.Option.{same_Some}
 use Rattle.zic_base.specs.State.{Shown}
 use Rattle.zic_lines.specs.declared.rules.Rules.{Rules}
-use Rattle.zic_source.proofs.Elements.{got, get_contained}
+use Rattle.zic_base.proofs.Elements.{got, get_contained}
 use Rattle.zic_occurrences.specs.Laws.{IsLastNotAfter}
 use Rattle.zic_occurrences.specs.Occurrence.{RuleSet, Occurrence, nominal, year_second}
 use Rattle.zic_occurrences.proofs.Instants.{some_instant, instants_rise}

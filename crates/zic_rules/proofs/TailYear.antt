@@ -1,42 +1,31 @@
 -- The year after which only rules that go on for ever occur, by the explicit end.
 use Rattle.std.proofs.Common.{◌≡◌, ℕ, zero, suc, List, Some, arith}
-use Rattle.std.specs.Prelude.{ℤ, pos, ◌<ℤ◌, ◌≤ℤ◌}
-use Rattle.std.specs.Int.{int_div_euclid}
+use Rattle.std.specs.Prelude.{ℤ, pos, ◌+ℤ◌, ◌<ℤ◌, ◌≤ℤ◌}
 use Rattle.std.proofs.lemmas.Int.{ints, clamps, by_lt_z}
-use Rattle.zic_calendar.specs.Calendar.{IsDate, IsSupportedYear, IsSupportedDay, day_number}
-use Rattle.zic_calendar.proofs.DateLemmas.{first_has, supported_day, day_number-injective}
 use Rattle.zic_occurrences.specs.Occurrence.{year_second}
 use Rattle.zic_occurrences.proofs.LastNamed.{named_year}
 use Rattle.zic_source.specs.Sound.{IsSoundSource}
 use Rattle.zic_states.specs.End.{IsYearOf, IsLastYear}
 use Rattle.zic_states.specs.Until.{set_of}
 use Rattle.zic_states.specs.Zone.{Zone}
-use Rattle.zic_stretches.proofs.Years.{floor, year_second-is, years_rise, not_later}
-use Rattle.zic_stretches.proofs.Walks.{start_in_years}
+use Rattle.zic_rules.specs.code.End.{IsInYears}
+use Rattle.zic_rules.proofs.Years.{years_rise, not_later}
+use Rattle.zic_rules.proofs.Walks.{start_in_years}
 
--- each year begins at an instant of its own
-pub one_year : (y z : ℤ) → year_second y ≡ year_second z → y ≡ z
-one_year y z e = by_lt_z y z
-    (λ lt. let rise = years_rise y z lt in absurd (omega (arith, ints)))
-    (λ ge. by_lt_z z y (λ gt. let rise = years_rise z y gt in absurd (omega (arith, ints))) (λ le. omega (arith, ints)))
+-- the instant at which a year begins is of that year
+pub begins_own : (t y z : ℤ) → t ≡ year_second y → IsYearOf t z → z ≡ y
+begins_own t y z is of = by_lt_z z y
+    (λ lt. let later = not_later (z +ℤ pos 1) y (omega (arith, ints, lt)) in absurd (omega (arith, ints, is, later, of.not_over)))
+    (λ ge. by_lt_z y z
+    (λ gt. let rise = years_rise y z gt in absurd (omega (arith, ints, is, rise, of.begun)))
+    (λ le. omega (arith, ints, ge, le)))
 
--- ---- by the calendar
-
-first_day : (y : ℤ) → IsDate y 1 1
-first_day y = first_has y 1 (omega arith) (omega arith)
-
--- the day on which a year begins
-pub day_begun : (t y day : ℤ) → t ≡ year_second y → day ≡ int_div_euclid t (pos 86_400) → day ≡ day_number y 1 1
-day_begun t y day is e =
-    let bounds = floor t in
-    omega (arith, ints, year_second-is y, bounds)
-
-pub supported_first : (y : ℤ) → IsSupportedYear y → IsSupportedDay (day_number y 1 1)
-supported_first y supported = supported_day y 1 1 (first_day y) supported
-
--- the year of a date on that day
-pub year_on : (y z : ℤ) (m d : ℕ) → IsDate z m d → day_number z m d ≡ day_number y 1 1 → z ≡ y
-year_on y z m d is e = (day_number-injective z m d y 1 1 is (first_day y) e).0
+-- and lies among the years up to 9999, where the year does
+pub begun_in_years : (t y : ℤ) → t ≡ year_second y → pos 0 ≤ℤ y → y <ℤ pos 9999 → IsInYears 9999 t
+begun_in_years t y is from to =
+    let low = not_later (pos 0) y from in
+    let high = years_rise y (pos 9999) to in
+    (omega (arith, ints, is, low), omega (arith, ints, is, high))
 
 -- ---- the last year that is named
 

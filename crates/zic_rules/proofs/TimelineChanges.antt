@@ -4,10 +4,10 @@ use Rattle.std.specs.Prelude.{ℤ, pos, ◌-ℤ◌, ◌<ℤ◌, ◌≤ℤ◌, An
 use Rattle.std.proofs.lemmas.Int.{ints, by_lt_z}
 use Rattle.std.proofs.lemmas.Option.{same_Some}
 use Rattle.std.proofs.lemmas.List.Elements.{Contains-append_right}
-use Rattle.zic_source.proofs.Elements.{first_contained}
+use Rattle.zic_base.proofs.Elements.{first_contained}
 use Rattle.zic_states.specs.Change.{Change}
 use Rattle.zic_base.specs.State.{Shown}
-use Rattle.zic_stretches.specs.code.Held.{IsFrom, ComesAfter}
+use Rattle.zic_rules.specs.code.Held.{IsFrom, ComesAfter}
 use Rattle.zic_rules.specs.code.Shown.{AreSoFrom}
 
 later_after : (start : Option ℤ) (u v : ℤ) → ComesAfter start u → u <ℤ v → ComesAfter start v

@@ -9,7 +9,8 @@ use Rattle.zic_base.specs.declared.fault.Stop.TheVariants as stops
 use Rattle.zic_base.specs.declared.fault.Kind.{Kind}
 use Rattle.zic_base.specs.declared.fault.Kind.TheVariants as kind
 use Rattle.zic_lines.specs.declared.zone_line.ZoneLine.{ZoneLine}
-use Rattle.zic_states.specs.Abbreviation.{abbreviation, is_abbreviation}
+use Rattle.zic_states.specs.Abbreviation.{abbreviation}
+use Rattle.zic_words.specs.Limits.{is_abbreviation}
 use Rattle.zic_states.specs.Change.{Change}
 use Rattle.zic_states.specs.End.{IsEnd}
 use Rattle.zic_states.specs.Fault.{HasOffsetOutOfRange, HasRulesOutOfOrder, HasUntilNotRising, HasNoLetter, HasBadAbbreviation, Applies, IsSound, IsFaultOfStates}
@@ -20,9 +21,9 @@ use Rattle.zic_states.specs.Zone.{Zone, lines_of, Keeps, ZoneKeeps, Shows}
 use Rattle.zic_states.proofs.Kept.{one_kept}
 use Rattle.zic_states.proofs.Governing.{one_line}
 use Rattle.zic_states.proofs.States.{one_state}
-use Rattle.zic_stretches.specs.declared.stretch.Stretches.{Stretches}
-use Rattle.zic_stretches.specs.Stretch.{IsFaultOfStretches}
-use Rattle.zic_rules.specs.code.Shown.{HasStretches, IsUnnamed, ShowsNamed, AreSoFrom, ShowsSomeBefore, IsTimeline}
+use Rattle.zic_rules.specs.declared.period.Periods.{Periods}
+use Rattle.zic_rules.specs.Period.{IsFaultOfPeriods}
+use Rattle.zic_rules.specs.code.Shown.{HasPeriods, IsUnnamed, ShowsNamed, AreSoFrom, ShowsSomeBefore, IsTimeline}
 use Rattle.zic_rules.proofs.TimelineBefore.{shown_before}
 use Rattle.zic_rules.proofs.TimelineChanges.{so_somewhere}
 
@@ -63,8 +64,8 @@ module _ (zone : Zone) (fault : Fault) (place : IsSomeAnd (lines_of zone) (λ li
       (least_by zone 24 (λ lt. absurd (omega (arith, lt))) (λ lt. absurd (omega (arith, lt))) (λ lt. absurd (omega (arith, lt)))
       (λ lt. absurd (omega (arith, lt))) (omega arith))
 
-  pub fault_of_stretches : (HasOffsetOutOfRange zone → ⊥) → IsFaultOfStretches zone fault → IsFaultOfStates zone fault
-  fault_of_stretches range is = ⊎_elim
+  pub fault_of_periods : (HasOffsetOutOfRange zone → ⊥) → IsFaultOfPeriods zone fault → IsFaultOfStates zone fault
+  fault_of_periods range is = ⊎_elim
       (λ order. made kind.RulesOutOfOrder order.0 order.1
       (least_by zone 25 (λ _. range) (λ lt. absurd (omega (arith, lt))) (λ lt. absurd (omega (arith, lt)))
       (λ lt. absurd (omega (arith, lt))) (omega arith)))
@@ -73,7 +74,7 @@ module _ (zone : Zone) (fault : Fault) (place : IsSomeAnd (lines_of zone) (λ li
       (λ lt. absurd (omega (arith, lt))) (omega arith)))
       is.kind
 
-  module _ (all : Stretches) (known : HasStretches zone all) where
+  module _ (all : Periods) (known : HasPeriods zone all) where
     pub fault_of_letter : fault.kind ≡ kind.NoLetter → HasNoLetter zone → IsFaultOfStates zone fault
     fault_of_letter is has = made kind.NoLetter is has
         (least_by zone 27 (λ _. known.in_range) (λ _. known.orderly.sets.in_order) (λ _. known.orderly.untils)
@@ -93,10 +94,10 @@ pub stop_tells : (zone : Zone) (stop : Stop) (fault : Fault) → stop ≡ stops.
     → IfSome (fault_of stop) (IsFaultOfStates zone)
 stop_tells zone stop fault e is = subst (λ (s : Stop). IfSome (fault_of s) (IsFaultOfStates zone)) (sym e) is
 
-pub from_stretches : (zone : Zone) (stop : Stop) → (HasOffsetOutOfRange zone → ⊥) → IfSome (fault_of stop) (IsFaultOfStretches zone)
+pub from_periods : (zone : Zone) (stop : Stop) → (HasOffsetOutOfRange zone → ⊥) → IfSome (fault_of stop) (IsFaultOfPeriods zone)
     → IfSome (fault_of stop) (IsFaultOfStates zone)
-from_stretches zone (stops.Fault fault) range is = fault_of_stretches zone fault is.place range is
-from_stretches zone stops.Memory range is = tt
+from_periods zone (stops.Fault fault) range is = fault_of_periods zone fault is.place range is
+from_periods zone stops.Memory range is = tt
 
 -- ---- before the end
 

@@ -7,7 +7,7 @@ use Rattle.zic_states.proofs.Filters.{not_after_from_test}
 use Rattle.zic_rules.specs.declared.changes.DatedState.{DatedState}
 use Rattle.std.proofs.lemmas.Int.{ints, by_lt_z}
 use Rattle.std.proofs.lemmas.Option.{same_Some, slice_get-map, slice_get-get_or, slice_get_within, get_or_from_slice_get}
-use Rattle.zic_source.proofs.Elements.{got}
+use Rattle.zic_base.proofs.Elements.{got}
 use Rattle.zic_states.specs.Change.{Change, IsChange, AreChanges, IsFirstState}
 use Rattle.zic_base.specs.State.{Shown}
 use Rattle.zic_states.specs.Zone.{Zone, Shows}

@@ -10,7 +10,7 @@ use Rattle.zic_lines.specs.declared.rules.Rules.{Rules}
 use Rattle.zic_lines.specs.declared.rules.Rules.TheVariants.{Set}
 use Rattle.zic_lines.specs.declared.zone_line.ZoneLine.{ZoneLine}
 use Rattle.zic_source.specs.Source.{set_rules}
-use Rattle.zic_source.proofs.Elements.{get_contained}
+use Rattle.zic_base.proofs.Elements.{get_contained}
 use Rattle.zic_occurrences.specs.Occurrence.{IsMember}
 use Rattle.zic_occurrences.proofs.Members.{IsMemberNumber, members, has_members}
 use Rattle.zic_states.specs.Fault.{IsSavingOf}

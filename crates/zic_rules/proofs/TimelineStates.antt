@@ -1,19 +1,19 @@
--- What a zone shows where one of its lines holds, and its stretches.
+-- What a zone shows where one of its lines holds, and its periods.
 use Rattle.std.proofs.Common.{◌++◌, map, append_assoc, append-nil, int_eq, Bool, true, false, not, ◌&&◌, ◌≡◌, ◌<◌, ◌+◌, ℕ, zero, suc, List, [], ◌∷◌, length, get_or, Option, Some, None, refl, sym, ap, subst, ◌∙◌, ⊎_elim, arith}
-use Rattle.std.specs.Prelude.{ℤ, pos, ◌-ℤ◌, ◌<ℤ◌, ◌≤ℤ◌, All, IfSome, slice_get, option_map}
+use Rattle.std.specs.Prelude.{ℤ, pos, ◌-ℤ◌, ◌<ℤ◌, ◌≤ℤ◌, All, IfSome, slice_get, option_map, Result, Ok, Err, IfErr, bytes_eq}
 use Rattle.std.proofs.lemmas.Int.{ints, by_lt_z}
 use Rattle.std.proofs.lemmas.Option.{same_Some, slice_get_within, get_or_from_slice_get, slice_get-get_or, slice_get_past}
-use Rattle.zic_source.proofs.Elements.{got}
+use Rattle.zic_base.proofs.Elements.{got}
 use Rattle.zic_base.specs.declared.fault.Kind.{Kind}
 use Rattle.zic_base.specs.declared.fault.Kind.TheVariants as kind
-use Rattle.std.specs.Prelude.{Result, Ok, Err, IfErr, bytes_eq}
 use Rattle.std.specs.Cmp.{booleans_Decides}
 use Rattle.std.proofs.Math.Bool.{beq}
 use Rattle.std.proofs.lemmas.Bool.Decides.{Decides-int_eq}
 use Rattle.zic_source.proofs.SameBytes.{bytes_eq_means, bytes_eq_itself}
 use Rattle.zic_lines.specs.declared.zone_line.ZoneLine.{ZoneLine}
 use Rattle.zic_source.specs.Source.{ZoneLines, zone_at, lines_of_zone}
-use Rattle.zic_states.specs.Abbreviation.{abbreviation, is_abbreviation}
+use Rattle.zic_states.specs.Abbreviation.{abbreviation}
+use Rattle.zic_words.specs.Limits.{is_abbreviation}
 use Rattle.zic_rules.specs.declared.changes.DatedState.{DatedState}
 use Rattle.zic_rules.specs.declared.zone_state.ZoneState.{ZoneState}
 use Rattle.zic_states.specs.Change.{Change}
@@ -21,21 +21,14 @@ use Rattle.zic_states.specs.Kept.{Kept, IsKeptBy}
 use Rattle.zic_base.specs.State.{Shown}
 use Rattle.zic_states.specs.Zone.{Zone, line_at, ZoneKeeps}
 use Rattle.zic_states.proofs.Lines.{line_at_is}
-use Rattle.zic_stretches.specs.declared.stretch.Stretch.{Stretch}
-use Rattle.zic_stretches.specs.declared.stretch.Stretches.{Stretches}
-use Rattle.zic_stretches.specs.Stretch.{AreStretches, Holds}
-use Rattle.zic_stretches.specs.code.Held.{IsFrom, ComesAfter}
+use Rattle.zic_rules.specs.declared.period.Period.{Period}
+use Rattle.zic_rules.specs.declared.period.Periods.{Periods}
+use Rattle.zic_rules.specs.Period.{ArePeriods, Holds}
+use Rattle.zic_rules.specs.code.Held.{IsFrom, ComesAfter}
 use Rattle.zic_rules.specs.code.Shown.{IsShownBy, IsRefusedBy, IsHeld, ShowsWhereHeld, IsUnnamed, IsUnnamedAt, AreSoFrom, from_of, IsUpTo, IsSoTo, ShowsSomeTo, ShowsSomeBefore, ShowsNamed, AreKeptTo, shown_by, dated}
 use Rattle.zic_rules.proofs.TimelineChanges.{so_earlier}
 
 -- ---- where a line holds
-
-pub line_found : (zone : Zone) (i n : ℕ) (line : ZoneLine) → zone.number < length zone.source.zones → i ≡ n
-    → IfSome (zone_at zone.source zone.number) (λ z. slice_get (lines_of_zone z) i ≡ Some line) → line_at zone n ≡ Some line
-line_found zone i n line lt same found =
-    let (z, at) = got zone.source.zones zone.number lt in
-    let is = subst (λ (o : Option ZoneLines). IfSome o (λ x. slice_get (lines_of_zone x) i ≡ Some line)) at found in
-    line_at_is zone z n at ∙ ap (slice_get (lines_of_zone z)) (sym same) ∙ is
 
 keeps_held : (zone : Zone) (t : ℤ) (number : ℕ) (rule : Option ℕ) (line : ZoneLine) (kept : Kept) → line_at zone number ≡ Some line
     → Holds zone t number rule → IsKeptBy zone.source.rules line.rules rule kept → ZoneKeeps zone t line kept
@@ -86,40 +79,40 @@ unnamed_from zone number rule kind.BadAbbreviation held un =
     record { t = held.0; state = un.0; shows = un.1 held.0 held.1; breaks = un.2 }
 unnamed_from zone number rule _ held un = absurd un
 
--- ---- stretches
+-- ---- periods
 
--- what a loop over stretches has at a place; past the end this
-abbrev pub nowhere : Stretch
+-- what a loop over periods has at a place; past the end this
+abbrev pub nowhere : Period
 nowhere = record { from = pos 0; line = 0; rule = None }
 
-pub item_at : (xs ys : List Stretch) (i : ℕ) → ys ≡ xs → i < length ys → slice_get xs i ≡ Some (get_or ys i nowhere)
-item_at xs ys i e lt = subst (λ (zs : List Stretch). slice_get zs i ≡ Some (get_or ys i nowhere)) e (slice_get-get_or ys i nowhere lt)
+pub item_at : (xs ys : List Period) (i : ℕ) → ys ≡ xs → i < length ys → slice_get xs i ≡ Some (get_or ys i nowhere)
+item_at xs ys i e lt = subst (λ (zs : List Period). slice_get zs i ≡ Some (get_or ys i nowhere)) e (slice_get-get_or ys i nowhere lt)
 
-by_some : (o : Option Stretch) (P : Stretch → Type 0) → ((n : Stretch) → o ≡ Some n → P n) → IfSome o P
+by_some : (o : Option Period) (P : Period → Type 0) → ((n : Period) → o ≡ Some n → P n) → IfSome o P
 by_some None P each = tt
 by_some (Some n) P each = each n refl
 
-has_some : (o : Option Stretch) (P : Stretch → Type 0) (s : Stretch) → o ≡ Some s → P s → IfSome o P
-has_some o P s e is = subst (λ (q : Option Stretch). IfSome q P) (sym e) is
+has_some : (o : Option Period) (P : Period → Type 0) (s : Period) → o ≡ Some s → P s → IfSome o P
+has_some o P s e is = subst (λ (q : Option Period). IfSome q P) (sym e) is
 
-module _ (zone : Zone) (all : Stretches) (known : AreStretches zone all.end all.list.items) where
-  two_rise : (i j : ℕ) (a b : Stretch) → slice_get all.list.items i ≡ Some a → slice_get all.list.items j ≡ Some b → i < j → a.from <ℤ b.from
+module _ (zone : Zone) (all : Periods) (known : ArePeriods zone all.end all.list.items) where
+  two_rise : (i j : ℕ) (a b : Period) → slice_get all.list.items i ≡ Some a → slice_get all.list.items j ≡ Some b → i < j → a.from <ℤ b.from
   two_rise i j a b at_i at_j lt =
       let both = known.rising i j a lt (slice_get_within all.list.items j b at_j) in
       let lt : a.from <ℤ b.from = rw (get_or_from_slice_get all.list.items i a a at_i, get_or_from_slice_get all.list.items j b a at_j) at both in
       lt
 
-  before_end : (i : ℕ) (s : Stretch) → slice_get all.list.items i ≡ Some s → s.from <ℤ all.end
+  before_end : (i : ℕ) (s : Period) → slice_get all.list.items i ≡ Some s → s.from <ℤ all.end
   before_end i s at =
       let one = known.before_end i s (slice_get_within all.list.items i s at) in
       let lt : s.from <ℤ all.end = rw (get_or_from_slice_get all.list.items i s s at) at one in
       lt
 
-  -- from a stretch to the next
-  held_from : (i : ℕ) (s : Stretch) → slice_get all.list.items i ≡ Some s → (t : ℤ) → s.from ≤ℤ t → IsUpTo all (i + 1) t → Holds zone t s.line s.rule
+  -- from a period to the next
+  held_from : (i : ℕ) (s : Period) → slice_get all.list.items i ≡ Some s → (t : ℤ) → s.from ≤ℤ t → IsUpTo all (i + 1) t → Holds zone t s.line s.rule
   held_from i s at t from up = known.each i s t at from up.0 up.1
 
-  pub held_at : (i : ℕ) (s : Stretch) → slice_get all.list.items i ≡ Some s → IsHeld zone s.line s.rule
+  pub held_at : (i : ℕ) (s : Period) → slice_get all.list.items i ≡ Some s → IsHeld zone s.line s.rule
   held_at i s at = (
     s.from,
     held_from i s at s.from (omega (arith, ints)) (
@@ -130,10 +123,10 @@ module _ (zone : Zone) (all : Stretches) (known : AreStretches zone all.end all.
   )
 
   -- before the first
-  from_first : (t : ℤ) (first : Stretch) → slice_get all.list.items 0 ≡ Some first → t <ℤ first.from
-      → (k : ℕ) (s : Stretch) → slice_get all.list.items k ≡ Some s → t <ℤ s.from
+  from_first : (t : ℤ) (first : Period) → slice_get all.list.items 0 ≡ Some first → t <ℤ first.from
+      → (k : ℕ) (s : Period) → slice_get all.list.items k ≡ Some s → t <ℤ s.from
   from_first t first at_first below zero s at =
-      subst (λ (x : Stretch). t <ℤ x.from) (same_Some first s (sym at_first ∙ at)) below
+      subst (λ (x : Period). t <ℤ x.from) (same_Some first s (sym at_first ∙ at)) below
   from_first t first at_first below (suc k) s at =
       let rise = two_rise 0 (suc k) first s at_first at (omega arith) in
       omega (arith, ints)
@@ -142,11 +135,11 @@ module _ (zone : Zone) (all : Stretches) (known : AreStretches zone all.end all.
   all_above t up k d lt =
       let (s, at) = got all.list.items k lt in
       let (first, at_first) = got all.list.items 0 (omega (arith, lt)) in
-      let below = subst (λ (o : Option Stretch). IfSome o (λ x. t <ℤ x.from)) at_first up.1 in
-      subst (λ (x : Stretch). t <ℤ x.from) (sym (get_or_from_slice_get all.list.items k s d at))
+      let below = subst (λ (o : Option Period). IfSome o (λ x. t <ℤ x.from)) at_first up.1 in
+      subst (λ (x : Period). t <ℤ x.from) (sym (get_or_from_slice_get all.list.items k s d at))
       (from_first t first at_first below k s at)
 
-  before_all : (ss : List Stretch) → ((s : Stretch) → slice_get ss 0 ≡ Some s → s.from <ℤ all.end)
+  before_all : (ss : List Period) → ((s : Period) → slice_get ss 0 ≡ Some s → s.from <ℤ all.end)
       → (t : ℤ) × (t <ℤ all.end) × IfSome (slice_get ss 0) (λ s. t <ℤ s.from)
   before_all [] before = (all.end -ℤ pos 1, omega (arith, ints), tt)
   before_all (s ∷ rest) before =
@@ -161,47 +154,47 @@ module _ (zone : Zone) (all : Stretches) (known : AreStretches zone all.end all.
       let (t, before, first) = before_all all.list.items (λ s at. before_end 0 s at) in
       (t, held_before t (before, first))
 
-  -- ---- one stretch after another
+  -- ---- one period after another
 
   module _ (IsSo : ℤ → Shown → Type 0) where
     pub so_at_first : (state : Shown) → ((t : ℤ) → Holds zone t 0 None → IsSo t state) → IsSoTo IsSo all 0 state
     so_at_first state so t from up = so t (held_before t up)
 
-    from_next : (i : ℕ) (s : Stretch) → slice_get all.list.items i ≡ Some s → from_of all.list.items (i + 1) ≡ Some s.from
+    from_next : (i : ℕ) (s : Period) → slice_get all.list.items i ≡ Some s → from_of all.list.items (i + 1) ≡ Some s.from
     from_next i s at =
         let e : i + 1 ≡ suc i = omega arith in
-        ap (from_of all.list.items) e ∙ ap (option_map (λ (x : Stretch). x.from)) at
+        ap (from_of all.list.items) e ∙ ap (option_map (λ (x : Period). x.from)) at
 
-    pub so_at_next : (i : ℕ) (s : Stretch) (state : Shown) → slice_get all.list.items i ≡ Some s
+    pub so_at_next : (i : ℕ) (s : Period) (state : Shown) → slice_get all.list.items i ≡ Some s
         → ((t : ℤ) → Holds zone t s.line s.rule → IsSo t state) → IsSoTo IsSo all (i + 1) state
     so_at_next i s state at so t from up =
         let le : s.from ≤ℤ t = subst (λ (o : Option ℤ). IsFrom o t) (from_next i s at) from in
         so t (held_from i s at t le up)
 
-    after_from : (i : ℕ) (s : Stretch) → slice_get all.list.items i ≡ Some s → ComesAfter (from_of all.list.items i) s.from
+    after_from : (i : ℕ) (s : Period) → slice_get all.list.items i ≡ Some s → ComesAfter (from_of all.list.items i) s.from
     after_from zero s at = tt
     after_from (suc k) s at =
         let within = slice_get_within all.list.items (suc k) s at in
         let (p, at_p) = got all.list.items k (omega (arith, within)) in
-        subst (λ (o : Option ℤ). ComesAfter o s.from) (sym (ap (option_map (λ (x : Stretch). x.from)) at_p))
+        subst (λ (o : Option ℤ). ComesAfter o s.from) (sym (ap (option_map (λ (x : Period). x.from)) at_p))
         (two_rise k (suc k) p s at_p at (omega arith))
 
-    so_up_to : (i : ℕ) (s : Stretch) (state : Shown) → slice_get all.list.items i ≡ Some s → IsSoTo IsSo all i state
+    so_up_to : (i : ℕ) (s : Period) (state : Shown) → slice_get all.list.items i ≡ Some s → IsSoTo IsSo all i state
         → (t : ℤ) → IsFrom (from_of all.list.items i) t → t <ℤ s.from → IsSo t state
     so_up_to i s state at so t from lt =
         let before = before_end i s at in
         so t from (omega (arith, ints), has_some (slice_get all.list.items i) (λ x. t <ℤ x.from) s at lt)
 
-    -- a stretch that shows the same
-    pub same_state : (i : ℕ) (s : Stretch) (state : Shown) → slice_get all.list.items i ≡ Some s → IsSoTo IsSo all i state
+    -- a period that shows the same
+    pub same_state : (i : ℕ) (s : Period) (state : Shown) → slice_get all.list.items i ≡ Some s → IsSoTo IsSo all i state
         → (rest : List Change) → AreSoFrom IsSo all.end (from_of all.list.items (i + 1)) state rest
         → AreSoFrom IsSo all.end (from_of all.list.items i) state rest
     same_state i s state at so rest later =
         so_earlier IsSo all.end (from_of all.list.items i) s.from state rest (after_from i s at) (so_up_to i s state at so)
         (subst (λ (o : Option ℤ). AreSoFrom IsSo all.end o state rest) (from_next i s at) later)
 
-    -- a stretch that shows another state
-    pub new_state : (i : ℕ) (s : Stretch) (state next : Shown) → slice_get all.list.items i ≡ Some s → IsSoTo IsSo all i state
+    -- a period that shows another state
+    pub new_state : (i : ℕ) (s : Period) (state next : Shown) → slice_get all.list.items i ≡ Some s → IsSoTo IsSo all i state
         → (state ≡ next → ⊥) → (rest : List Change) → AreSoFrom IsSo all.end (from_of all.list.items (i + 1)) next rest
         → AreSoFrom IsSo all.end (from_of all.list.items i) state (record { instant = s.from; state = next } ∷ rest)
     new_state i s state next at so differs rest later = (
@@ -215,7 +208,7 @@ module _ (zone : Zone) (all : Stretches) (known : AreStretches zone all.end all.
     -- after the last
     none_at_end : (t : ℤ) → IfSome (slice_get all.list.items (length all.list.items)) (λ s. t <ℤ s.from)
     none_at_end t =
-        subst (λ (o : Option Stretch). IfSome o (λ s. t <ℤ s.from))
+        subst (λ (o : Option Period). IfSome o (λ s. t <ℤ s.from))
         (sym (slice_get_past all.list.items (length all.list.items) (omega arith))) tt
 
     pub so_to_end : (state : Shown) → IsSoTo IsSo all (length all.list.items) state
@@ -227,7 +220,7 @@ module _ (zone : Zone) (all : Stretches) (known : AreStretches zone all.end all.
   pub some_first : (state : Shown) → ShowsWhereHeld zone 0 None state → ShowsSomeTo zone all 0
   some_first state shows t up = (state, shows t (held_before t up))
 
-  pub some_next : (i : ℕ) (s : Stretch) (state : Shown) → slice_get all.list.items i ≡ Some s → ShowsWhereHeld zone s.line s.rule state
+  pub some_next : (i : ℕ) (s : Period) (state : Shown) → slice_get all.list.items i ≡ Some s → ShowsWhereHeld zone s.line s.rule state
       → ShowsSomeTo zone all i → ShowsSomeTo zone all (i + 1)
   some_next i s state at shows some t up = by_lt_z t s.from
       (λ lt. some t (up.0, has_some (slice_get all.list.items i) (λ x. t <ℤ x.from) s at lt))
@@ -236,7 +229,7 @@ module _ (zone : Zone) (all : Stretches) (known : AreStretches zone all.end all.
   pub some_to_end : ShowsSomeTo zone all (length all.list.items) → ShowsSomeBefore zone all.end
   some_to_end some t before = some t (
     before,
-    subst (λ (o : Option Stretch). IfSome o (λ s. t <ℤ s.from))
+    subst (λ (o : Option Period). IfSome o (λ s. t <ℤ s.from))
         (sym (slice_get_past all.list.items (length all.list.items) (omega arith))) tt,
   )
 
@@ -278,14 +271,14 @@ dated_more : (xs : List DatedState) (x : DatedState) → map dated (xs ++ x ∷ 
 dated_more [] x = refl
 dated_more (y ∷ ys) x = ap (λ (cs : List Change). dated y ∷ cs) (dated_more ys x)
 
-module _ (zone : Zone) (all : Stretches) (known : AreStretches zone all.end all.list.items) (first : Shown) where
+module _ (zone : Zone) (all : Periods) (known : ArePeriods zone all.end all.list.items) (first : Shown) where
   pub kept_first : ShowsWhereHeld zone 0 None first → is_abbreviation first.name ≡ true → AreKeptTo zone all first 0 first []
   kept_first shows name = record {
     so = so_at_first zone all known (ShowsNamed zone) first (λ t h. (shows t h, name));
     later = λ rest so. so;
   }
 
-  pub kept_same : (i : ℕ) (s : Stretch) (last state : Shown) (cs : List Change) → slice_get all.list.items i ≡ Some s
+  pub kept_same : (i : ℕ) (s : Period) (last state : Shown) (cs : List Change) → slice_get all.list.items i ≡ Some s
       → ShowsWhereHeld zone s.line s.rule state → is_abbreviation state.name ≡ true → last ≡ state
       → AreKeptTo zone all first i last cs → AreKeptTo zone all first (i + 1) state cs
   kept_same i s last state cs at shows name same so_far = record {
@@ -295,7 +288,7 @@ module _ (zone : Zone) (all : Stretches) (known : AreStretches zone all.end all.
         (subst (λ (x : Shown). AreSoFrom (ShowsNamed zone) all.end (from_of all.list.items (i + 1)) x rest) (sym same) so));
   }
 
-  kept_new : (i : ℕ) (s : Stretch) (last state : Shown) (cs : List Change) → slice_get all.list.items i ≡ Some s
+  kept_new : (i : ℕ) (s : Period) (last state : Shown) (cs : List Change) → slice_get all.list.items i ≡ Some s
       → ShowsWhereHeld zone s.line s.rule state → is_abbreviation state.name ≡ true → (last ≡ state → ⊥)
       → AreKeptTo zone all first i last cs → AreKeptTo zone all first (i + 1) state (cs ++ record { instant = s.from; state = state } ∷ [])
   kept_new i s last state cs at shows name differs so_far = record {
@@ -306,7 +299,7 @@ module _ (zone : Zone) (all : Stretches) (known : AreStretches zone all.end all.
         (new_state zone all known (ShowsNamed zone) i s last state at so_far.so differs rest so));
   }
 
-  pub kept_pushed : (i : ℕ) (s : Stretch) (last state : ZoneState) (xs ys : List DatedState) → slice_get all.list.items i ≡ Some s
+  pub kept_pushed : (i : ℕ) (s : Period) (last state : ZoneState) (xs ys : List DatedState) → slice_get all.list.items i ≡ Some s
       → ShowsWhereHeld zone s.line s.rule (shown_by state) → is_abbreviation state.name ≡ true → (shown_by last ≡ shown_by state → ⊥)
       → ys ≡ xs ++ record { instant = s.from; state = state } ∷ []
       → AreKeptTo zone all first i (shown_by last) (map dated xs) → AreKeptTo zone all first (i + 1) (shown_by state) (map dated ys)

@@ -1,11 +1,10 @@
 -- Laws of what zones show: each is the contract of a function of the module `laws`.
-use Rattle.std.specs.Prelude.{◌≡◌, ◌≤◌, ℤ, pos, ◌-ℤ◌, true, List, unsigned_abs}
+use Rattle.std.specs.Prelude.{ℤ, pos, ◌-ℤ◌, List}
 use Rattle.zic_base.specs.State.{Shown}
 use Rattle.zic_source.specs.Sound.{IsSoundSource}
-use Rattle.zic_words.specs.declared.time.TheConstants.{GREATEST_OFFSET}
+use Rattle.zic_words.specs.Limits.{IsWithinLimits}
 use Rattle.zic_occurrences.specs.Laws.{IsLastNotAfter}
 use Rattle.zic_occurrences.specs.Occurrence.{Occurrence}
-use Rattle.zic_states.specs.Abbreviation.{is_abbreviation}
 use Rattle.zic_states.specs.Change.{IsChange}
 use Rattle.zic_states.specs.End.{IsEnd}
 use Rattle.zic_states.specs.Fault.{IsSound}
@@ -15,11 +14,6 @@ use Rattle.zic_states.specs.Until.{set_of}
 use Rattle.zic_states.specs.Zone.{Zone, Shows}
 use Rattle.zic_rules.specs.Tail.{IsTailBy, AreOfBothFlags}
 use Rattle.zic_rules.specs.declared.tail.TailRule.{TailRule}
-
--- The offset is within 24:00:00 either way, and the name is an abbreviation.
-pub record IsWithinLimits (state : Shown) : Type 0 where
-  pub offset : unsigned_abs state.offset ≤ GREATEST_OFFSET
-  pub name : is_abbreviation state.name ≡ true
 
 -- A zone of a sound source to which no fault applies shows only states within these limits.
 abbrev pub ShowsWithinLimits : Type 0

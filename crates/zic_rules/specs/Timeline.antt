@@ -3,16 +3,16 @@ use Rattle.std.specs.Prelude.{◌≡◌, ◌<◌, ℕ, ℤ, Some, List, length, 
 use Rattle.zic_states.specs.Change as changes
 use Rattle.zic_states.specs.Change.{AreChanges}
 use Rattle.zic_base.specs.State.{shown}
+use Rattle.zic_base.specs.declared.state.State.{State}
 use Rattle.zic_source.specs.Sound.{IsSoundSource}
 use Rattle.zic_states.specs.End.{IsEnd}
 use Rattle.zic_states.specs.Fault.{IsSound}
 use Rattle.zic_states.specs.Laws.{IsOrderly}
 use Rattle.zic_states.specs.Zone.{Zone}
-use Rattle.zic_rules.specs.declared.state.Change.{Change}
 
--- a change without where its state's abbreviation lies
-abbrev pub change_of : Change → changes.Change
-change_of c = record { instant = c.instant; state = shown c.state }
+-- a change by its instant and its state, without where the state's abbreviation lies
+abbrev pub change_of : ℤ × State → changes.Change
+change_of change = record { instant = change.0; state = shown change.1 }
 
 -- the change at this place, from 0, of the zone's changes in the order of time
 abbrev pub IsChangeAt : Zone → ℕ → changes.Change → Type 0

@@ -7,7 +7,8 @@ pub fn a_sound_zone_shows_within_limits()
     ensures { ShowsWithinLimits }
 {}
 
-/// Where two rules of both flags go on for ever in turn, the last occurrence before the explicit end is a change.
+/// Where two rules of both flags go on for ever in turn, the last occurrence before the explicit
+/// end is a change.
 pub fn the_last_occurrence_is_a_change()
     ensures { LastIsChange }
 {}

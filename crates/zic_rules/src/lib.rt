@@ -1,18 +1,31 @@
 //! What a zone shows at every instant: its first state, its changes, and what it shows after them.
+//! The tests stand in `zone_tests`.
+//!
+//! Before the explicit end a zone is a list of periods: in each one line governs, and one
+//! occurrence is current.
 #![tactic(auto)]
 
 mod changes;
 mod compile;
+mod end;
 pub mod laws;
+mod line;
+mod occurrences;
 mod offsets;
-mod state;
+mod period;
 mod tail;
 mod tail_rules;
 mod timelines;
+mod walk;
+mod window;
 mod year;
+mod zone;
 mod zone_state;
 
 pub use compile::timeline;
-pub use state::Change;
+pub use period::{Period, Periods};
 pub use tail::{Tail, TailRule};
 pub use timelines::Timeline;
+pub use walk::periods;
+pub use zic_base::State;
+pub use zone::Zone;

@@ -4,27 +4,29 @@ ghost use Rattle.std.specs.Prelude.{◌≡◌, ◌<◌, ◌≤◌, ◌+ℤ◌, t
 ghost use Rattle.std.specs.List.{list_all};
 ghost use Rattle.zic_source.specs.Sound.{IsSoundLine, IsWithinDay};
 ghost use Rattle.zic_states.specs.Fault.{HasOffsetOutOfRange};
-ghost use Rattle.zic_stretches.specs.Stretch.{zone_of};
+ghost use Rattle.zic_rules.specs.Period.{the_zone};
 ghost use Rattle.zic_rules.specs.code.Shown.{IsInRangeOn, IsOutOfRangeOn, AreAllInRange, IsOneOutOfRange};
 
+use crate::zone::Zone;
 use zic_source::{Rules, Source, ZoneLine};
 use zic_words::GREATEST_OFFSET;
 
-/// Whether the standard offset of each line of a zone, together with each saving of its RULES, is within 24 hours.
-pub(crate) fn are_offsets_in_range(source: &Source, zone: usize) -> bool
-    requires { zone < length source.now.zones }
-    ensures inside { result ≡ true → HasOffsetOutOfRange (zone_of source.now zone) → ⊥ }
-    ensures outside { result ≡ false → HasOffsetOutOfRange (zone_of source.now zone) }
+/// Returns whether the standard offset of each line of a zone, together with each saving of its
+/// RULES, is within 24 hours.
+pub(crate) fn are_offsets_in_range(zone: Zone<'_>) -> bool
+    ensures inside { result ≡ true → HasOffsetOutOfRange (the_zone zone.entry) → ⊥ }
+    ensures outside { result ≡ false → HasOffsetOutOfRange (the_zone zone.entry) }
 {
-    for number in 0..source.lines(zone) {
-        if !is_line_in_range(source, source.line(zone, number)) {
+    for number in 0..zone.lines() {
+        if !is_line_in_range(zone.source, zone.line(number)) {
             return false;
         }
     }
     true
 }
 
-/// Whether a line's standard offset, together with each saving of its RULES, is within 24 hours.
+/// Returns whether a line's standard offset, together with each saving of its RULES, is within 24
+/// hours.
 fn is_line_in_range(source: &Source, line: &ZoneLine) -> bool
     requires { IsSoundLine source.now.rules line.now }
     ensures inside { result ≡ true → IsInRangeOn source.now.rules line.now }
@@ -37,11 +39,13 @@ fn is_line_in_range(source: &Source, line: &ZoneLine) -> bool
     }
 }
 
-/// Whether this offset, together with the saving of each of the rules of these numbers, is within 24 hours.
+/// Returns whether this offset, together with the saving of each of the rules of these numbers, is
+/// within 24 hours.
 fn are_totals_in_range(source: &Source, numbers: &[usize], offset: i32) -> bool
     requires numbers { All (λ n. n < length source.now.rules) numbers.now }
     requires offset { IsWithinDay offset }
-    ensures inside { result ≡ true → AreAllInRange source.now.rules offset numbers.now (length numbers.now) }
+    ensures inside { result ≡ true
+        → AreAllInRange source.now.rules offset numbers.now (length numbers.now) }
     ensures outside { result ≡ false → IsOneOutOfRange source.now.rules offset numbers.now }
 {
     for number in numbers {
@@ -52,7 +56,7 @@ fn are_totals_in_range(source: &Source, numbers: &[usize], offset: i32) -> bool
     true
 }
 
-/// Whether an offset and a saving together are within 24 hours.
+/// Returns whether an offset and a saving together are within 24 hours.
 fn is_total_in_range(offset: i32, saving: i32) -> bool
     requires offset { IsWithinDay offset }
     requires saving { IsWithinDay saving }

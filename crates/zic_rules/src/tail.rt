@@ -1,4 +1,4 @@
-//! What a zone shows from its explicit end on.
+//! Tails: what a zone shows from its explicit end on.
 
 use zic_base::State;
 use zic_source::{Moment, Saving};
@@ -24,7 +24,8 @@ pub enum Tail<'a> {
     Rules {
         /// The last line's standard offset, in seconds, positive east.
         standard: i32,
-        /// The first year after the last one that the last line names, from which on only these rules occur.
+        /// The first year after the last one that the last line names, from which on only these
+        /// rules occur.
         year: i64,
         /// The rules that go on for ever, two or more, in line order.
         rules: &'a [TailRule],

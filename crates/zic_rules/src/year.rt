@@ -1,18 +1,22 @@
-//! The years of explicit ends.
+//! The years of instants.
 
-ghost use Rattle.std.specs.Prelude.{◌≡◌, ℤ};
-ghost use Rattle.zic_calendar.specs.Calendar.{IsSupportedYear};
-ghost use Rattle.zic_occurrences.specs.Occurrence.{year_second};
+ghost use Rattle.std.specs.Prelude.{pos};
+ghost use Rattle.zic_states.specs.End.{IsYearOf};
+ghost use Rattle.zic_rules.specs.code.End.{IsInYears};
 
-use zic_calendar::civil;
+use zic_calendar::{SECONDS_OF_DAY, civil};
 
-const SECONDS_OF_DAY: i64 = 86_400;
+/// The day number of 1 January of the year 1.
+const FIRST_DAY: i64 = -719_162;
 
-/// The UT year that begins at this instant.
-pub(crate) fn year_begun_at(instant: i64) -> i64
-    requires { (year : ℤ) × IsSupportedYear year × (instant ≡ year_second year) }
-    ensures begins { instant ≡ year_second result }
-    ensures range { IsSupportedYear result }
+/// Returns the UT year of an instant of the years 0 to 9998.
+pub(crate) fn year_of(instant: i64) -> u16
+    requires { IsInYears 9999 instant }
+    ensures { IsYearOf instant (pos result) }
 {
-    civil(instant.div_euclid(SECONDS_OF_DAY), 0).year
+    let day = instant.div_euclid(SECONDS_OF_DAY);
+    if day < FIRST_DAY {
+        return 0;
+    }
+    civil(day, 0).year as u16
 }

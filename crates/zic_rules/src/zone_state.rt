@@ -2,7 +2,7 @@
 
 ghost use Rattle.std.specs.Prelude.{◌≡◌, true, IfOk, IfErr};
 ghost use Rattle.zic_source.specs.Sound.{IsSoundLine};
-ghost use Rattle.zic_states.specs.Abbreviation.{is_abbreviation};
+ghost use Rattle.zic_words.specs.Limits.{is_abbreviation};
 ghost use Rattle.zic_states.specs.Kept.{IsRuleOf};
 ghost use Rattle.zic_base.specs.State.{shown};
 ghost use Rattle.zic_rules.specs.code.Shown.{shown_by, IsShownBy, IsInRangeOn, IsRefusedBy};
@@ -10,9 +10,9 @@ ghost use Rattle.zic_rules.specs.code.Shown.{shown_by, IsShownBy, IsInRangeOn, I
 use zic_base::{Kind, State};
 use zic_source::{Source, ZoneLine};
 use zic_states::format::abbreviation;
-use zic_states::{Abbreviation, kept_by};
+use zic_states::{Abbreviation, observance_by};
 
-/// What a zone shows at an instant.
+/// The state that a zone shows at an instant.
 #[derive(Clone, Copy, Debug, PartialEq, Eq)]
 pub(crate) struct ZoneState {
     /// Total UT offset in seconds, positive east.
@@ -22,7 +22,7 @@ pub(crate) struct ZoneState {
     pub(crate) name: Abbreviation,
 }
 
-/// The state, with its abbreviation borrowed.
+/// Returns the state, with its abbreviation borrowed.
 pub(crate) fn state_of(state: &ZoneState) -> State<'_>
     ensures { shown result ≡ shown_by state.now }
 {
@@ -33,7 +33,7 @@ pub(crate) fn state_of(state: &ZoneState) -> State<'_>
     }
 }
 
-/// What a line shows by this rule, or before all occurrences of its set.
+/// Returns what a line shows by this rule, or before all occurrences of its set.
 pub(crate) fn state_by(
     source: &Source,
     line: &ZoneLine,
@@ -46,7 +46,7 @@ pub(crate) fn state_by(
     ensures within { IfOk result (λ s. is_abbreviation s.name ≡ true) }
     ensures err { IfErr result (IsRefusedBy source.now.rules line.now rule) }
 {
-    let kept = kept_by(source, line, rule);
+    let kept = observance_by(source, line, rule);
     let offset = line.offset + kept.saving;
     let name = abbreviation(&line.format, offset, kept.daylight, kept.letter)?;
     Ok(ZoneState {

@@ -1,5 +1,4 @@
 pub mod SameBytes
-pub mod Elements
 pub mod Counts
 pub mod lookups
 pub mod links

@@ -6,23 +6,23 @@ use Rattle.zic_base.specs.declared.fault.Kind.TheVariants.{DuplicateName, TooMan
 use Rattle.zic_base.specs.Check.{Check, check}
 use Rattle.zic_lines.specs.declared.entry.Entry.{Entry}
 use Rattle.zic_lines.specs.declared.entry.Entry.TheVariants as entries
-use Rattle.zic_source.specs.declared.limit.TheConstants.{MOST_RULES, MOST_RULES_OF_SET, MOST_ZONE_LINES, MOST_NAMES}
+use Rattle.zic_source.specs.declared.limit.TheConstants.{MAX_RULES, MAX_RULES_OF_SET, MAX_ZONE_LINES, MAX_NAMES}
 use Rattle.zic_source.specs.Source.{SourceLines, set_size, zone_lines_of}
 use Rattle.zic_source.specs.Links.{is_named}
 
 -- There are fewer Zone and continuation lines than there may be.
 abbrev pub has_room_for_line : SourceLines → Bool
-has_room_for_line source = nat_lt (length (zone_lines_of source)) MOST_ZONE_LINES
+has_room_for_line source = nat_lt (length (zone_lines_of source)) MAX_ZONE_LINES
 
 -- There are fewer names of zones and links than there may be.
 abbrev pub has_room_for_name : SourceLines → Bool
-has_room_for_name source = nat_lt (length source.zones + length source.links) MOST_NAMES
+has_room_for_name source = nat_lt (length source.zones + length source.links) MAX_NAMES
 
 -- one entry more
 abbrev pub entry_checks : SourceLines → Entry → List (Check Kind)
 entry_checks source (entries.Rule rule) =
-    check (nat_lt (set_size rule.name source.rules) MOST_RULES_OF_SET) TooMany
-    ∷ check (nat_lt (length source.rules) MOST_RULES) TooMany
+    check (nat_lt (set_size rule.name source.rules) MAX_RULES_OF_SET) TooMany
+    ∷ check (nat_lt (length source.rules) MAX_RULES) TooMany
     ∷ []
 entry_checks source (entries.Zone name line) =
     check (not (is_named source name)) DuplicateName

@@ -9,7 +9,6 @@ use Rattle.zic_lines.specs.Entry.{is_continuation}
 use Rattle.zic_lines.specs.declared.field.TheConstants.{LONGEST_LINE}
 use Rattle.zic_lines.specs.Line.{PlacedLine}
 use Rattle.zic_lines.specs.Grammar.{Says}
-use Rattle.zic_lines.specs.declared.field.TheConstants.{LONGEST_LINE}
 use Rattle.zic_lines.specs.Checks.{line_checks}
 use Rattle.zic_source.specs.Event.{Event, Line, End, events_of}
 use Rattle.zic_source.specs.Source.{SourceLines}
@@ -49,7 +48,7 @@ IsFirstFault texts fault = IsReadingFault texts fault ⊎ ((source : SourceLines
 
 -- Memory may be wanted: for a line that isn't too long, before which all is read, or where all is read. Where the first line of all
 -- is too long it may not; beyond that no place can be told, since the answer has none.
-abbrev pub MayWantMemory : List (List ℕ) → Type 0
-MayWantMemory texts =
+abbrev pub MayRunOutOfMemory : List (List ℕ) → Type 0
+MayRunOutOfMemory texts =
     ((source : SourceLines) × (line : PlacedLine) × IsReached texts source (Line line) × (length line.bytes ≤ LONGEST_LINE))
     ⊎ ((source : SourceLines) × IsReadable texts source)

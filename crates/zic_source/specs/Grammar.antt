@@ -6,7 +6,7 @@ use Rattle.zic_lines.specs.declared.zone_line.ZoneLine.{ZoneLine}
 use Rattle.zic_lines.specs.Entry as said_by
 use Rattle.zic_lines.specs.Entry.{has_until, rules_in, zone_entries_in, links_in, names_in}
 use Rattle.zic_lines.specs.Grammar.{Says}
-use Rattle.zic_source.specs.declared.limit.TheConstants.{MOST_RULES, MOST_RULES_OF_SET, MOST_ZONE_LINES, MOST_NAMES}
+use Rattle.zic_source.specs.declared.limit.TheConstants.{MAX_RULES, MAX_RULES_OF_SET, MAX_ZONE_LINES, MAX_NAMES}
 use Rattle.zic_source.specs.Event.{Event, Line, End, events_of}
 use Rattle.zic_source.specs.Source.{SourceLines, set_size, zone_lines_of, entries_of_zone}
 use Rattle.zic_source.specs.Whole.{IsWhole}
@@ -72,10 +72,10 @@ pub record IsRead (events : List Event) (source : SourceLines) : Type 0 where
   pub rules : source.rules ≡ flat_map rules_in entries
   pub zones : flat_map entries_of_zone source.zones ≡ flat_map zone_entries_in entries
   pub links : source.links ≡ flat_map links_in entries
-  pub small_sets : (name : List ℕ) → set_size name source.rules ≤ MOST_RULES_OF_SET
-  pub few_rules : length source.rules ≤ MOST_RULES
-  pub few_zone_lines : length (zone_lines_of source) ≤ MOST_ZONE_LINES
-  pub few_names : length (flat_map names_in entries) ≤ MOST_NAMES
+  pub small_sets : (name : List ℕ) → set_size name source.rules ≤ MAX_RULES_OF_SET
+  pub few_rules : length source.rules ≤ MAX_RULES
+  pub few_zone_lines : length (zone_lines_of source) ≤ MAX_ZONE_LINES
+  pub few_names : length (flat_map names_in entries) ≤ MAX_NAMES
   pub names_differ : AllPairs (λ name other. name ≢ other) (flat_map names_in entries)
 
 -- All lines and ends of the texts are read.

@@ -20,7 +20,7 @@ use Rattle.zic_lines.specs.declared.until.Until.{Until}
 use Rattle.zic_lines.specs.declared.zone_line.ZoneLine.{ZoneLine}
 use Rattle.zic_lines.specs.declared.link.Link.{Link}
 use Rattle.zic_lines.specs.Entry.{has_until}
-use Rattle.zic_source.specs.declared.limit.TheConstants.{MOST_RULES, MOST_RULES_OF_SET, MOST_ZONE_LINES, MOST_NAMES}
+use Rattle.zic_source.specs.declared.limit.TheConstants.{MAX_RULES, MAX_RULES_OF_SET, MAX_ZONE_LINES, MAX_NAMES}
 use Rattle.zic_source.specs.Source.{SourceLines, ZoneLines, set_size, is_set, lines_of_zone, zone_lines_of}
 use Rattle.zic_source.specs.Links.{EndsAtZone}
 
@@ -95,8 +95,8 @@ pub record IsSoundSource (source : SourceLines) : Type 0 where
   pub zones : All (IsSoundZone source.rules) source.zones
   pub links : All (IsSoundLink source) source.links
   pub names_differ : AllPairs (λ name other. name ≢ other) (names_of source)
-  pub small_sets : (name : List ℕ) → set_size name source.rules ≤ MOST_RULES_OF_SET
-  pub few_rules : length source.rules ≤ MOST_RULES
-  pub few_zone_lines : length (zone_lines_of source) ≤ MOST_ZONE_LINES
-  pub few_names : length source.zones + length source.links ≤ MOST_NAMES
+  pub small_sets : (name : List ℕ) → set_size name source.rules ≤ MAX_RULES_OF_SET
+  pub few_rules : length source.rules ≤ MAX_RULES
+  pub few_zone_lines : length (zone_lines_of source) ≤ MAX_ZONE_LINES
+  pub few_names : length source.zones + length source.links ≤ MAX_NAMES
   pub in_order : StandInOrder source

@@ -1,7 +1,7 @@
 pub mod Adding
 pub mod Lines
 pub mod Sets
-pub mod Names
+pub mod Owners
 pub mod Chains
 pub mod Faults
 pub mod Source

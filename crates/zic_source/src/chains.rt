@@ -1,30 +1,31 @@
-//! Where the chains of links end.
+//! Ends of the chains of links.
 
 ghost use Rattle.std.specs.Prelude.{◌≡◌, ◌<◌, ℕ, Contains, length, [], IfOk, OnOk};
 ghost use Rattle.zic_source.specs.code.Lines.{source_lines};
-ghost use Rattle.zic_source.specs.code.Names.{IndexesNames};
+ghost use Rattle.zic_source.specs.code.Owners.{IndexesNames};
 ghost use Rattle.zic_source.specs.code.Chains.{ChainEnds, IsFound, HasEnd, AreRight, DifferOn};
 
-use crate::lines::Lines;
-use crate::names::{Named, Names};
+use crate::entries::Entries;
+use crate::owners::{Owner, Owners};
 use std::alloc::{AllocError, Global};
 
-/// How a link's chain ends, if it does.
+/// The end of a link's chain.
 #[derive(Clone, Copy, Debug, PartialEq, Eq)]
 pub(crate) enum End {
-    /// At the zone of this number.
+    /// The zone of this number.
     Zone(usize),
-    /// At a name that isn't there.
+    /// A name that isn't there.
     Nowhere,
-    /// It has no end.
+    /// The chain has no end.
     Never,
 }
 
-/// Follows the chain from this link until an end is known, and gives that. The links on the way are put on the path and are
-/// marked as without an end, which is right of a chain that comes back to one of them.
+/// Follows the chain from this link until an end is known, and returns that. Puts the links on the
+/// way on the path and marks them as without an end, which is right of a chain that comes back to
+/// one of them.
 fn follow(
-    lines: &Lines,
-    names: &Names,
+    lines: &Entries,
+    names: &Owners,
     ends: &mut [Option<End>],
     path: &mut Vec<usize>,
     start: usize,
@@ -34,8 +35,10 @@ fn follow(
     requires start { start < length lines.now.links.items }
     requires right { AreRight (source_lines lines.now) ends.old }
     requires empty { path.old.items ≡ [] }
-    ensures within { OnOk result ((i : ℕ) → Contains path.new.items i → i < length lines.now.links.items) }
-    ensures right { IfOk result (λ end. (i : ℕ) → Contains path.new.items i → ChainEnds (source_lines lines.now) i end) }
+    ensures within { OnOk result
+        ((i : ℕ) → Contains path.new.items i → i < length lines.now.links.items) }
+    ensures right { IfOk result
+        (λ end. (i : ℕ) → Contains path.new.items i → ChainEnds (source_lines lines.now) i end) }
     ensures others { OnOk result (DifferOn path.new.items ends.old ends.new) }
     ensures found { OnOk result (HasEnd ends.new start) }
 {
@@ -48,13 +51,13 @@ fn follow(
         path.push(link)?;
         match names.get(&lines.links[link].target) {
             None => return Ok(End::Nowhere),
-            Some(Named::Zone(zone)) => return Ok(End::Zone(zone)),
-            Some(Named::Link(next)) => link = next,
+            Some(Owner::Zone(zone)) => return Ok(End::Zone(zone)),
+            Some(Owner::Link(next)) => link = next,
         }
     }
 }
 
-/// Gives this end to the links on the path, whatever they had.
+/// Writes this end to the links on the path, whatever they had.
 fn give(ends: &mut [Option<End>], path: &[usize], end: End)
     requires { (i : ℕ) → Contains path.now i → i < length ends.old }
     ensures given { (i : ℕ) → Contains path.now i → IsFound ends.new i end }
@@ -65,11 +68,11 @@ fn give(ends: &mut [Option<End>], path: &[usize], end: End)
     }
 }
 
-/// Finds how this link's chain ends, and so do those of the links on its way.
+/// Finds the end of this link's chain, which is that of all links on the way.
 fn settle(
     alloc: Global,
-    lines: &Lines,
-    names: &Names,
+    lines: &Entries,
+    names: &Owners,
     ends: &mut [Option<End>],
     link: usize,
 ) -> Result<(), AllocError>
@@ -87,11 +90,11 @@ fn settle(
     Ok(())
 }
 
-/// How the chain of each link ends, in time linear in the number of links.
+/// Returns the end of each link's chain, in time linear in the number of links.
 pub(crate) fn chain_ends(
     alloc: Global,
-    lines: &Lines,
-    names: &Names,
+    lines: &Entries,
+    names: &Owners,
 ) -> Result<Vec<Option<End>>, AllocError>
     requires { IndexesNames names.now (source_lines lines.now) }
     ensures long { IfOk result (λ ends. length ends.items ≡ length lines.now.links.items) }

@@ -1,20 +1,21 @@
-//! Time zone source text: from texts to checked Rule, Zone, continuation and Link lines, or the first fault.
+//! Time zone source text: from texts to checked Rule, Zone, continuation and Link lines, or the
+//! first fault. The tests stand in `source_tests`.
 //!
-//! The input format is that of zic(8); `docs/DEFINITIONS.md` lists where each rule is stated. The functions of `laws`
-//! do nothing: they state what holds of sources and first faults.
+//! The input format is that of zic(8); `docs/DEFINITIONS.md` lists where each rule is stated. The
+//! functions of `laws` do nothing: they state what holds of sources and first faults.
 #![tactic(auto)]
 
 mod chains;
+mod entries;
 pub mod laws;
 mod limit;
-mod lines;
-mod names;
+mod owners;
 mod reader;
 mod sets;
 mod source;
 mod whole;
 
-pub use limit::{MOST_NAMES, MOST_RULES, MOST_RULES_OF_SET, MOST_ZONE_LINES};
+pub use limit::{MAX_NAMES, MAX_RULES, MAX_RULES_OF_SET, MAX_ZONE_LINES};
 pub use reader::read_source;
 pub use source::Source;
 pub use zic_lines::{

@@ -1,13 +1,13 @@
-//! How much a source may have.
+//! Limits of a source.
 
-/// How many Rule lines a set may have.
-pub const MOST_RULES_OF_SET: usize = 1000;
+/// The greatest number of Rule lines of a set.
+pub const MAX_RULES_OF_SET: usize = 1000;
 
-/// How many Rule lines there may be.
-pub const MOST_RULES: usize = 10_000;
+/// The greatest number of Rule lines.
+pub const MAX_RULES: usize = 10_000;
 
-/// How many Zone and continuation lines there may be.
-pub const MOST_ZONE_LINES: usize = 10_000;
+/// The greatest number of Zone and continuation lines together.
+pub const MAX_ZONE_LINES: usize = 10_000;
 
-/// How many names zones and links may have.
-pub const MOST_NAMES: usize = 10_000;
+/// The greatest number of names of zones and links together.
+pub const MAX_NAMES: usize = 10_000;

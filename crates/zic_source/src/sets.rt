@@ -2,11 +2,11 @@
 
 ghost use Rattle.std.specs.Prelude.{◌≡◌, ◌<◌, ◌≤◌, ℕ, List, [], ◌∷◌, ◌++◌, length, IfOk, OnOk, if◌then◌else◌, bytes_eq};
 ghost use Rattle.zic_base.specs.Fault.{fault_at, fault_of};
-ghost use Rattle.zic_base.specs.Memory.{IfRefusal, OnWantOfMemory};
+ghost use Rattle.zic_base.specs.Memory.{IfRefusal, OnOutOfMemory};
 ghost use Rattle.zic_base.specs.declared.fault.Kind.TheVariants.{TooMany};
 ghost use Rattle.zic_source.specs.code.Sets.{numbers_of};
 
-use crate::limit::MOST_RULES_OF_SET;
+use crate::limit::MAX_RULES_OF_SET;
 use smallvec::SmallVec;
 use std::alloc::{AllocError, Global};
 use std::collections::HashMap;
@@ -20,7 +20,7 @@ pub(crate) struct Sets {
 }
 
 impl Sets {
-    /// No set has a rule; takes no memory yet.
+    /// Returns sets without a rule. Takes no memory.
     pub(crate) fn new(alloc: Global) -> Self
         ensures { (name : List ℕ) → numbers_of result name ≡ [] }
     {
@@ -29,7 +29,7 @@ impl Sets {
         }
     }
 
-    /// The numbers of a set's rules.
+    /// Returns the numbers of a set's rules, none where no rule has the name.
     pub(crate) fn numbers_of(&self, name: &SetName) -> &[usize]
         ensures { result.now ≡ numbers_of self.now name.now }
     {
@@ -39,7 +39,8 @@ impl Sets {
         }
     }
 
-    /// Adds the rule of this number to the set, where that may have one more.
+    /// Adds the rule of this number, whose line stands at `place`, to the set, where that may have
+    /// one more.
     pub(crate) fn add(
         &mut self,
         alloc: Global,
@@ -48,16 +49,19 @@ impl Sets {
         rule: usize,
     ) -> Result<(), Stop>
         ensures added { OnOk result ((other : List ℕ) → numbers_of self.new other
-            ≡ (if bytes_eq name.now other then numbers_of self.old other ++ rule ∷ [] else numbers_of self.old other)) }
-        ensures room { OnOk result (length (numbers_of self.old name.now) < MOST_RULES_OF_SET) }
-        ensures fault { IfRefusal fault_of result (λ fault. (fault ≡ fault_at place TooMany) × (MOST_RULES_OF_SET ≤ length (numbers_of self.old name.now))) }
-        ensures memory { OnWantOfMemory fault_of result (length (numbers_of self.old name.now) < MOST_RULES_OF_SET) }
+            ≡ (if bytes_eq name.now other then numbers_of self.old other ++ rule ∷ []
+            else numbers_of self.old other)) }
+        ensures room { OnOk result (length (numbers_of self.old name.now) < MAX_RULES_OF_SET) }
+        ensures fault { IfRefusal fault_of result (λ fault. (fault ≡ fault_at place TooMany)
+            × (MAX_RULES_OF_SET ≤ length (numbers_of self.old name.now))) }
+        ensures memory { OnOutOfMemory fault_of result
+            (length (numbers_of self.old name.now) < MAX_RULES_OF_SET) }
     {
         let Some(numbers) = self.numbers.get_mut(name) else {
             self.begin(alloc, name, rule)?;
             return Ok(());
         };
-        if numbers.len() >= MOST_RULES_OF_SET {
+        if numbers.len() >= MAX_RULES_OF_SET {
             return Err(Stop::at(place, Kind::TooMany));
         }
         numbers.push(rule)?;

@@ -1,23 +1,22 @@
 //! A checked source, line by line.
 
-ghost use Rattle.std.specs.Prelude.{◌≡◌, ◌<◌, true, length, slice_get, Some, IfSome};
+ghost use Rattle.std.specs.Prelude.{◌≡◌, ◌<◌, length, slice_get, Some, IfSome};
 ghost use Rattle.std.specs.Option.{ForSome};
-ghost use Rattle.zic_words.specs.Name.{is_name};
 ghost use Rattle.zic_source.specs.Source.{zone_at, lines_of_zone, set_rules};
 ghost use Rattle.zic_source.specs.Links.{EndsAt};
 ghost use Rattle.zic_source.specs.Sound.{IsSoundSource, IsSoundRule, IsSoundLine, IsSoundLink};
 
-use crate::lines::Lines;
+use crate::entries::Entries;
 use crate::sets::Sets;
 use std::marker::Model;
 use zic_lines::{Link, Rule, ZoneLine};
-use zic_words::SetName;
+use zic_words::{Name, SetName};
 
-/// The lines of checked source texts, in the order of the texts and of their lines, and what reading found by name: the
-/// rules of each set and the zone at the end of each link's chain.
+/// The lines of checked source texts, in the order of the texts and of their lines, with the rules
+/// of each set and the zone at the end of each link's chain.
 #[derive(Debug, Drop)]
 pub struct Source {
-    pub(crate) lines: Lines,
+    pub(crate) lines: Entries,
     pub(crate) sets: Sets,
     pub(crate) link_zones: Vec<usize>,
 }
@@ -36,7 +35,7 @@ impl Model for Source {
 }
 
 impl Source {
-    /// How many Rule lines there are.
+    /// Returns the number of Rule lines.
     pub fn rules(&self) -> usize
         ensures count { result ≡ length self.now.rules }
         ensures sound { IsSoundSource self.now }
@@ -44,7 +43,7 @@ impl Source {
         self.lines.rules.len()
     }
 
-    /// A rule, by its number from 0 in the order of the texts and their lines.
+    /// Returns a rule, by its number from 0 in the order of the texts and their lines.
     pub fn rule(&self, rule: usize) -> &Rule
         requires { rule < length self.now.rules }
         ensures rule { slice_get self.now.rules rule ≡ Some result.now }
@@ -53,14 +52,14 @@ impl Source {
         &self.lines.rules[rule]
     }
 
-    /// The numbers of the rules of a set, in rising order; none where no rule has the name.
+    /// Returns the numbers of the rules of a set, in rising order; none where no rule has the name.
     pub fn set_rules(&self, name: &SetName) -> &[usize]
         ensures { result.now ≡ set_rules name.now self.now.rules }
     {
         self.sets.numbers_of(name)
     }
 
-    /// How many Zone lines there are.
+    /// Returns the number of Zone lines.
     pub fn zones(&self) -> usize
         ensures count { result ≡ length self.now.zones }
         ensures sound { IsSoundSource self.now }
@@ -68,17 +67,16 @@ impl Source {
         self.lines.zones.len()
     }
 
-    /// The name of a zone, by the zone's number from 0 in the order of the texts and their lines.
-    pub fn zone_name(&self, zone: usize) -> &[u8]
+    /// Returns the name of a zone, by the zone's number from 0 in the order of the texts and their
+    /// lines.
+    pub fn zone_name(&self, zone: usize) -> &Name
         requires { zone < length self.now.zones }
-        ensures name { IfSome (zone_at self.now zone) (λ z. result.now ≡ z.name) }
-        ensures sound { is_name result.now ≡ true }
+        ensures { IfSome (zone_at self.now zone) (λ z. result.now ≡ z.name) }
     {
-        let zone = &self.lines.zones[zone];
-        zone.name.octets()
+        &self.lines.zones[zone].name
     }
 
-    /// How many lines a zone has: its Zone line and its continuation lines.
+    /// Returns the number of lines of a zone: its Zone line and its continuation lines.
     pub fn lines(&self, zone: usize) -> usize
         requires { zone < length self.now.zones }
         ensures { IfSome (zone_at self.now zone) (λ z. result ≡ length (lines_of_zone z)) }
@@ -86,17 +84,18 @@ impl Source {
         self.lines.zones[zone].lines()
     }
 
-    /// A line of a zone, by both numbers from 0; line 0 is the Zone line.
+    /// Returns a line of a zone, by both numbers from 0; line 0 is the Zone line.
     pub fn line(&self, zone: usize, line: usize) -> &ZoneLine
         requires zone { zone < length self.now.zones }
         requires line { ForSome (zone_at self.now zone) (λ z. line < length (lines_of_zone z)) }
-        ensures line { IfSome (zone_at self.now zone) (λ z. slice_get (lines_of_zone z) line ≡ Some result.now) }
+        ensures line { IfSome (zone_at self.now zone)
+            (λ z. slice_get (lines_of_zone z) line ≡ Some result.now) }
         ensures sound { IsSoundLine self.now.rules result.now }
     {
         self.lines.zones[zone].line(line)
     }
 
-    /// How many Link lines there are.
+    /// Returns the number of Link lines.
     pub fn links(&self) -> usize
         ensures count { result ≡ length self.now.links }
         ensures sound { IsSoundSource self.now }
@@ -104,7 +103,7 @@ impl Source {
         self.lines.links.len()
     }
 
-    /// A link, by its number from 0 in the order of the texts and their lines.
+    /// Returns a link, by its number from 0 in the order of the texts and their lines.
     pub fn link(&self, link: usize) -> &Link
         requires { link < length self.now.links }
         ensures link { slice_get self.now.links link ≡ Some result.now }
@@ -113,7 +112,7 @@ impl Source {
         &self.lines.links[link]
     }
 
-    /// The number of the zone at the end of a link's chain, by the link's number.
+    /// Returns the number of the zone at the end of a link's chain, by the link's number.
     pub fn link_zone(&self, link: usize) -> usize
         requires { link < length self.now.links }
         ensures end { IfSome (slice_get self.now.links link) (λ l. EndsAt self.now l result) }

@@ -1,28 +1,26 @@
-//! What can be wrong with a source only as a whole.
+//! Faults of a source as a whole.
 
-ghost use Rattle.std.specs.Prelude.{◌≡◌, None, IfOk};
+ghost use Rattle.std.specs.Prelude.{◌≡◌, None, IfOk, MatchResult, List};
 ghost use Rattle.zic_base.specs.Fault.{fault_of};
 ghost use Rattle.zic_base.specs.Memory.{IfRefusal};
 ghost use Rattle.zic_source.specs.Source.{SourceLines};
 ghost use Rattle.zic_source.specs.Links.{EndsAt};
 ghost use Rattle.zic_source.specs.Whole.{IsWhole, HasFirst};
 ghost use Rattle.zic_source.specs.code.Lines.{source_lines};
-ghost use Rattle.zic_source.specs.code.Names.{IndexesNames};
+ghost use Rattle.zic_source.specs.code.Owners.{IndexesNames};
 ghost use Rattle.zic_source.specs.code.Sets.{IndexesSets};
 ghost use Rattle.zic_source.specs.code.Chains.{EndsAs, AreLinkZones};
 ghost use Rattle.zic_source.specs.code.Faults.{IsEarlier, IsFirst, LineIsRight, LineHas, LinkHas, IsFirstOfZone, IsFirstOfZones, IsFirstOfLinks};
-ghost use Rattle.std.specs.Prelude.{MatchResult};
 ghost use Rattle.zic_lines.specs.declared.rule.Rule.{Rule};
-ghost use Rattle.std.specs.Prelude.{List};
 
 use crate::chains::{End, chain_ends};
-use crate::lines::{Lines, Zone};
-use crate::names::Names;
+use crate::entries::{Entries, ZoneEntry};
+use crate::owners::Owners;
 use crate::sets::Sets;
 use std::alloc::{AllocError, Global};
 use zic_lines::{Fault, Kind, Link, Rules, Stop, ZoneLine};
 
-/// The earlier of two faults, and the first of two at one place.
+/// Returns the earlier of two faults, and the first of two at one place.
 fn earlier(fault: Option<Fault>, other: Option<Fault>) -> Option<Fault>
     ensures { IsEarlier fault other result }
 {
@@ -33,9 +31,10 @@ fn earlier(fault: Option<Fault>, other: Option<Fault>) -> Option<Fault>
     }
 }
 
-/// The line's fault, if it names a set without a rule.
+/// Returns the line's fault, if it names a set without a rule.
 fn line_fault(line: &ZoneLine, sets: &Sets) -> Option<Fault>
-    ensures { (rules : List Rule) → IndexesSets sets.now rules → IsFirst (LineIsRight rules line.now) (LineHas rules line.now) result }
+    ensures { (rules : List Rule) → IndexesSets sets.now rules
+        → IsFirst (LineIsRight rules line.now) (LineHas rules line.now) result }
 {
     match &line.rules {
         Rules::Set(name) if sets.numbers_of(name).is_empty() => Some(Fault {
@@ -46,9 +45,10 @@ fn line_fault(line: &ZoneLine, sets: &Sets) -> Option<Fault>
     }
 }
 
-/// The first fault of a zone's lines.
-fn zone_fault(zone: &Zone, sets: &Sets) -> Option<Fault>
-    ensures { (rules : List Rule) → IndexesSets sets.now rules → IsFirstOfZone rules zone.now result }
+/// Returns the first fault of a zone's lines.
+fn zone_fault(zone: &ZoneEntry, sets: &Sets) -> Option<Fault>
+    ensures { (rules : List Rule) → IndexesSets sets.now rules
+        → IsFirstOfZone rules zone.now result }
 {
     let mut first = None;
     for line in 0..zone.lines() {
@@ -57,8 +57,8 @@ fn zone_fault(zone: &Zone, sets: &Sets) -> Option<Fault>
     first
 }
 
-/// The first fault of all zones' lines.
-fn zones_fault(lines: &Lines, sets: &Sets) -> Option<Fault>
+/// Returns the first fault of all zones' lines.
+fn zones_fault(lines: &Entries, sets: &Sets) -> Option<Fault>
     requires { IndexesSets sets.now lines.now.rules.items }
     ensures { IsFirstOfZones (source_lines lines.now) result }
 {
@@ -69,9 +69,11 @@ fn zones_fault(lines: &Lines, sets: &Sets) -> Option<Fault>
     first
 }
 
-/// The number of the zone at the end of the link's chain, or the link's fault if it doesn't end at one.
+/// Returns the number of the zone at the end of the link's chain, or the link's fault if it doesn't
+/// end at one.
 fn link_zone(link: &Link, end: End) -> Result<usize, Fault>
-    ensures { (source : SourceLines) → EndsAs source link.now end → MatchResult result (EndsAt source link.now) (LinkHas source link.now) }
+    ensures { (source : SourceLines) → EndsAs source link.now end
+        → MatchResult result (EndsAt source link.now) (LinkHas source link.now) }
 {
     let kind = match end {
         End::Zone(zone) => return Ok(zone),
@@ -84,18 +86,20 @@ fn link_zone(link: &Link, end: End) -> Result<usize, Fault>
     })
 }
 
-/// The number of the zone at the end of each link's chain, if none has a fault; else their first fault.
+/// The number of the zone at the end of each link's chain, if none has a fault; else their first
+/// fault.
 #[derive(Drop)]
 struct LinkZones {
     zones: Vec<usize>,
     fault: Option<Fault>,
 }
 
-/// Where the chain of each link ends, and the first fault of the links.
-fn link_zones(alloc: Global, lines: &Lines, names: &Names) -> Result<LinkZones, AllocError>
+/// Finds the zone at the end of each link's chain, and the first fault of the links.
+fn link_zones(alloc: Global, lines: &Entries, names: &Owners) -> Result<LinkZones, AllocError>
     requires { IndexesNames names.now (source_lines lines.now) }
     ensures fault { IfOk result (λ found. IsFirstOfLinks (source_lines lines.now) found.fault) }
-    ensures zones { IfOk result (λ found. found.fault ≡ None → AreLinkZones (source_lines lines.now) found.zones.items) }
+    ensures zones { IfOk result
+        (λ found. found.fault ≡ None → AreLinkZones (source_lines lines.now) found.zones.items) }
 {
     let ends = chain_ends(alloc, lines, names)?;
     let mut zones = Vec::new(alloc);
@@ -109,13 +113,13 @@ fn link_zones(alloc: Global, lines: &Lines, names: &Names) -> Result<LinkZones, 
     Ok(LinkZones { zones, fault })
 }
 
-/// Looks for a set without a rule, and for a link whose chain doesn't end at a zone; of these the first fault. Without one,
-/// the number of the zone at the end of each link's chain.
+/// Returns the number of the zone at the end of each link's chain, or the first fault of a line
+/// that names a set without a rule, or of a link whose chain doesn't end at a zone.
 pub(crate) fn check_whole(
     alloc: Global,
-    lines: &Lines,
+    lines: &Entries,
     sets: &Sets,
-    names: &Names,
+    names: &Owners,
 ) -> Result<Vec<usize>, Stop>
     requires sets { IndexesSets sets.now lines.now.rules.items }
     requires names { IndexesNames names.now (source_lines lines.now) }

@@ -4,7 +4,7 @@ use Rattle.std.specs.Prelude.{ℤ, pos, ◌-ℤ◌, ◌<ℤ◌, AllPairs, Contai
 use Rattle.std.specs.Int.{int_min}
 use Rattle.std.proofs.lemmas.Int.{ints, clamps}
 use Rattle.std.proofs.lemmas.List.Elements.{All-contains, Contains-append_right}
-use Rattle.zic_source.proofs.Elements.{cons_cases, first_contained}
+use Rattle.zic_base.proofs.Elements.{cons_cases, first_contained}
 use Rattle.zic_states.specs.Change.{Change, IsChange, AreChanges, IsBeforeChanges, IsFirstState}
 use Rattle.zic_states.specs.End.{IsEnd}
 use Rattle.zic_states.specs.Laws.{IsOrderly, HasBeginning}

@@ -6,7 +6,7 @@ use Rattle.std.proofs.lemmas.Int.{ints, by_lt_z}
 use Rattle.std.proofs.lemmas.Option.{same_Some, MatchOption-at_some}
 use Rattle.zic_lines.specs.declared.zone_line.ZoneLine.{ZoneLine}
 use Rattle.zic_source.specs.Source.{ZoneLines, lines_of_zone}
-use Rattle.zic_source.proofs.Elements.{got}
+use Rattle.zic_base.proofs.Elements.{got}
 use Rattle.zic_states.specs.Laws.{HasSetsInOrder, IsOrderly}
 use Rattle.zic_states.specs.Until.{IsUntil}
 use Rattle.zic_states.specs.Zone.{Zone, lines_of, line_at, Ends, HasBegun, Governs}

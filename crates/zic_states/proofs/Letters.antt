@@ -10,7 +10,7 @@ use Rattle.zic_words.specs.declared.year.TheConstants.{LAST_YEAR}
 use Rattle.zic_lines.specs.declared.rule.Rule.{Rule}
 use Rattle.zic_source.specs.Source.{set_rules}
 use Rattle.zic_source.specs.Sound.{IsSoundRule, OccursIn}
-use Rattle.zic_source.proofs.Elements.{get_contained, contains_got, all_got}
+use Rattle.zic_base.proofs.Elements.{get_contained, contains_got, all_got}
 use Rattle.zic_occurrences.specs.Occurrence.{RuleSet, IsMember, Occurrence, IsOccurrence, nominal, nominal_second}
 use Rattle.zic_occurrences.proofs.Bounds.{sound_rule, rises_with_year}
 use Rattle.zic_occurrences.proofs.Members.{IsMemberNumber, members, has_members}

@@ -5,7 +5,7 @@ use Rattle.std.specs.Prelude.{slice_get}
 use Rattle.std.proofs.lemmas.Int.{ints}
 use Rattle.std.proofs.lemmas.Option.{same_Some, slice_get_within}
 use Rattle.zic_words.specs.declared.clock.ClockForm.{ClockForm}
-use Rattle.zic_words.specs.Time.{IsWithin}
+use Rattle.zic_occurrences.specs.Occurrence.{IsNear}
 use Rattle.zic_lines.specs.declared.rule.Rule.{Rule}
 use Rattle.zic_lines.specs.declared.rules.Rules.{Rules}
 use Rattle.zic_lines.specs.declared.until.Until.{Until}
@@ -88,7 +88,7 @@ pub cast_within_day : (z : ℤ) → IsWithinDay z → to_z w32 (of_z w32 z) ≡ 
 cast_within_day z within = omega (arith, ints)
 
 -- the instant of numbers that fit
-pub same_reading : (form : ClockForm) (offset saved n second : ℤ) → IsWithinDay offset → IsWithin 300_000_000_000 n → n ≡ second
+pub same_reading : (form : ClockForm) (offset saved n second : ℤ) → IsWithinDay offset → IsNear n → n ≡ second
     → instant_by form (to_z w32 (of_z w32 offset)) saved (to_z w64 (of_z w64 n)) ≡ instant_by form offset saved second
 same_reading form offset saved n second within_day within same =
     let cast : to_z w64 (of_z w64 n) ≡ n = omega (arith, ints) in

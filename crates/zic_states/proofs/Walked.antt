@@ -6,7 +6,7 @@ use Rattle.zic_words.specs.declared.clock.ClockForm.{ClockForm}
 use Rattle.zic_words.specs.declared.clock.ClockForm.TheVariants.{Wall, Standard, Universal}
 use Rattle.zic_lines.specs.declared.until.Until.{Until}
 use Rattle.zic_source.specs.Sound.{IsSoundRule, IsSoundUntil, IsWithinDay}
-use Rattle.zic_source.proofs.Elements.{all_got}
+use Rattle.zic_base.proofs.Elements.{all_got}
 use Rattle.zic_occurrences.specs.declared.occurrence.TimedOccurrence.{TimedOccurrence}
 use Rattle.zic_occurrences.specs.Occurrence.{RuleSet, Occurrence, IsOccurrence, nominal, nominal_second, year_second}
 use Rattle.zic_occurrences.specs.Order.{IsInstant, instant_by}

@@ -1,14 +1,9 @@
 -- How times are abbreviated: zic(8), FILES, FORMAT.
-use Rattle.std.specs.Prelude.{ℕ, ◌+◌, ◌/◌, ◌%◌, ◌==◌, ℤ, pos, Bool, true, ◌&&◌, nat_le, if◌then◌else◌, List, [], ◌∷◌, ◌++◌, length, Option, Some, None, option_map, unsigned_abs, int_lt}
-use Rattle.std.specs.List.{list_all}
-use Rattle.zic_base.specs.Byte.{is_abbreviation_byte}
-use Rattle.zic_base.specs.declared.limit.TheConstants.{SHORTEST_ABBREVIATION, LONGEST_ABBREVIATION}
+use Rattle.std.specs.Prelude.{ℕ, ◌/◌, ◌%◌, ◌==◌, ℤ, pos, Bool, if◌then◌else◌, List, [], ◌∷◌, ◌++◌, Option, Some, None, option_map, unsigned_abs, int_lt}
+use Rattle.zic_base.specs.Digits.{two_digits}
 use Rattle.zic_lines.specs.declared.format.Format.{Format}
 use Rattle.zic_lines.specs.declared.format.Format.TheVariants.{Plain, Letter, Offset, Pair}
-
--- two decimal digits
-abbrev pub two_digits : ℕ → List ℕ
-two_digits n = (48 + n / 10) ∷ (48 + n % 10) ∷ []
+use Rattle.zic_words.specs.Limits.{is_abbreviation}
 
 -- minutes and seconds of an hour, without what is 0 at the end
 abbrev pub minutes_text : ℕ → List ℕ
@@ -32,11 +27,6 @@ abbreviation (Plain text) offset daylight letter = Some text
 abbreviation (Letter before after) offset daylight letter = option_map (λ l. before ++ l ++ after) letter
 abbreviation (Offset before after) offset daylight letter = Some (before ++ offset_text offset ++ after)
 abbreviation (Pair standard saving) offset daylight letter = Some (if daylight then saving else standard)
-
--- An abbreviation has 3 to 16 ASCII letters, digits, `+` and `-`. RFC 9636, 3.2, recommends 3 to 6; up to 16 is an own choice.
-abbrev pub is_abbreviation : List ℕ → Bool
-is_abbreviation name =
-    nat_le SHORTEST_ABBREVIATION (length name) && nat_le (length name) LONGEST_ABBREVIATION && list_all is_abbreviation_byte name
 
 -- the abbreviation that octets are
 abbrev pub abbreviation_of : List ℕ → Option (List ℕ)

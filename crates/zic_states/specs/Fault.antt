@@ -11,7 +11,8 @@ use Rattle.zic_lines.specs.declared.zone_line.ZoneLine.{ZoneLine}
 use Rattle.zic_words.specs.declared.time.TheConstants.{GREATEST_OFFSET}
 use Rattle.zic_occurrences.specs.Occurrence.{IsMember}
 use Rattle.zic_occurrences.specs.Order.{IsOutOfOrder}
-use Rattle.zic_states.specs.Abbreviation.{abbreviation, is_abbreviation}
+use Rattle.zic_states.specs.Abbreviation.{abbreviation}
+use Rattle.zic_words.specs.Limits.{is_abbreviation}
 use Rattle.zic_states.specs.Kept.{Kept}
 use Rattle.zic_base.specs.State.{Shown}
 use Rattle.zic_states.specs.Until.{set_of}

@@ -4,7 +4,7 @@ pub mod Change
 pub mod code
 pub mod End
 pub mod Fault
-pub mod Keeping
+pub mod Observance
 pub mod Kept
 pub mod Laws
 pub mod Occurrences

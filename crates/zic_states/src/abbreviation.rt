@@ -3,16 +3,17 @@
 ghost use Rattle.std.specs.Prelude.{◌≡◌, true, bytes_eq};
 ghost use Rattle.std.specs.Cmp.{partial_equiv_from_equiv};
 ghost use Rattle.std.specs.Cmp.Lexicographic.{nat_list_eq_equiv};
-ghost use Rattle.zic_states.specs.Abbreviation.{is_abbreviation, abbreviation_of};
+ghost use Rattle.zic_words.specs.Limits.{is_abbreviation};
+ghost use Rattle.zic_states.specs.Abbreviation.{abbreviation_of};
 
 use std::marker::Model;
 use zic_base::{LONGEST_ABBREVIATION, SHORTEST_ABBREVIATION, are_abbreviation_bytes};
 
-/// An abbreviation of local time: 3 to 16 ASCII letters, digits, `+` and `-`, kept inline; clauses see its octets. Two
-/// are equal where their octets are.
+/// An abbreviation of local time: 3 to 16 ASCII letters, digits, `+` and `-`, kept inline; clauses
+/// see its bytes. Two are equal where their bytes are.
 #[derive(Clone, Copy, Debug)]
 pub struct Abbreviation {
-    /// Its octets, with zeros after them.
+    /// Its bytes, with zeros after them.
     octets: [u8; LONGEST_ABBREVIATION],
     len: usize,
 }
@@ -31,7 +32,7 @@ impl Model for Abbreviation {
 }
 
 impl Abbreviation {
-    /// The abbreviation that these octets are, or none where they aren't one.
+    /// Returns the abbreviation that these bytes are, or `None` where they aren't one.
     pub fn parse(octets: &[u8]) -> Option<Abbreviation>
         ensures { result ≡ abbreviation_of octets.now }
     {
@@ -44,7 +45,7 @@ impl Abbreviation {
         Some(Abbreviation { octets: kept, len })
     }
 
-    /// The octets.
+    /// Returns the bytes.
     pub fn octets(&self) -> &[u8]
         ensures octets { result.now ≡ self.now }
         ensures abbreviation { is_abbreviation self.now ≡ true }
@@ -67,7 +68,7 @@ impl Eq for Abbreviation {
     ghost laws = { nat_list_eq_equiv };
 }
 
-/// Whether these octets are an abbreviation: 3 to 16 ASCII letters, digits, `+` and `-`.
+/// Returns whether these bytes are an abbreviation: 3 to 16 ASCII letters, digits, `+` and `-`.
 pub fn is_abbreviation(name: &[u8]) -> bool
     ensures { result ≡ is_abbreviation name.now }
 {

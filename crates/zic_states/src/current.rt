@@ -5,7 +5,7 @@ ghost use Rattle.zic_states.specs.ByList.{AreRising, before, rule_at};
 
 use zic_occurrences::TimedOccurrence;
 
-/// Those whose instants are before the limit.
+/// Returns the occurrences whose instants are before the limit.
 pub fn before(occurrences: &[TimedOccurrence], limit: i64) -> &[TimedOccurrence]
     requires { AreRising occurrences.now }
     ensures { result.now ≡ before occurrences.now limit }
@@ -14,7 +14,8 @@ pub fn before(occurrences: &[TimedOccurrence], limit: i64) -> &[TimedOccurrence]
     &occurrences[..end]
 }
 
-/// The rule of the last whose instant isn't after `t`; none where all come later.
+/// Returns the rule of the last occurrence whose instant isn't after `t`; `None` where all come
+/// later.
 pub fn rule_at(occurrences: &[TimedOccurrence], t: i64) -> Option<u16>
     requires { AreRising occurrences.now }
     ensures { result ≡ rule_at occurrences.now t }

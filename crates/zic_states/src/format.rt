@@ -1,8 +1,9 @@
-//! FORMAT filled in.
+//! Abbreviations by FORMAT.
 
 ghost use Rattle.std.specs.Prelude.{◌≡◌, ◌≤◌, ◌++◌, IfOk, IfErr, true, unsigned_abs};
 ghost use Rattle.std.specs.Option.{option_copied};
-ghost use Rattle.zic_states.specs.Abbreviation.{abbreviation, abbreviation_of, is_abbreviation};
+ghost use Rattle.zic_states.specs.Abbreviation.{abbreviation, abbreviation_of};
+ghost use Rattle.zic_words.specs.Limits.{is_abbreviation};
 ghost use Rattle.zic_states.specs.Refusal.{IsRefusal};
 
 use crate::abbreviation::Abbreviation;
@@ -12,8 +13,10 @@ use zic_base::{Kind, LONGEST_ABBREVIATION};
 use zic_lines::Format;
 use zic_words::{GREATEST_OFFSET, Letter};
 
-/// FORMAT filled in, at this total UT offset in seconds, positive east, and this daylight flag, with this letter if there
-/// is one. Takes no memory.
+/// Returns the abbreviation that FORMAT gives at this total UT offset in seconds, positive east,
+/// and this daylight flag, with this letter if there is one (zic(8), FORMAT). Takes no memory.
+///
+/// `NoLetter` where FORMAT wants a letter and there is none; `BadAbbreviation` where it gives none.
 pub fn abbreviation(
     format: &Format,
     offset: i32,
@@ -21,9 +24,11 @@ pub fn abbreviation(
     letter: Option<&Letter>,
 ) -> Result<Abbreviation, Kind>
     requires { unsigned_abs offset ≤ GREATEST_OFFSET }
-    ensures ok { IfOk result (λ made. abbreviation format.now offset daylight (option_copied letter.entry) ≡ Some made) }
+    ensures ok { IfOk result (λ made. abbreviation format.now offset daylight
+        (option_copied letter.entry) ≡ Some made) }
     ensures within { IfOk result (λ made. is_abbreviation made ≡ true) }
-    ensures err { IfErr result (IsRefusal (abbreviation format.now offset daylight (option_copied letter.entry))) }
+    ensures err { IfErr result
+        (IsRefusal (abbreviation format.now offset daylight (option_copied letter.entry))) }
 {
     let made = match format {
         Format::Plain(text) => Abbreviation::parse(text.octets()),
@@ -43,7 +48,8 @@ pub fn abbreviation(
     made.ok_or(Kind::BadAbbreviation)
 }
 
-/// The abbreviation that these parts are together, or none where they aren't one; they may be long.
+/// Returns the abbreviation that these parts are together, or `None` where they aren't one; they
+/// may be long.
 fn joined(before: &[u8], middle: &[u8], after: &[u8]) -> Option<Abbreviation>
     ensures { result ≡ abbreviation_of (before.now ++ middle.now ++ after.now) }
 {

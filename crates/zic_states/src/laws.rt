@@ -1,5 +1,5 @@
-//! Laws of what zones show as contracts: no function here does anything. The crates above cite the lemmas in `proofs/` that
-//! prove them.
+//! Laws of what zones show as contracts: no function here does anything. The crates above cite the
+//! lemmas in `proofs/` that prove them.
 ghost use Rattle.zic_states.specs.Laws.{OneUntil, UntilsAreRead, OneLine, OneKept, OneState, SomeState, OneStateAtEachInstant, OneEnd, OneListOfChanges, OneFirstState};
 
 /// A line has at most one UNTIL instant, where its set, if it has one, is in order.

@@ -1,16 +1,16 @@
-//! What a zone shows at an instant.
+//! The states of lines and zones: what a zone shows at an instant. The tests stand in `zone_tests`.
 #![tactic(auto)]
 
 mod abbreviation;
 mod current;
 pub mod format;
-mod keeping;
 pub mod laws;
+mod observance;
 mod offset_text;
 pub mod tail_laws;
 mod until;
 
 pub use abbreviation::{Abbreviation, is_abbreviation};
 pub use current::{before, rule_at};
-pub use keeping::{Keeping, kept_by, kept_is_found_in_list};
+pub use observance::{Observance, kept_is_found_in_list, observance_by};
 pub use until::until_instant;

@@ -1,19 +1,23 @@
-//! What `%z` of a FORMAT stands for.
+//! Texts of UT offsets, for which `%z` of a FORMAT stands.
 
 ghost use Rattle.std.specs.Prelude.{◌≡◌, ◌+◌, ◌<◌, ◌≤◌, ◌++◌, unsigned_abs};
 ghost use Rattle.arrayvec.specs.ArrayVec.{array_vec_len};
-ghost use Rattle.zic_states.specs.Abbreviation.{two_digits, minutes_text, sign, offset_text};
+ghost use Rattle.zic_base.specs.Digits.{two_digits};
+ghost use Rattle.zic_states.specs.Abbreviation.{minutes_text, sign, offset_text};
 
 use arrayvec::ArrayVec;
+use zic_base::two_digits;
 use zic_words::GREATEST_OFFSET;
 
-/// The most octets of a UT offset's text: a sign and two digits each of hours, minutes and seconds.
+/// The greatest length of a UT offset's text, in bytes: a sign and two digits each of hours,
+/// minutes and seconds.
 const LONGEST_OFFSET_TEXT: usize = 7;
 
-/// Part of a UT offset's text, or the whole.
+/// A UT offset's text, or a part of it.
 type Text = ArrayVec<u8, LONGEST_OFFSET_TEXT>;
 
-/// The shortest of `+hh`, `+hhmm` and `+hhmmss` that tells a UT offset in seconds, with `-` west of Greenwich.
+/// Returns the shortest of `+hh`, `+hhmm` and `+hhmmss` that tells a UT offset in seconds, with `-`
+/// west of Greenwich.
 pub(crate) fn offset_text(offset: i32) -> Text
     requires { unsigned_abs offset ≤ GREATEST_OFFSET }
     ensures { result.items ≡ offset_text offset }
@@ -26,7 +30,7 @@ pub(crate) fn offset_text(offset: i32) -> Text
     text
 }
 
-/// `-` before an offset west of Greenwich, else `+`.
+/// Returns `-` for an offset west of Greenwich, else `+`.
 fn sign(offset: i32) -> u8
     ensures { result ≡ sign offset }
 {
@@ -55,6 +59,7 @@ fn push_two_digits(text: &mut Text, n: u32)
     ensures items { text.new.items ≡ text.old.items ++ two_digits n }
     ensures len { array_vec_len text.new ≡ array_vec_len text.old + 2 }
 {
-    text.push(b'0' + (n / 10) as u8);
-    text.push(b'0' + (n % 10) as u8);
+    let [tens, ones] = two_digits(n);
+    text.push(tens);
+    text.push(ones);
 }

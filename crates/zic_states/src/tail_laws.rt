@@ -1,5 +1,5 @@
-//! Laws of what zones show from their explicit ends on, as contracts: no function here does anything. The crates above cite the
-//! lemmas in `proofs/` that prove them.
+//! Laws of what zones show from their explicit ends on, as contracts: no function here does
+//! anything. The crates above cite the lemmas in `proofs/` that prove them.
 ghost use Rattle.zic_states.specs.TailLaws.{LastLineGoverns, FixedTail, ByContinuing, ByOne, ByNone, KeptBefore, RepeatsForEver, AlternatesForEver, StaysSinceChange, OneStateAfterChanges};
 
 /// From its start on, and so from one second before the explicit end on, the last line governs.
@@ -12,7 +12,8 @@ pub fn a_line_without_a_set_keeps_one_thing_for_ever()
     ensures { FixedTail }
 {}
 
-/// Where rules of the last line's set go on for ever, an occurrence of one of them decides from the explicit end on.
+/// Where rules of the last line's set go on for ever, an occurrence of one of them decides from the
+/// explicit end on.
 pub fn from_the_end_a_continuing_rule_decides()
     ensures { ByContinuing }
 {}
@@ -37,7 +38,8 @@ pub fn what_is_shown_repeats_for_ever()
     ensures { RepeatsForEver }
 {}
 
-/// Where rules go on for ever and alternate, each occurrence from the last before the explicit end on follows one of another rule.
+/// Where rules go on for ever and alternate, each occurrence from the last before the explicit end
+/// on follows one of another rule.
 pub fn rules_alternate_for_ever()
     ensures { AlternatesForEver }
 {}

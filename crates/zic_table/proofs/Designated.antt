@@ -11,14 +11,14 @@ use Rattle.std.proofs.lemmas.Option.{same_Some, slice_get-get_or, slice_get_with
 use Rattle.std.proofs.lemmas.Slice.Eq.{bytes_eq-Decides}
 use Rattle.zic_base.specs.State.{Shown, shown}
 use Rattle.zic_base.specs.declared.state.State.{State}
-use Rattle.zic_source.proofs.Elements.{contained_passes, contains_got, into_map}
-use Rattle.zic_table.specs.Image.{firsts, before, names_of, ended, local_type}
+use Rattle.zic_base.proofs.Elements.{contained_passes, contains_got, into_map}
+use Rattle.zic_table.specs.ContentOf.{firsts, before, names_of, ended, local_type}
 use Rattle.zic_table.specs.code.Firsts.{with_new}
 use Rattle.zic_table.specs.code.LocalTypes.{AreLocalTypes, HasManyCharacters, HasNoName, IsPlaceOf}
-use Rattle.zic_table.specs.declared.content.LocalType.{LocalType}
-use Rattle.zic_table.specs.declared.limit.TheConstants.{MOST_CHARACTERS}
+use Rattle.zic_content.specs.declared.content.LocalType.{LocalType}
+use Rattle.zic_content.specs.declared.limit.TheConstants.{MAX_CHARACTERS}
 use Rattle.zic_table.proofs.Firsts.{before_append, before_new, any_firsts, firsts_push, firsts_grow, with_new_grows}
-use Rattle.zic_table.proofs.Lists.{map_same, any_map, take_next, get_taken, get_mapped}
+use Rattle.zic_base.proofs.Lists.{map_same, any_map, take_next, get_taken, get_mapped}
 
 -- ---- the look-up of a designation
 
@@ -76,7 +76,7 @@ module _ (done : List Shown) (s : Shown) where
 
   module _ (types : List LocalType) (names : List ℕ) (are : AreLocalTypes done types names) where
     next_types : (place : ℕ) (now : List ℕ) → place ≡ length (ended (before bytes_eq (names_of (done ++ s ∷ [])) s.name))
-        → now ≡ ended (names_of (done ++ s ∷ [])) → length now ≤ MOST_CHARACTERS
+        → now ≡ ended (names_of (done ++ s ∷ [])) → length now ≤ MAX_CHARACTERS
         → AreLocalTypes (done ++ s ∷ []) (types ++ record { offset = s.offset; daylight = s.daylight; place = place } ∷ []) now
     next_types place now is is_now fit = record {
       are_types = ap (λ (l : List LocalType). l ++ record { offset = s.offset; daylight = s.daylight; place = place } ∷ []) are.are_types ∙ sym (types_push place is);
@@ -94,7 +94,7 @@ module _ (done : List Shown) (s : Shown) where
           ap ended added ∙ flat_map-append (λ n. n ++ 0 ∷ []) (names_of done) (s.name ∷ [])
           ∙ (λ k. sym are.are_names k ++ append-nil (s.name ++ 0 ∷ []) k)
 
-      types_new : (place : ℕ) (now : List ℕ) → place ≡ length names → now ≡ names ++ (s.name ++ 0 ∷ []) → length now ≤ MOST_CHARACTERS
+      types_new : (place : ℕ) (now : List ℕ) → place ≡ length names → now ≡ names ++ (s.name ++ 0 ∷ []) → length now ≤ MAX_CHARACTERS
           → AreLocalTypes (done ++ s ∷ []) (types ++ record { offset = s.offset; daylight = s.daylight; place = place } ∷ []) now
       types_new place now is is_now fit = next_types place now
           (is ∙ ap (λ (l : List ℕ). length l) are.are_names
@@ -114,7 +114,7 @@ module _ (done : List Shown) (s : Shown) where
 
 -- ---- the types of states, up to one more
 
--- more states have no fewer octets
+-- more states have no fewer bytes
 octets_grow : (xs ys : List Shown) → length (ended (names_of xs)) ≤ length (ended (names_of (xs ++ ys)))
 octets_grow xs ys =
     let (more, grown) = firsts_grow bytes_eq (map name_of xs) (map name_of ys) in
@@ -143,11 +143,11 @@ module _ (all : List Shown) (k : ℕ) (s : Shown) (at : slice_get all k ≡ Some
         any_firsts bytes_eq bytes_eq-Decides (map name_of (take k all)) s.name ∙ any_map (λ n. bytes_eq n s.name) name_of (take k all)
         ∙ subst (λ (n : ℕ). HasNoName all n s.name) as_many none
 
-    pub new_step : (place : ℕ) (now : List ℕ) → place ≡ length names → now ≡ names ++ (s.name ++ 0 ∷ []) → length now ≤ MOST_CHARACTERS
+    pub new_step : (place : ℕ) (now : List ℕ) → place ≡ length names → now ≡ names ++ (s.name ++ 0 ∷ []) → length now ≤ MAX_CHARACTERS
         → AreLocalTypes (take (k + 1) all) (types ++ record { offset = s.offset; daylight = s.daylight; place = place } ∷ []) now
     new_step place now is is_now fit = rw next (types_new (take k all) s types names are is_new place now is is_now fit)
 
-    pub too_many : MOST_CHARACTERS < length names + (length s.name + 1) → HasManyCharacters all
+    pub too_many : MAX_CHARACTERS < length names + (length s.name + 1) → HasManyCharacters all
     too_many many =
         let to = octets_grow (take (k + 1) all) (drop (k + 1) all) in
         let whole = ap (λ (l : List Shown). length (ended (names_of l))) (take-append-drop (k + 1) all) in

@@ -8,7 +8,7 @@ use Rattle.std.proofs.lemmas.List.{append-nil, length-append, get_or_at}
 use Rattle.std.proofs.lemmas.List.Elements.{filter-append}
 use Rattle.std.proofs.lemmas.List.Sums.{take_while-cons}
 use Rattle.std.proofs.lemmas.Option.{slice_get-get_or}
-use Rattle.zic_table.specs.Image.{firsts, before}
+use Rattle.zic_table.specs.ContentOf.{firsts, before}
 use Rattle.zic_table.specs.code.Firsts.{with_new}
 
 -- ---- tests

@@ -6,19 +6,19 @@ use Rattle.std.specs.List.{list_any}
 use Rattle.std.proofs.lemmas.List.{length-append, map-append, take_all, take-append-drop}
 use Rattle.std.proofs.lemmas.List.Elements.{Contains-append_right, All-push}
 use Rattle.zic_base.specs.State.{Shown}
-use Rattle.zic_source.proofs.Elements.{contained_passes, into_map}
+use Rattle.zic_base.proofs.Elements.{contained_passes, into_map}
 use Rattle.zic_states.specs.Change as of_zone
 use Rattle.zic_states.specs.Laws.{IsOrderly}
 use Rattle.zic_states.specs.Zone.{Zone}
 use Rattle.zic_states.proofs.Changes.{one_list_of_changes}
 use Rattle.zic_rules.specs.Timeline.{IsChangeAt}
-use Rattle.zic_table.specs.Image.{firsts, same_state, states_of, transition}
+use Rattle.zic_table.specs.ContentOf.{firsts, same_state, states_of, transition}
 use Rattle.zic_table.specs.code.Firsts.{with_new, IsNumbered}
 use Rattle.zic_table.specs.code.Transitions.{AreTransitionsTo, AreTransitions, HasManyTypes}
-use Rattle.zic_table.specs.declared.content.Change.{Change}
-use Rattle.zic_table.specs.declared.limit.TheConstants.{MOST_TYPES}
+use Rattle.zic_content.specs.declared.content.Change.{Change}
+use Rattle.zic_content.specs.declared.limit.TheConstants.{MAX_TYPES}
 use Rattle.zic_table.proofs.Firsts.{before_append, any_firsts, firsts_push, firsts_grow, with_new_grows}
-use Rattle.zic_table.proofs.Lists.{map_same, take_next}
+use Rattle.zic_base.proofs.Lists.{map_same, take_next}
 use Rattle.zic_table.proofs.States.{state_decides}
 
 -- what a change begins
@@ -83,7 +83,7 @@ module _ (zone : Zone) (orderly : IsOrderly zone) where
           fit = All-push (λ (x : Change). FitsSigned w64 x.instant) transitions (record { instant = c.instant; number = n }) are.fit fits;
         }
 
-    pub too_many : (c : of_zone.Change) → IsChangeAt zone i c → MOST_TYPES < length (with_new same_state states c.state) → HasManyTypes zone
+    pub too_many : (c : of_zone.Change) → IsChangeAt zone i c → MAX_TYPES < length (with_new same_state states c.state) → HasManyTypes zone
     too_many c at many =
         let done = take i are.changes in
         let next = next_is c at in

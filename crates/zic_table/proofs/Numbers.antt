@@ -6,12 +6,12 @@ use Rattle.std.proofs.lemmas.Bool.{cases_Bool}
 use Rattle.std.proofs.lemmas.List.{length-append}
 use Rattle.std.proofs.lemmas.List.Folds.{list_any-append}
 use Rattle.std.proofs.lemmas.Option.{same_Some}
-use Rattle.zic_base.specs.State.{Shown}
-use Rattle.zic_table.specs.Image.{before, same_state}
+use Rattle.zic_base.specs.State.{Shown, shown}
+use Rattle.zic_base.specs.declared.state.State.{State}
+use Rattle.zic_table.specs.ContentOf.{before, same_state}
 use Rattle.zic_table.specs.code.Firsts.{with_new, IsNumbered}
-use Rattle.zic_table.specs.code.Numbering.{state_of, same_key, number_of, AreNumbers}
-use Rattle.zic_table.specs.declared.limit.TheConstants.{MOST_TYPES}
-use Rattle.zic_table.specs.declared.numbering.Key.{Key}
+use Rattle.zic_table.specs.code.Numbering.{same_key, number_of, AreNumbers}
+use Rattle.zic_content.specs.declared.limit.TheConstants.{MAX_TYPES}
 use Rattle.zic_table.proofs.Firsts.{before_append, before_new}
 use Rattle.zic_table.proofs.States.{state_decides, same_key-is}
 
@@ -64,13 +64,13 @@ module _ (states : List Shown) (state : Shown) where
       ]
     ]
 
-    pub numbers_more : {S : Type 0} (key : Key) → state_of key ≡ state → (numbers more : HashMap Key ℕ S) → AreNumbers states numbers
-        → length states < MOST_TYPES → Updates same_key numbers more key (Some (length states)) → AreNumbers (states ++ state ∷ []) more
+    pub numbers_more : {S : Type 0} (key : State) → shown key ≡ state → (numbers more : HashMap State ℕ S) → AreNumbers states numbers
+        → length states < MAX_TYPES → Updates same_key numbers more key (Some (length states)) → AreNumbers (states ++ state ∷ []) more
     numbers_more key is numbers more are room updates = record {
       fit = omega (arith, length-append states (state ∷ []));
       each = λ other.
-          let tied : same_key key other ≡ same_state state (state_of other) = same_key-is key other ∙ ap (λ (s : Shown). same_state s (state_of other)) is in
+          let tied : same_key key other ≡ same_state state (shown other) = same_key-is key other ∙ ap (λ (s : Shown). same_state s (shown other)) is in
           updates.0 other ∙ ap (λ (b : Bool). cond b (Some (length states)) (get same_key numbers other)) tied
-          ∙ ap (λ (o : Option ℕ). cond (same_state state (state_of other)) (Some (length states)) o) (are.each other)
-          ∙ sym (number_more (state_of other));
+          ∙ ap (λ (o : Option ℕ). cond (same_state state (shown other)) (Some (length states)) o) (are.each other)
+          ∙ sym (number_more (shown other));
     }

@@ -7,10 +7,10 @@ use Rattle.std.specs.Str.{bytes_eq}
 use Rattle.std.proofs.lemmas.Bool.{and_parts, and_from}
 use Rattle.std.proofs.lemmas.Bool.Decides.{Decides-int_eq}
 use Rattle.std.proofs.lemmas.Slice.Eq.{bytes_eq-Decides}
-use Rattle.zic_base.specs.State.{Shown}
-use Rattle.zic_table.specs.Image.{same_state}
-use Rattle.zic_table.specs.code.Numbering.{state_of, same_key}
-use Rattle.zic_table.specs.declared.numbering.Key.{Key}
+use Rattle.zic_base.specs.State.{Shown, shown}
+use Rattle.zic_base.specs.declared.state.State.{State}
+use Rattle.zic_table.specs.ContentOf.{same_state}
+use Rattle.zic_table.specs.code.Numbering.{same_key}
 
 state_itself : (s : Shown) → same_state s s ≡ true
 state_itself s =
@@ -34,5 +34,5 @@ and_assoc : (a b c : Bool) → (a && (b && c)) ≡ ((a && b) && c)
 and_assoc true b c = refl
 and_assoc false b c = refl
 
-pub same_key-is : (a b : Key) → same_key a b ≡ same_state (state_of a) (state_of b)
+pub same_key-is : (a b : State) → same_key a b ≡ same_state (shown a) (shown b)
 same_key-is a b = and_assoc (int_eq a.offset b.offset) (beq a.daylight b.daylight) (bytes_eq a.name.now b.name.now)

@@ -20,25 +20,25 @@ use Rattle.zic_posix.specs.Printing.{printed}
 use Rattle.zic_posix.specs.declared.footer.Dst.{Dst}
 use Rattle.zic_posix.proofs.Meanings.{means_some}
 use Rattle.zic_posix.proofs.StringLemmas.{limits_of}
-use Rattle.zic_source.proofs.Elements.{contains_got}
+use Rattle.zic_base.proofs.Elements.{contains_got}
 use Rattle.zic_states.specs.Change as of_zone
 use Rattle.zic_states.specs.Zone.{Zone, Shows}
 use Rattle.zic_states.proofs.Changes.{has_beginning, one_list_of_changes}
 use Rattle.zic_states.proofs.States.{one_state}
-use Rattle.zic_rules.specs.Laws.{IsWithinLimits}
+use Rattle.zic_words.specs.Limits.{IsWithinLimits}
 use Rattle.zic_rules.specs.Timeline.{IsWhole}
 use Rattle.zic_rules.proofs.Limits.{shows_within_limits}
 use Rattle.zic_footer.specs.Making.{IsMade, GoesOn}
-use Rattle.zic_table.specs.Content.{Content, IsFooter, IsLocalType, IsWritable, type_state}
-use Rattle.zic_table.specs.Image.{firsts, before, same_state, states_of, names_of, ended, local_type, transition, content_of, limits, IsContentOf, IsFaultOfTable, HasFewChanges}
+use Rattle.zic_content.specs.Content.{Content, IsFooter, IsLocalType, IsWritable, type_state}
+use Rattle.zic_table.specs.ContentOf.{firsts, before, same_state, states_of, names_of, ended, local_type, transition, content_of, limits, IsContentOf, IsFaultOfTable, HasFewChanges}
 use Rattle.zic_table.specs.code.LocalTypes.{AreLocalTypes, HasManyCharacters}
 use Rattle.zic_table.specs.code.Transitions.{AreTransitions, HasManyTypes}
-use Rattle.zic_table.specs.declared.content.Change.{Change}
-use Rattle.zic_table.specs.declared.content.LocalType.{LocalType}
-use Rattle.zic_table.specs.declared.limit.TheConstants.{MOST_TRANSITIONS, MOST_TYPES, MOST_CHARACTERS}
+use Rattle.zic_content.specs.declared.content.Change.{Change}
+use Rattle.zic_content.specs.declared.content.LocalType.{LocalType}
+use Rattle.zic_content.specs.declared.limit.TheConstants.{MAX_TRANSITIONS, MAX_TYPES, MAX_CHARACTERS}
 use Rattle.zic_table.proofs.Designations.{designation_is, designated}
 use Rattle.zic_table.proofs.Firsts.{at_place, place_within}
-use Rattle.zic_table.proofs.Lists.{get_mapped}
+use Rattle.zic_base.proofs.Lists.{get_mapped}
 use Rattle.zic_table.proofs.NumberedChanges.{state_of, known_state}
 use Rattle.zic_table.proofs.States.{state_decides}
 use Rattle.zic_table.proofs.Texts.{made_length}
@@ -184,25 +184,25 @@ module _ (zone : Zone) (whole : IsWhole zone) where
   pub same_count : (some all : List of_zone.Change) → of_zone.AreChanges zone some → of_zone.AreChanges zone all → length some ≡ length all
   same_count some all are_some are_all = ap (λ (l : List of_zone.Change). length l) (one_list_of_changes zone whole.orderly some all are_some are_all)
 
-  passes_first : (first : Shown) (changes : List of_zone.Change) → MOST_TRANSITIONS < length changes → first_failed (limits first changes) ≡ Some TooManyChanges
-  passes_first first changes many = rw (lt-leb (length changes) MOST_TRANSITIONS many) refl
+  passes_first : (first : Shown) (changes : List of_zone.Change) → MAX_TRANSITIONS < length changes → first_failed (limits first changes) ≡ Some TooManyChanges
+  passes_first first changes many = rw (lt-leb (length changes) MAX_TRANSITIONS many) refl
 
-  passes_second : (first : Shown) (changes : List of_zone.Change) → length changes ≤ MOST_TRANSITIONS → MOST_TYPES < length (states_of first changes)
+  passes_second : (first : Shown) (changes : List of_zone.Change) → length changes ≤ MAX_TRANSITIONS → MAX_TYPES < length (states_of first changes)
       → first_failed (limits first changes) ≡ Some TooManyTypes
-  passes_second first changes few many = rw (le-leb (length changes) MOST_TRANSITIONS few, lt-leb (length (states_of first changes)) MOST_TYPES many) refl
+  passes_second first changes few many = rw (le-leb (length changes) MAX_TRANSITIONS few, lt-leb (length (states_of first changes)) MAX_TYPES many) refl
 
-  passes_third : (first : Shown) (changes : List of_zone.Change) → length changes ≤ MOST_TRANSITIONS → length (states_of first changes) ≤ MOST_TYPES
-      → MOST_CHARACTERS < length (ended (names_of (states_of first changes))) → first_failed (limits first changes) ≡ Some TooManyChars
+  passes_third : (first : Shown) (changes : List of_zone.Change) → length changes ≤ MAX_TRANSITIONS → length (states_of first changes) ≤ MAX_TYPES
+      → MAX_CHARACTERS < length (ended (names_of (states_of first changes))) → first_failed (limits first changes) ≡ Some TooManyChars
   passes_third first changes few fit many =
-      rw (le-leb (length changes) MOST_TRANSITIONS few, le-leb (length (states_of first changes)) MOST_TYPES fit, lt-leb (length (ended (names_of (states_of first changes)))) MOST_CHARACTERS many) refl
+      rw (le-leb (length changes) MAX_TRANSITIONS few, le-leb (length (states_of first changes)) MAX_TYPES fit, lt-leb (length (ended (names_of (states_of first changes)))) MAX_CHARACTERS many) refl
 
-  passes_none : (first : Shown) (changes : List of_zone.Change) → length changes ≤ MOST_TRANSITIONS → length (states_of first changes) ≤ MOST_TYPES
-      → length (ended (names_of (states_of first changes))) ≤ MOST_CHARACTERS → first_failed (limits first changes) ≡ None
+  passes_none : (first : Shown) (changes : List of_zone.Change) → length changes ≤ MAX_TRANSITIONS → length (states_of first changes) ≤ MAX_TYPES
+      → length (ended (names_of (states_of first changes))) ≤ MAX_CHARACTERS → first_failed (limits first changes) ≡ None
   passes_none first changes few fit short =
-      rw (le-leb (length changes) MOST_TRANSITIONS few, le-leb (length (states_of first changes)) MOST_TYPES fit, le-leb (length (ended (names_of (states_of first changes)))) MOST_CHARACTERS short) refl
+      rw (le-leb (length changes) MAX_TRANSITIONS few, le-leb (length (states_of first changes)) MAX_TYPES fit, le-leb (length (ended (names_of (states_of first changes)))) MAX_CHARACTERS short) refl
 
   pub too_many_changes : (place : Place) (first : Shown) (changes : List of_zone.Change) → of_zone.IsFirstState zone first → of_zone.AreChanges zone changes
-      → MOST_TRANSITIONS < length changes → IsFaultOfTable zone place (fault_at place TooManyChanges)
+      → MAX_TRANSITIONS < length changes → IsFaultOfTable zone place (fault_at place TooManyChanges)
   too_many_changes place first changes is_first are many = record {
     first = first;
     changes = changes;
@@ -211,8 +211,8 @@ module _ (zone : Zone) (whole : IsWhole zone) where
     first_exceeded = (refl, passes_first first changes many);
   }
 
-  module _ (all : List of_zone.Change) (are_all : of_zone.AreChanges zone all) (few : length all ≤ MOST_TRANSITIONS) where
-    is_few : (changes : List of_zone.Change) → of_zone.AreChanges zone changes → length changes ≤ MOST_TRANSITIONS
+  module _ (all : List of_zone.Change) (are_all : of_zone.AreChanges zone all) (few : length all ≤ MAX_TRANSITIONS) where
+    is_few : (changes : List of_zone.Change) → of_zone.AreChanges zone changes → length changes ≤ MAX_TRANSITIONS
     is_few changes are = omega (arith, same_count changes all are are_all)
 
     pub has_few : HasFewChanges zone
@@ -227,14 +227,14 @@ module _ (zone : Zone) (whole : IsWhole zone) where
       first_exceeded = (refl, passes_second many.first many.changes (is_few many.changes many.are_changes) many.many);
     })
 
-    module _ (states : List Shown) (transitions : List Change) (numbered : AreTransitions zone states transitions) (fit : length states ≤ MOST_TYPES) where
+    module _ (states : List Shown) (transitions : List Change) (numbered : AreTransitions zone states transitions) (fit : length states ≤ MAX_TYPES) where
       abbrev first : Shown
       first = numbered.first
 
       abbrev changes : List of_zone.Change
       changes = numbered.changes
 
-      types_fit : length (states_of first changes) ≤ MOST_TYPES
+      types_fit : length (states_of first changes) ≤ MAX_TYPES
       types_fit = omega (arith, ap (λ (l : List Shown). length l) numbered.are_states)
 
       pub too_many_characters : (place : Place) (fault : Fault) → fault ≡ fault_at place TooManyChars → HasManyCharacters states → IsFaultOfTable zone place fault
@@ -263,7 +263,7 @@ module _ (zone : Zone) (whole : IsWhole zone) where
             let are_names = its.are_names in
             λ k. record { version = is_version k; changes = are_transitions k; types = are_types k; names = are_names k; text = is_text k }
 
-        names_fit : length (ended (names_of (states_of first changes))) ≤ MOST_CHARACTERS
+        names_fit : length (ended (names_of (states_of first changes))) ≤ MAX_CHARACTERS
         names_fit = let fit = its.fit in omega (arith, ap (λ (l : List ℕ). length l) its.are_names)
 
         pub is_content : IsContentOf zone f content

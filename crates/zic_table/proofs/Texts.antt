@@ -12,13 +12,14 @@ use Rattle.zic_base.specs.declared.limit.TheConstants.{SHORTEST_ABBREVIATION, LO
 use Rattle.zic_lines.specs.declared.rules.Rules.{Rules}
 use Rattle.zic_posix.specs.Footer.{TzString}
 use Rattle.zic_posix.specs.Grammar.{is_letter}
-use Rattle.zic_posix.specs.Printing.{two_digits, printed_number, printed_name, printed_clock, printed_seconds, printed_signed, printed_offset, printed_day, printed_edge, printed_saving, printed_daylight, printed_rest, printed}
+use Rattle.zic_base.specs.Digits.{two_digits}
+use Rattle.zic_posix.specs.Printing.{printed_number, printed_name, printed_clock, printed_seconds, printed_signed, printed_offset, printed_day, printed_edge, printed_saving, printed_daylight, printed_rest, printed}
 use Rattle.zic_posix.specs.declared.footer.DayRule.{DayRule}
 use Rattle.zic_posix.specs.declared.footer.DayRule.TheVariants.{J, N, M}
 use Rattle.zic_posix.specs.declared.footer.Dst.{Dst}
 use Rattle.zic_posix.specs.declared.footer.Edge.{Edge}
 use Rattle.zic_posix.specs.declared.limit.TheConstants.{USUAL_TIME, USUAL_SAVING}
-use Rattle.zic_states.specs.Abbreviation.{is_abbreviation}
+use Rattle.zic_words.specs.Limits.{is_abbreviation}
 use Rattle.zic_states.specs.Kept.{IsKeptBy, kept_of}
 use Rattle.zic_states.specs.Zone.{Zone}
 use Rattle.zic_rules.specs.Tail.{IsTailBy}

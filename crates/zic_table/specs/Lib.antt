@@ -1,8 +1,9 @@
 pub mod code
-pub mod Content
-pub mod Designation
+pub mod ContentOf
 pub mod Image
+pub mod Laws
 pub use Rattle.zic_footer.specs.Making
+pub use Rattle.zic_content.specs.Content
 pub use Rattle.zic_posix.specs.Footer
 pub use Rattle.zic_posix.specs.Grammar
 pub use Rattle.zic_posix.specs.Meaning
@@ -10,3 +11,6 @@ pub use Rattle.zic_posix.specs.Printing
 pub use Rattle.zic_base.specs.State
 pub use Rattle.zic_states.specs.Change
 pub use Rattle.zic_states.specs.Zone
+pub use Rattle.zic_tzif.specs.Answer
+pub use Rattle.zic_tzif.specs.Reading
+pub use Rattle.zic_tzif.specs.Writing

@@ -1,12 +1,15 @@
-//! The content of a zone's file: transitions, local time types, designations and the footer's text.
+//! The table of a zone, which is the content of its file; and the file of a zone, compiled and
+//! read again. The tests stand in `zone_tests`.
 #![tactic(auto)]
 
-mod content;
-mod limit;
+mod image;
+pub mod laws;
 mod local_types;
+mod maker;
 mod numbering;
 mod transitions;
 
-pub use content::making::table;
-pub use content::{Change, LocalType, Table};
-pub use limit::{LONGEST_FOOTER, MOST_CHARACTERS, MOST_TRANSITIONS, MOST_TYPES};
+pub use image::image_of;
+pub use maker::table;
+pub use zic_content::{Change, LocalType, Table};
+pub use zic_files::Image;

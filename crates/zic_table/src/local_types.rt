@@ -7,28 +7,29 @@ ghost use Rattle.zic_base.specs.Memory.{IfRefusal};
 ghost use Rattle.zic_base.specs.State.{shown};
 ghost use Rattle.zic_table.specs.code.LocalTypes.{AreLocalTypes, HasManyCharacters, IsPlaceOf, HasNoName};
 
-use crate::content::LocalType;
-use crate::limit::MOST_CHARACTERS;
 use std::alloc::Global;
 use zic_base::{Kind, Place, State, Stop};
+use zic_content::{LocalType, MAX_CHARACTERS};
 
-/// Local time types, and the octets of their designations.
+/// Local time types, and the bytes of their designations.
 #[derive(Drop)]
 pub(crate) struct Designated {
     pub(crate) types: Vec<LocalType>,
     pub(crate) names: Vec<u8>,
 }
 
-/// The local time types of states, for a zone whose Zone line stands at `zone_place`: `TooManyChars` where their
-/// designations have more octets than a table.
+/// Returns the local time types of states, for a zone whose Zone line stands at `zone_place`, or
+/// `TooManyChars` where their designations have more bytes than a table.
 pub(crate) fn local_types(
     alloc: Global,
     zone_place: Place,
     states: &[State<'_>],
 ) -> Result<Designated, Stop>
-    ensures ok { IfOk result (λ made. AreLocalTypes (map shown states.now) made.types.items made.names.items) }
+    ensures ok { IfOk result
+        (λ made. AreLocalTypes (map shown states.now) made.types.items made.names.items) }
     ensures err { IfRefusal fault_of result
-        (λ fault. (fault ≡ fault_at zone_place Kind.TooManyChars) × HasManyCharacters (map shown states.now)) }
+        (λ fault. (fault ≡ fault_at zone_place Kind.TooManyChars)
+        × HasManyCharacters (map shown states.now)) }
 {
     let mut types = Vec::with_capacity(alloc, states.len())?;
     let mut names = Vec::new(alloc);
@@ -46,7 +47,8 @@ pub(crate) fn local_types(
     Ok(Designated { types, names })
 }
 
-/// The place of a designation, if one of the types made for the first of these states has it.
+/// Returns the place of a designation, if one of the types made for the first of these states has
+/// it.
 fn place_of(states: &[State<'_>], types: &[LocalType], name: &[u8]) -> Option<u8>
     requires { length types.now ≤ length states.now }
     ensures { MatchOption result
@@ -61,16 +63,19 @@ fn place_of(states: &[State<'_>], types: &[LocalType], name: &[u8]) -> Option<u8
     None
 }
 
-/// Adds a designation, ended by NUL, and tells its place; `TooManyChars` where the octets would be too many.
+/// Adds a designation, ended by NUL, and returns its place, or `TooManyChars` where the bytes
+/// would be too many.
 fn add_name(zone_place: Place, names: &mut Vec<u8>, name: &[u8]) -> Result<u8, Stop>
-    requires { length names.old.items ≤ MOST_CHARACTERS }
-    ensures ok { IfOk result (λ place. (place ≡ length names.old.items) × (length names.new.items ≤ MOST_CHARACTERS)
+    requires { length names.old.items ≤ MAX_CHARACTERS }
+    ensures ok { IfOk result (λ place. (place ≡ length names.old.items)
+        × (length names.new.items ≤ MAX_CHARACTERS)
         × (names.new.items ≡ names.old.items ++ (name.now ++ 0 ∷ []))) }
     ensures err { IfRefusal fault_of result
-        (λ fault. (fault ≡ fault_at zone_place Kind.TooManyChars) × (MOST_CHARACTERS < length names.old.items + (length name.now + 1))) }
+        (λ fault. (fault ≡ fault_at zone_place Kind.TooManyChars)
+        × (MAX_CHARACTERS < length names.old.items + (length name.now + 1))) }
 {
     let place = names.len();
-    if name.len() >= MOST_CHARACTERS - place {
+    if name.len() >= MAX_CHARACTERS - place {
         return Err(Stop::at(zone_place, Kind::TooManyChars));
     }
     names.extend_from_slice(name)?;

@@ -3,29 +3,21 @@
 ghost use Rattle.std.specs.Prelude.{◌≡◌, ◌<◌, ◌≤◌, [], ◌∷◌, length, map, IfOk};
 ghost use Rattle.std.specs.Option.{MatchOption};
 ghost use Rattle.zic_base.specs.State.{shown};
-ghost use Rattle.zic_table.specs.Image.{same_state};
+ghost use Rattle.zic_table.specs.ContentOf.{same_state};
 ghost use Rattle.zic_table.specs.code.Firsts.{with_new, IsNumbered};
 
-use crate::limit::MOST_TYPES;
 use std::alloc::{AllocError, Global};
 use std::collections::HashMap;
 use std::marker::Model;
 use zic_base::State;
+use zic_content::MAX_TYPES;
 
-/// A state, as a key.
-#[derive(Clone, Copy, PartialEq, Eq, Hash)]
-pub(crate) struct Key<'a> {
-    offset: i32,
-    daylight: bool,
-    name: &'a [u8],
-}
-
-/// Different states, each with a number from 0 in the order in which they came, of which there are at most as many as a
-/// table has local time types; clauses see the states.
+/// Different states, each with a number from 0 in the order in which they came. There are at most
+/// as many as a table has local time types. Clauses see the states.
 #[derive(Drop)]
 pub(crate) struct Numbering<'a> {
     states: Vec<State<'a>>,
-    numbers: HashMap<Key<'a>, u8>,
+    numbers: HashMap<State<'a>, u8>,
 }
 
 impl<'a> Model for Numbering<'a> {
@@ -41,7 +33,7 @@ impl<'a> Model for Numbering<'a> {
 }
 
 impl<'a> Numbering<'a> {
-    /// The numbering of one state.
+    /// Returns the numbering of one state.
     pub(crate) fn new(alloc: Global, first: State<'a>) -> Result<Self, AllocError>
         ensures { IfOk result (λ numbering. numbering ≡ shown first.entry ∷ []) }
     {
@@ -53,36 +45,32 @@ impl<'a> Numbering<'a> {
         Ok(numbering)
     }
 
-    /// The number of a state, which is the next one if the state didn't come before; none where that would be one too many.
+    /// Returns the number of a state, which is the next one if the state didn't come before, or
+    /// `None` where that would be one too many.
     pub(crate) fn number(&mut self, state: State<'a>) -> Result<Option<u8>, AllocError>
         ensures { IfOk result (λ found. MatchOption found
-            (MOST_TYPES < length (with_new same_state self.old (shown state.entry)))
+            (MAX_TYPES < length (with_new same_state self.old (shown state.entry)))
             (IsNumbered self.old self.new (shown state.entry))) }
     {
-        let key = Key {
-            offset: state.offset,
-            daylight: state.daylight,
-            name: state.name,
-        };
-        if let Some(number) = self.numbers.get(&key) {
+        if let Some(number) = self.numbers.get(&state) {
             return Ok(Some(*number));
         }
         let count = self.states.len();
-        let is_full = count >= MOST_TYPES;
+        let is_full = count >= MAX_TYPES;
         if is_full {
             return Ok(None);
         }
         let number = count as u8;
         self.states.reserve(1)?;
-        self.numbers.insert(key, number)?;
+        self.numbers.insert(state, number)?;
         self.states.push(state)?;
         Ok(Some(number))
     }
 
-    /// The states, in the order of their numbers.
+    /// Returns the states, in the order of their numbers.
     pub(crate) fn states(&self) -> &[State<'a>]
         ensures states { map shown result.now ≡ self.now }
-        ensures fit { length self.now ≤ MOST_TYPES }
+        ensures fit { length self.now ≤ MAX_TYPES }
     {
         &self.states
     }

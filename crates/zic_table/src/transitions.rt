@@ -8,21 +8,21 @@ ghost use Rattle.zic_states.specs.Change.{IsFirstState};
 ghost use Rattle.zic_rules.specs.Timeline.{IsWhole};
 ghost use Rattle.zic_table.specs.code.Transitions.{AreTransitions, HasManyTypes};
 
-use crate::content::Change;
 use crate::numbering::Numbering;
 use std::alloc::Global;
 use zic_base::{Kind, Place, State, Stop};
+use zic_content::Change;
 use zic_rules::Timeline;
 
-/// Transitions, and what the numbers of their types stand for.
+/// Transitions, and the states that the numbers of their types stand for.
 #[derive(Drop)]
 pub(crate) struct Numbered<'a> {
     pub(crate) changes: Vec<Change>,
     pub(crate) numbering: Numbering<'a>,
 }
 
-/// The transitions of a zone with this first state, whose Zone line stands at `zone_place`: `TooManyTypes` where they have more
-/// types than a table.
+/// Returns the transitions of a zone with this first state, whose Zone line stands at
+/// `zone_place`, or `TooManyTypes` where they have more types than a table.
 pub(crate) fn transitions<'a>(
     alloc: Global,
     zone_place: Place,
@@ -39,14 +39,11 @@ pub(crate) fn transitions<'a>(
     let count = t.len();
     let mut changes = Vec::with_capacity(alloc, count)?;
     for i in 0..count {
-        let change = t.change(i);
-        let Some(number) = numbering.number(change.state)? else {
+        let (instant, state) = t.change(i);
+        let Some(number) = numbering.number(state)? else {
             return Err(Stop::at(zone_place, Kind::TooManyTypes));
         };
-        changes.push(Change {
-            instant: change.instant,
-            number,
-        })?;
+        changes.push(Change { instant, number })?;
     }
     Ok(Numbered { changes, numbering })
 }

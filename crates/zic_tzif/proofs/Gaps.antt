@@ -1,21 +1,21 @@
 -- The gap between two times that rise.
-use Rattle.std.proofs.Common.{◌≡◌, ℕ, ◌+◌, ◌<◌, ◌≤◌, ℤ, pos, ◌+ℤ◌, ◌-ℤ◌, ◌<ℤ◌, ◌≤ℤ◌, ◌⊎◌, inl, inr, List, length, get_or, AllPairs, Contains, FitsSigned, w64, sym, subst, ◌∙◌, arith}
+use Rattle.std.proofs.Common.{◌≡◌, ℕ, ◌+◌, ◌<◌, ◌≤◌, ℤ, pos, ◌+ℤ◌, ◌-ℤ◌, ◌<ℤ◌, ◌≤ℤ◌, ◌⊎◌, inl, inr, List, length, get_or, AllPairs, Contains, FitsSigned, w64, arith}
 use Rattle.std.proofs.lemmas.Bool.{cases_lt}
 use Rattle.std.proofs.lemmas.Int.{ints}
 use Rattle.std.proofs.lemmas.List.{get_or_default}
 use Rattle.std.proofs.lemmas.List.Elements.{Contains-get_or}
 use Rattle.zic_posix.specs.declared.instants.Instants.{Instants}
-use Rattle.zic_posix.specs.declared.instants.TheConstants.{FIRST_INSTANT, LAST_INSTANT}
+use Rattle.zic_posix.specs.declared.instants.TheConstants.{MIN_INSTANT, MAX_INSTANT}
 use Rattle.zic_posix.specs.Instants.{Includes, AreBetween}
 use Rattle.zic_tzif.specs.code.Window.{IsSplit}
 
 -- the first instant is that of the last time that has come, or the first of all
 abbrev pub IsFirst : List ℤ → ℕ → ℤ → Type 0
-IsFirst times count first = ((count ≡ 0) × (first ≡ FIRST_INSTANT)) ⊎ ((place : ℕ) × (count ≡ place + 1) × (first ≡ get_or times place (pos 0)))
+IsFirst times count first = ((count ≡ 0) × (first ≡ MIN_INSTANT)) ⊎ ((place : ℕ) × (count ≡ place + 1) × (first ≡ get_or times place (pos 0)))
 
 -- the last is just before the next time, or the last of all
 abbrev pub IsLast : List ℤ → ℕ → ℤ → Type 0
-IsLast times count last = ((count ≡ length times) × (last ≡ LAST_INSTANT)) ⊎ ((count < length times) × (last ≡ get_or times count (pos 0) -ℤ pos 1))
+IsLast times count last = ((count ≡ length times) × (last ≡ MAX_INSTANT)) ⊎ ((count < length times) × (last ≡ get_or times count (pos 0) -ℤ pos 1))
 
 module _ (times : List ℤ) (t : ℤ) (count : ℕ) (gap : Instants) (rising : AllPairs (λ a b. a <ℤ b) times) (split : IsSplit times t count)
     (fits : FitsSigned w64 t) (first_is : IsFirst times count gap.first) (last_is : IsLast times count gap.last) where
@@ -37,13 +37,13 @@ module _ (times : List ℤ) (t : ℤ) (count : ℕ) (gap : Instants) (rising : A
     ];
   }
 
-  begins : (gap.first ≡ FIRST_INSTANT) ⊎ Contains times gap.first
+  begins : (gap.first ≡ MIN_INSTANT) ⊎ Contains times gap.first
   begins = elim first_is [
     | inl none ↦ inl none.1
     | inr some ↦ let inside = split.inside in inr (rw some.2 (Contains-get_or times some.0 (pos 0) (omega (arith, some.1, inside))))
   ]
 
-  ends : (gap.last ≡ LAST_INSTANT) ⊎ Contains times (gap.last +ℤ pos 1)
+  ends : (gap.last ≡ MAX_INSTANT) ⊎ Contains times (gap.last +ℤ pos 1)
   ends = elim last_is [
     | inl none ↦ inl none.1
     | inr some ↦ let next : gap.last +ℤ pos 1 ≡ get_or times count (pos 0) = omega (arith, ints, some.1) in inr (rw next (Contains-get_or times count (pos 0) some.0))

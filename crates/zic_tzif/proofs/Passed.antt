@@ -1,4 +1,4 @@
--- What octets that pass all checks of a reader have.
+-- What bytes that pass all checks of a reader have.
 use Rattle.std.proofs.Common.{◌≡◌, ℕ, zero, suc, ◌<◌, ◌≤◌, Bool, true, false, List, [], ◌∷◌, length, Option, None, All, AllPairs, refl, subst, sym, ◌∙◌, arith}
 use Rattle.std.specs.Prelude.{◌<ℤ◌, ◌&&◌, ◌||◌, ◌==◌, nat_lt, if◌then◌else◌, Some, drop}
 use Rattle.std.specs.List.{list_all}
@@ -6,7 +6,7 @@ use Rattle.std.proofs.lemmas.Bool.{and_parts, ltb-true}
 use Rattle.std.proofs.lemmas.List.{length-map}
 use Rattle.std.proofs.lemmas.List.Elements.{All-nil, All-cons}
 use Rattle.zic_base.specs.Check.{Check, check, first_failed}
-use Rattle.zic_table.specs.declared.content.Change.{Change}
+use Rattle.zic_content.specs.declared.content.Change.{Change}
 use Rattle.zic_tzif.specs.declared.reason.Reason.{Reason}
 use Rattle.zic_tzif.specs.declared.reason.Reason.TheVariants as reason
 use Rattle.zic_tzif.specs.Header.{second_counts, types_place}

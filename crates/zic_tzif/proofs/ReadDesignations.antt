@@ -1,10 +1,10 @@
--- Where designations begin, from the last octet back to the first.
+-- Where designations begin, from the last byte back to the first.
 use Rattle.std.proofs.Common.{◌≡◌, ℕ, suc, ◌+◌, ◌<◌, ◌≤◌, Bool, true, false, ◌&&◌, ◌||◌, ◌⊎◌, inl, inr, ◌≢◌, set, List, ◌∷◌, length, drop, take, get_or, drop-cons, refl, sym, ap, ap₂, ◌∙◌, arith}
 use Rattle.std.specs.Prelude.{nat_le, nat_lt, ◌==◌}
 use Rattle.std.specs.List.{list_all, list_any, before_first, position_or_len}
 use Rattle.std.proofs.lemmas.Bool.{le-ltb, ltb-true, ltb-false}
 use Rattle.std.proofs.lemmas.List.{drop_all, get_or-set_same, get_or-set_other}
-use Rattle.zic_table.specs.Designation.{is_designated}
+use Rattle.zic_content.specs.Designation.{is_designated}
 
 abbrev is_nul : ℕ → Bool
 is_nul b = b == 0
@@ -12,7 +12,7 @@ is_nul b = b == 0
 abbrev is_printable : ℕ → Bool
 is_printable b = nat_le 32 b && nat_le b 126
 
--- a designation begins where these octets do
+-- a designation begins where these bytes do
 abbrev begins : List ℕ → Bool
 begins xs = list_any is_nul xs && list_all is_printable (before_first is_nul xs)
 
@@ -31,7 +31,7 @@ begins_by x xs false e =
     let any : list_any is_nul (x ∷ xs) ≡ list_any is_nul xs = rw e refl in
     ap₂ (λ (a : Bool) (ys : List ℕ). a && list_all is_printable ys) any front ∙ swap (list_any is_nul xs) (list_all is_printable (before_first is_nul xs)) (is_printable x)
 
--- behind the last octet none begins
+-- behind the last byte none begins
 pub none_behind : (names : List ℕ) (place : ℕ) → length names ≤ place → is_designated names place ≡ false
 none_behind names place le = rw le-ltb refl
 
@@ -41,7 +41,7 @@ at_drop names place false e =
     let none : begins (drop place names) ≡ false = ap begins (drop_all place names (ltb-false place (length names) e)) in
     rw e (sym none)
 
--- at a place one begins at a NUL, or at a printable octet before a place where one does
+-- at a place one begins at a NUL, or at a printable byte before a place where one does
 pub begins_here : (names : List ℕ) (place : ℕ) → place < length names → is_designated names place ≡ ((get_or names place 0 == 0) || (is_designated names (place + 1) && (nat_le 32 (get_or names place 0) && nat_le (get_or names place 0) 126)))
 begins_here names place lt =
     let x = get_or names place 0 in

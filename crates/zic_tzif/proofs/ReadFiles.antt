@@ -8,18 +8,18 @@ use Rattle.zic_base.specs.Memory.{IfRefusal, NeverRefuses}
 use Rattle.zic_base.proofs.Checks.{each_passes, first_failed-append, first_failed-stops}
 use Rattle.zic_posix.specs.Footer.{TzString}
 use Rattle.zic_posix.specs.Parsing.{NeedsMemory}
-use Rattle.zic_table.specs.declared.content.Change.{Change}
-use Rattle.zic_table.specs.Content.{Content, IsFooter}
-use Rattle.zic_table.specs.Designation.{is_designated}
+use Rattle.zic_content.specs.declared.content.Change.{Change}
+use Rattle.zic_content.specs.Content.{Content, IsFooter}
+use Rattle.zic_content.specs.Designation.{is_designated}
 use Rattle.zic_tzif.specs.declared.data_block.DataBlock.{DataBlock}
-use Rattle.zic_tzif.specs.declared.reading.Parts.{Parts}
+use Rattle.zic_tzif.specs.declared.reader.Parts.{Parts}
 use Rattle.zic_tzif.specs.declared.zone.Zone.{Zone}
 use Rattle.zic_tzif.specs.declared.reason.ReadStop.{ReadStop}
 use Rattle.zic_tzif.specs.declared.reason.Reason.{Reason}
 use Rattle.zic_tzif.specs.declared.reason.Reason.TheVariants as reason
 use Rattle.zic_tzif.specs.Header.{second_counts, footer_place}
 use Rattle.zic_tzif.specs.Block.{type_in, times_in, do_rise, numbers_in, changes_at, type_records, names_in, is_type_record, footer_text}
-use Rattle.zic_tzif.specs.Reading.{first_checks, second_checks, block_checks, footer_checks, checks, content_in, HasFooter, IsWhole, IsFile, IsSomeFile, IsFault, MayWantMemory, reason_of}
+use Rattle.zic_tzif.specs.Reading.{first_checks, second_checks, block_checks, footer_checks, checks, content_in, HasFooter, IsWhole, IsFile, IsSomeFile, IsFault, MayRunOutOfMemory, reason_of}
 use Rattle.zic_tzif.specs.code.Kept.{IsKept}
 use Rattle.zic_tzif.specs.code.Parts.{HasParts, AreParts, times_of, records_of, checks_of, content_of}
 use Rattle.zic_tzif.proofs.Passed.{pieces_length}
@@ -92,7 +92,7 @@ block_same o b parts =
     ∙ ap (λ (names : List ℕ). block_of (times_in o) (numbers_in o) (second_counts o).types (type_records o) names b.indicators.now) parts.names
     ∙ ap (block_of (times_in o) (numbers_in o) (second_counts o).types (type_records o) (names_in o)) parts.indicators
 
--- what the parts say, the octets do
+-- what the parts say, the bytes do
 pub content_is : (o : List ℕ) (p : Parts) → AreParts o p → content_of p ≡ content_in o
 content_is o p parts =
     let said : ℕ → List ℤ → List ℕ → List (List ℕ) → List ℕ → List ℕ → Content = λ version times numbers records names text. record { version = version; changes = changes_at times numbers; types = map type_in records; names = names; text = text } in
@@ -112,7 +112,7 @@ footer_fault o p (Some r) passes parts none =
     fails_later o r passes (inl (none.0, λ has. none.1 (subst HasFooter (sym (content_is o p parts)) has)))
 
 -- memory may be wanting with a long name
-pub footer_memory : (o : List ℕ) (p : Parts) (r : Option Reason) → first_failed (checks o) ≡ None → AreParts o p → IfNone r (NeedsMemory p.version p.text.now) → IfNone r (MayWantMemory o)
+pub footer_memory : (o : List ℕ) (p : Parts) (r : Option Reason) → first_failed (checks o) ≡ None → AreParts o p → IfNone r (NeedsMemory p.version p.text.now) → IfNone r (MayRunOutOfMemory o)
 footer_memory o p (Some r) passes parts needs = tt
 footer_memory o p None passes parts needs =
     inr (passes, subst (λ (content : Content). NeedsMemory content.version content.text) (content_is o p parts) needs)

@@ -11,7 +11,7 @@ one_more count i lt = omega arith
 width_more : (w n : ℕ) → suc n * w ≡ w + n * w
 width_more w n = omega arith
 
--- the octets of the pieces that are left
+-- the bytes of the pieces that are left
 octets_more : (w count i : ℕ) → i < count → (count - i) * w ≡ w + (count - (i + 1)) * w
 octets_more w count i lt = ap (λ n. n * w) (one_more count i lt) ∙ width_more w (count - (i + 1))
 
@@ -43,7 +43,7 @@ module _ {A : Type 0} (f : List ℕ → A) where
       let one : made ++ map f (pieces w (count - i) xs) ≡ made ++ (f (take w xs) ∷ map f (pieces w (count - (i + 1)) (drop w xs))) = ap (λ ps. made ++ map f ps) (pieces_left w count i xs lt) in
       append_assoc made (f (take w xs) ∷ []) (map f (pieces w (count - (i + 1)) (drop w xs))) ∙ sym one ∙ so_far
 
--- octets behind the pieces don't matter
+-- bytes behind the pieces don't matter
 pub pieces-take : (w n : ℕ) (xs : List ℕ) → pieces w n (take (n * w) xs) ≡ pieces w n xs
 pieces-take w zero xs = refl
 pieces-take w (suc n) xs =

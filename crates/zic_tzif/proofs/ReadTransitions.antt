@@ -4,7 +4,7 @@ use Rattle.std.specs.Prelude.{int_lt, int_le}
 use Rattle.std.proofs.lemmas.Int.{ints}
 use Rattle.std.proofs.lemmas.List.{drop-drop}
 use borrow.Author.Differences.{lt-true, lt-false, le-true, le-false}
-use Rattle.zic_table.specs.declared.content.Change.{Change}
+use Rattle.zic_content.specs.declared.content.Change.{Change}
 use Rattle.zic_tzif.specs.Block.{pieces, time_in, do_rise, changes_at}
 use Rattle.zic_tzif.proofs.ReadPieces.{pieces_left, first_piece}
 
@@ -40,7 +40,7 @@ rise_stops count i xs last time total lt is no_later so_far =
     let one : do_rise (behind last count i xs) ≡ false = rise_step count i xs last time lt is ∙ ap (λ b. b && do_rise (behind time count (i + 1) (drop 8 xs))) (comes_no_later last time (int_lt last time) refl no_later) in
     sym one ∙ so_far
 
--- the transition of so many octets and this number
+-- the transition of so many bytes and this number
 abbrev pub change : List ℕ → ℕ → Change
 change octets number = record { instant = time_in octets; number = number }
 

@@ -2,18 +2,16 @@
 use Rattle.std.proofs.Common.{◌≡◌, ℕ, ◌<◌, ◌≤◌, ℤ, pos, ◌+ℤ◌, ◌<ℤ◌, ◌≤ℤ◌, ◌⊎◌, inl, inr, List, [], length, get_or, Any, Contains, Some, None, refl, sym, ap, subst, ◌∙◌, arith, FitsSigned, w64}
 use Rattle.std.specs.Int.{int_max}
 use Rattle.std.proofs.lemmas.Int.{ints, clamps, by_lt_z}
-use Rattle.std.proofs.lemmas.List.{nil_from_length}
 use Rattle.zic_base.specs.State.{Shown}
 use Rattle.zic_posix.specs.declared.instants.Instants.{Instants}
-use Rattle.zic_posix.specs.declared.instants.TheConstants.{FIRST_INSTANT, LAST_INSTANT}
+use Rattle.zic_posix.specs.declared.instants.TheConstants.{MIN_INSTANT, MAX_INSTANT}
 use Rattle.zic_posix.specs.Footer.{TzString}
-use Rattle.zic_posix.specs.Grammar.{Spells}
 use Rattle.zic_posix.specs.Instants.{Includes, AreBetween}
 use Rattle.zic_posix.specs.Meaning.{HasEdgeAt, MeansThroughout}
 use Rattle.zic_posix.proofs.StringLemmas.{spells_one}
-use Rattle.zic_table.specs.declared.content.Change.{Change}
-use Rattle.zic_table.specs.Content.{Content, IsFooter}
-use Rattle.zic_tzif.specs.Answer.{IsBeforeLast, HasTransitionAt, MayChangeAt, AnswersThroughout}
+use Rattle.zic_content.specs.declared.content.Change.{Change}
+use Rattle.zic_content.specs.Content.{Content, IsFooter}
+use Rattle.zic_tzif.specs.Answer.{HasTransitionAt, MayChangeAt, AnswersThroughout}
 use Rattle.zic_tzif.specs.Block.{changes_at}
 use Rattle.zic_tzif.specs.code.After.{IsStateAfter}
 use Rattle.zic_tzif.specs.code.Window.{IsSplit}
@@ -117,7 +115,7 @@ module _ (content : Content) (t : ℤ) (n : ℕ) (gap : Instants) (p : IsPlaced 
   }
 
   -- from the last transition on the gap has no end
-  no_later : length content.changes ≤ n → gap.last ≡ LAST_INSTANT
+  no_later : length content.changes ≤ n → gap.last ≡ MAX_INSTANT
   no_later all = elim p.between.last [
     | inl limit ↦ limit
     | inr transition ↦
@@ -151,7 +149,7 @@ module _ (content : Content) (t : ℤ) (n : ℕ) (gap : Instants) (p : IsPlaced 
   counts : (u : ℤ) → Includes gap u → HasEdgeAt f u → MayChangeAt content u
   counts u there edge = inr (not_before_last content u n (stays content t n gap p u there) all, (f, footer.spells, edge))
 
-  first_change : (instants.first ≡ FIRST_INSTANT) ⊎ MayChangeAt content instants.first
+  first_change : (instants.first ≡ MIN_INSTANT) ⊎ MayChangeAt content instants.first
   first_change =
       by_lt_z gap.first span.first
       (λ lt.
@@ -164,10 +162,10 @@ module _ (content : Content) (t : ℤ) (n : ℕ) (gap : Instants) (p : IsPlaced 
       let same : instants.first ≡ gap.first = omega (arith, ints, clamps, first_is) in
       rw same (elim p.between.first [ inl limit ↦ inl limit | inr transition ↦ inr (inl transition) ]))
 
-  last_change : (instants.last ≡ LAST_INSTANT) ⊎ MayChangeAt content (instants.last +ℤ pos 1)
+  last_change : (instants.last ≡ MAX_INSTANT) ⊎ MayChangeAt content (instants.last +ℤ pos 1)
   last_change =
       let no_end = no_later content t n gap p all in
-      rw last_is (by_lt_z span.last LAST_INSTANT
+      rw last_is (by_lt_z span.last MAX_INSTANT
       (λ lt. elim edges.last [
         | inl limit ↦ inl limit
         | inr edge ↦ inr (counts (span.last +ℤ pos 1) (record { from = omega (arith, ints, p.here.from, asked.to); to = omega (arith, ints, no_end) }) edge)

@@ -9,12 +9,12 @@ use Rattle.std.specs.List.{flat_map}
 use Rattle.byteorder.specs.Endian.{big_bytes, big_number, twos_complement}
 use Rattle.byteorder.specs.Numbers.{big_from-bytes}
 use Rattle.zic_base.specs.declared.limit.TheConstants.{FARTHEST_FILE_OFFSET}
-use Rattle.zic_table.specs.declared.content.Change.{Change}
-use Rattle.zic_table.specs.declared.content.LocalType.{LocalType}
+use Rattle.zic_content.specs.declared.content.Change.{Change}
+use Rattle.zic_content.specs.declared.content.LocalType.{LocalType}
 use Rattle.zic_tzif.specs.Block.{type_in, time_in, pieces}
 use Rattle.zic_tzif.specs.Writing.{time_octets, type_octets}
 
--- a number's four octets are the number
+-- a number's four bytes are the number
 pub number_again : (n : ℕ) (rest : List ℕ) → n < 2 ^ 32 → big_number 4 (big_bytes 4 n ++ rest) ≡ n
 number_again n rest fits = big_from-bytes 4 n rest ∙ mod-eq_of_lt fits
 
@@ -27,7 +27,7 @@ high n k fits sum =
     let less : pos n -ℤ pos (2 ^ 32) ≡ negsuc k = omega (arith, ints) in
     cond-false (ltb n (2 ^ 31)) (pos n) (pos n -ℤ pos (2 ^ 32)) (le-ltb n (2 ^ 31) fits) ∙ less
 
--- an offset's four octets are the offset
+-- an offset's four bytes are the offset
 pub offset_again : (z : ℤ) (rest : List ℕ) → unsigned_abs z ≤ FARTHEST_FILE_OFFSET → twos_complement 4 (big_number 4 (big_bytes 4 (cast_unsigned w32 z) ++ rest)) ≡ z
 offset_again (pos n) rest fits = ap (twos_complement 4) (number_again n rest (omega arith)) ∙ low n (omega arith)
 offset_again (negsuc n) rest fits = ap (twos_complement 4) (number_again (2 ^ 32 - suc n) rest (omega arith)) ∙ high (2 ^ 32 - suc n) n (omega arith) (omega arith)
@@ -36,12 +36,12 @@ flag_again : (b : Bool) → ((if b then 1 else 0) == 1) ≡ b
 flag_again true = refl
 flag_again false = refl
 
--- a type's six octets are the type
+-- a type's six bytes are the type
 pub type_again : (t : LocalType) → unsigned_abs t.offset ≤ FARTHEST_FILE_OFFSET → type_in (type_octets t) ≡ t
 type_again t fits =
     ap₂ (λ (o : ℤ) (d : Bool). record { offset = o; daylight = d; place = t.place }) (offset_again t.offset ((if t.daylight then 1 else 0) ∷ t.place ∷ []) fits) (flag_again t.daylight)
 
--- so many pieces of six octets are the types' octets
+-- so many pieces of six bytes are the types' bytes
 pub types_again : (types : List LocalType) (rest : List ℕ) → pieces 6 (length types) (flat_map type_octets types ++ rest) ≡ map type_octets types
 types_again [] rest = refl
 types_again (t ∷ ts) rest = ap (λ (others : List (List ℕ)). type_octets t ∷ others) (types_again ts rest)
@@ -56,7 +56,7 @@ times_length (c ∷ cs) = omega (arith, times_length cs)
 
 -- ---- transitions
 
--- a number's eight octets are the number
+-- a number's eight bytes are the number
 wide_again : (n : ℕ) → n < 2 ^ 64 → big_number 8 (big_bytes 8 n) ≡ n
 wide_again n fits = big_from-bytes 8 n [] ∙ mod-eq_of_lt fits
 
@@ -72,11 +72,11 @@ instant_again : (z : ℤ) → FitsSigned w64 z → twos_complement 8 (big_number
 instant_again (pos n) fits = ap (twos_complement 8) (wide_again n (omega arith)) ∙ low_wide n (omega arith)
 instant_again (negsuc n) fits = ap (twos_complement 8) (wide_again (2 ^ 64 - suc n) (omega arith)) ∙ high_wide (2 ^ 64 - suc n) n (omega arith) (omega arith)
 
--- a transition's eight octets are its instant
+-- a transition's eight bytes are its instant
 time_again : (c : Change) → FitsSigned w64 c.instant → time_in (time_octets c) ≡ c.instant
 time_again c fits = instant_again c.instant fits
 
--- so many pieces of eight octets are the transitions' times
+-- so many pieces of eight bytes are the transitions' times
 pub times_again : (changes : List Change) (rest : List ℕ) → All (λ (c : Change). FitsSigned w64 c.instant) changes
     → map time_in (pieces 8 (length changes) (flat_map time_octets changes ++ rest)) ≡ map (λ c. c.instant) changes
 times_again [] rest fits = refl

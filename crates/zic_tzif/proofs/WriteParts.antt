@@ -3,15 +3,15 @@ use Rattle.std.proofs.Common.{◌≡◌, ℕ, ◌+◌, ◌*◌, ◌≤◌, List,
 use Rattle.std.proofs.lemmas.List.{length-map}
 use Rattle.std.specs.List.{flat_map}
 use Rattle.byteorder.specs.Endian.{big_bytes, big_number}
-use Rattle.zic_table.specs.declared.content.Change.{Change}
-use Rattle.zic_table.specs.declared.limit.TheConstants.{MOST_TRANSITIONS, MOST_TYPES, MOST_CHARACTERS}
-use Rattle.zic_table.specs.Content.{Content}
+use Rattle.zic_content.specs.declared.content.Change.{Change}
+use Rattle.zic_content.specs.declared.limit.TheConstants.{MAX_TRANSITIONS, MAX_TYPES, MAX_CHARACTERS}
+use Rattle.zic_content.specs.Content.{Content}
 use Rattle.zic_tzif.specs.Header.{Counts, counts_at, second_header, second_block, second_counts, numbers_place, types_place, names_place, indicators_place, footer_place, block_length}
 use Rattle.zic_tzif.specs.Block.{time_in, pieces, times_in, numbers_in, type_records, names_in, indicators_in, behind_newline}
 use Rattle.zic_tzif.specs.Writing.{time_octets, type_octets, written}
 use Rattle.zic_tzif.proofs.WriteBlock.{number_again, times_again, types_again, types_length, times_length}
 
--- the number of octets that are written
+-- the number of bytes that are written
 pub length_written : (content : Content) → length (written content) ≡ 95 + (length content.changes * 9 + length content.types * 6 + length content.names) + 1 + length content.text + 1
 length_written content =
     let times = flat_map time_octets content.changes in
@@ -59,7 +59,7 @@ counts_of content = record {
   characters = length content.names;
 }
 
--- the octets are the written form of the content, part by part
+-- the bytes are the written form of the content, part by part
 pub record IsLaid (octets : List ℕ) (content : Content) : Type 0 where
   pub size : length octets ≡ 95 + (length content.changes * 9 + length content.types * 6 + length content.names) + 1 + length content.text + 1
   pub magic : take 4 octets ≡ 84 ∷ 90 ∷ 105 ∷ 102 ∷ []
@@ -70,7 +70,7 @@ pub record IsLaid (octets : List ℕ) (content : Content) : Type 0 where
   pub counts : counts_at octets 51 ≡ counts_of content
   pub block : drop 95 octets ≡ flat_map time_octets content.changes ++ behind_times content
 
-counts_are : (content : Content) → length content.changes ≤ MOST_TRANSITIONS → length content.types ≤ MOST_TYPES → length content.names ≤ MOST_CHARACTERS → counts_at (written content) 51 ≡ counts_of content
+counts_are : (content : Content) → length content.changes ≤ MAX_TRANSITIONS → length content.types ≤ MAX_TYPES → length content.names ≤ MAX_CHARACTERS → counts_at (written content) 51 ≡ counts_of content
 counts_are content few_changes few short =
     ap₂ (λ (n t : ℕ). record { ut_indicators = 0; standard_indicators = 0; leap_seconds = 0; transitions = n; types = t; characters = big_number 4 (big_bytes 4 (length content.names)) })
     (number_again (length content.changes) [] (omega arith)) (number_again (length content.types) [] (omega arith))
@@ -80,7 +80,7 @@ counts_are content few_changes few short =
 four_parts : (times numbers types names rest : List ℕ) → (((times ++ numbers) ++ types) ++ names) ++ rest ≡ times ++ (numbers ++ (types ++ (names ++ rest)))
 four_parts times numbers types names rest = simp append_assoc
 
-pub is_laid : (content : Content) → length content.changes ≤ MOST_TRANSITIONS → length content.types ≤ MOST_TYPES → length content.names ≤ MOST_CHARACTERS → IsLaid (written content) content
+pub is_laid : (content : Content) → length content.changes ≤ MAX_TRANSITIONS → length content.types ≤ MAX_TYPES → length content.names ≤ MAX_CHARACTERS → IsLaid (written content) content
 is_laid content few_changes few short = record {
   size = length_written content;
   magic = refl;

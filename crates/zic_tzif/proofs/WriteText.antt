@@ -7,7 +7,7 @@ use Rattle.zic_posix.specs.declared.footer.DayRule.{DayRule}
 use Rattle.zic_posix.specs.declared.footer.DayRule.TheVariants.{J, N, M}
 use Rattle.zic_posix.specs.declared.footer.Dst.{Dst}
 use Rattle.zic_posix.specs.declared.footer.Edge.{Edge}
-use Rattle.zic_posix.specs.declared.limit.TheConstants.{MOST_HOURS, MOST_WIDE_HOURS, MOST_MINUTES_OR_SECONDS, LAST_DAY}
+use Rattle.zic_posix.specs.declared.limit.TheConstants.{MAX_HOURS, MAX_WIDE_HOURS, MAX_MINUTES_OR_SECONDS, LAST_DAY}
 use Rattle.zic_posix.specs.Footer.{TzString}
 use Rattle.zic_posix.specs.Grammar.{is_letter, is_digit, SpellsName, SpellsNumber, SpellsPart, SpellsClock, SpellsSigned, SpellsOffset, SpellsTime, SpellsDay, SpellsEdge, SpellsDaylight, Spells}
 
@@ -51,7 +51,7 @@ round_mark mark here front back p q = joined front (mark ∷ back) p (beside mar
 one_line_clock : (longest most : ℕ) (text : List ℕ) (seconds : ℕ) → SpellsClock longest most text seconds → IsOneLine text
 one_line_clock longest most text seconds spelled =
     let hours = one_line_number longest 0 most spelled.hours spelled.h spelled.spells_hours in
-    let part = λ (text : List ℕ) (n : ℕ) (spells : SpellsPart text n). one_line_number 2 0 MOST_MINUTES_OR_SECONDS text n spells in
+    let part = λ (text : List ℕ) (n : ℕ) (spells : SpellsPart text n). one_line_number 2 0 MAX_MINUTES_OR_SECONDS text n spells in
     elim spelled.form [
       | inl whole ↦ moved text spelled.hours whole.0 hours
       | inr (inl more) ↦ moved text (spelled.hours ++ 58 ∷ more.0) more.1 (round_mark 58 (λ e. cc) spelled.hours more.0 hours (part more.0 spelled.m more.2))
@@ -71,11 +71,11 @@ one_line_signed longest most text seconds spelled =
     ]
 
 one_line_offset : (text : List ℕ) (offset : ℤ) → SpellsOffset text offset → IsOneLine text
-one_line_offset text offset spelled = one_line_signed 2 MOST_HOURS text spelled.0 spelled.1
+one_line_offset text offset spelled = one_line_signed 2 MAX_HOURS text spelled.0 spelled.1
 
 one_line_time : (version : ℕ) (text : List ℕ) (time : ℤ) → SpellsTime version text time → IsOneLine text
-one_line_time version text time (inl plain) = one_line_clock 2 MOST_HOURS text plain.1.0 plain.1.1
-one_line_time version text time (inr signed) = one_line_signed 3 MOST_WIDE_HOURS text time signed.1
+one_line_time version text time (inl plain) = one_line_clock 2 MAX_HOURS text plain.1.0 plain.1.1
+one_line_time version text time (inr signed) = one_line_signed 3 MAX_WIDE_HOURS text time signed.1
 
 one_line_day : (text : List ℕ) (day : DayRule) → SpellsDay text day → IsOneLine text
 one_line_day text (J day) spelled = moved text (74 ∷ spelled.0) spelled.1 (beside 74 (λ e. cc) spelled.0 (one_line_number 3 1 LAST_DAY spelled.0 day spelled.2))

@@ -3,11 +3,11 @@ use Rattle.std.specs.Prelude.{ℕ, zero, suc, ◌+◌, Bool, true, ◌&&◌, nat
 use Rattle.std.specs.List.{before_first}
 use Rattle.byteorder.specs.Endian.{big_number, twos_complement}
 use Rattle.zic_base.specs.declared.limit.TheConstants.{FARTHEST_FILE_OFFSET}
-use Rattle.zic_table.specs.declared.content.Change.{Change}
-use Rattle.zic_table.specs.declared.content.LocalType.{LocalType}
+use Rattle.zic_content.specs.declared.content.Change.{Change}
+use Rattle.zic_content.specs.declared.content.LocalType.{LocalType}
 use Rattle.zic_tzif.specs.Header.{second_counts, second_block, numbers_place, types_place, names_place, indicators_place, footer_place}
 
--- six octets of a local time type: its offset, its flag, and the place of its designation
+-- six bytes of a local time type: its offset, its flag, and the place of its designation
 abbrev pub type_in : List ℕ → LocalType
 type_in octets = record {
   offset = twos_complement 4 (big_number 4 octets);
@@ -15,12 +15,12 @@ type_in octets = record {
   place = slice_index octets 5;
 }
 
--- the pieces of this width that stand at the front, so many
+-- n pieces of this width, which stand at the front
 abbrev pub pieces : ℕ → ℕ → List ℕ → List (List ℕ)
 pieces width zero octets = []
 pieces width (suc n) octets = take width octets ∷ pieces width n (drop width octets)
 
--- the time in eight octets
+-- the time in eight bytes
 abbrev pub time_in : List ℕ → ℤ
 time_in octets = twos_complement 8 (big_number 8 octets)
 
@@ -43,7 +43,7 @@ do_rise [] = true
 do_rise (time ∷ []) = true
 do_rise (time ∷ next ∷ times) = int_lt time next && do_rise (next ∷ times)
 
--- the types' octets, and the designations'
+-- the types' bytes, and the designations'
 abbrev pub type_records : List ℕ → List (List ℕ)
 type_records octets = pieces 6 (second_counts octets).types (drop (types_place octets) octets)
 
@@ -54,7 +54,7 @@ names_in octets = take (second_counts octets).characters (drop (names_place octe
 abbrev pub indicators_in : List ℕ → List ℕ
 indicators_in octets = take ((second_counts octets).standard_indicators + (second_counts octets).ut_indicators) (drop (indicators_place octets) octets)
 
--- what stands behind the footer's first newline, and its text, which ends at the next newline
+-- what stands after the footer's first newline, and its text, which ends at the next newline
 abbrev pub behind_newline : List ℕ → List ℕ
 behind_newline octets = drop (footer_place octets + 1) octets
 

@@ -3,11 +3,11 @@ use Rattle.std.specs.Prelude.{ℕ, ◌+◌, ◌*◌, List, drop}
 use Rattle.byteorder.specs.Endian.{big_number}
 pub use Rattle.zic_tzif.specs.declared.header.Counts.{Counts}
 
--- the number in the four octets from a place, the highest first
+-- the number in the four bytes from a place, the highest first
 abbrev pub number_at : List ℕ → ℕ → ℕ
 number_at octets place = big_number 4 (drop place octets)
 
--- the six counts of the header that begins at a place: behind `TZif`, the version and 15 reserved octets
+-- the six counts of the header that begins at a place: after `TZif`, the version and 15 reserved bytes
 abbrev pub counts_at : List ℕ → ℕ → Counts
 counts_at octets place = record {
   ut_indicators = number_at octets (place + 20);
@@ -18,7 +18,7 @@ counts_at octets place = record {
   characters = number_at octets (place + 40);
 }
 
--- how many octets a data block without leap seconds has, where a time has this many
+-- how many bytes a data block without leap seconds has, where a time has this many
 abbrev pub block_length : Counts → ℕ → ℕ
 block_length c width =
     c.transitions * (width + 1) + c.types * 6 + c.characters + c.standard_indicators + c.ut_indicators
@@ -33,8 +33,8 @@ second_block octets = second_header octets + 44
 abbrev pub second_counts : List ℕ → Counts
 second_counts octets = counts_at octets (second_header octets)
 
--- where the numbers of the types at the transitions of the second block begin, behind their times of eight octets; its types, its
--- designations, its indicators, and the footer behind it
+-- where the numbers of the types at the transitions of the second block begin, after their times of eight bytes; its types, its
+-- designations, its indicators, and the footer after it
 abbrev pub numbers_place : List ℕ → ℕ
 numbers_place octets = second_block octets + (second_counts octets).transitions * 8
 

@@ -1,12 +1,12 @@
--- Laws about what octets are a file.
+-- Laws about what bytes are a file.
 use Rattle.std.specs.Prelude.{◌≡◌, ℕ, ℤ, List, Option}
 use Rattle.zic_base.specs.State.{Shown}
-use Rattle.zic_table.specs.Content.{Content}
+use Rattle.zic_content.specs.Content.{Content}
 use Rattle.zic_tzif.specs.Answer.{Answers}
 use Rattle.zic_tzif.specs.declared.reason.Reason.{Reason}
 use Rattle.zic_tzif.specs.Reading.{IsFile, IsFault}
 
--- no octets are both a file and faulty
+-- no bytes are both a file and faulty
 abbrev pub FilesHaveNoFault : Type 0
 FilesHaveNoFault = (octets : List ℕ) (content : Content) (r : Reason) → IsFile octets content → IsFault octets r → ⊥
 
@@ -14,7 +14,7 @@ FilesHaveNoFault = (octets : List ℕ) (content : Content) (r : Reason) → IsFi
 abbrev pub FilesSayOne : Type 0
 FilesSayOne = (octets : List ℕ) (a b : Content) → IsFile octets a → IsFile octets b → a ≡ b
 
--- faulty octets have one reason
+-- faulty bytes have one reason
 abbrev pub FaultsAreOne : Type 0
 FaultsAreOne = (octets : List ℕ) (a b : Reason) → IsFault octets a → IsFault octets b → a ≡ b
 

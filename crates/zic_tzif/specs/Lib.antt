@@ -10,5 +10,5 @@ pub use Rattle.zic_posix.specs.Grammar
 pub use Rattle.zic_posix.specs.Instants
 pub use Rattle.zic_posix.specs.Meaning
 pub use Rattle.zic_base.specs.State
-pub use Rattle.zic_table.specs.Content
-pub use Rattle.zic_table.specs.Designation
+pub use Rattle.zic_content.specs.Content
+pub use Rattle.zic_content.specs.Designation

@@ -1,5 +1,5 @@
--- Which octets are a TZif file, and what it says: RFC 9636, 3. Own choices: versions 2 and 3 alone, no leap seconds, at most 1,048,576
--- octets, indicators looked at one by one, and the order of the checks.
+-- Which bytes are a TZif file, and what it says: RFC 9636, 3. Own choices: versions 2 and 3 alone, no leap seconds, at most 1,048,576
+-- bytes, indicators looked at one by one, and the order of the checks.
 use Rattle.std.specs.Prelude.{◌≡◌, ℕ, ◌+◌, ◌-◌, Bool, ◌&&◌, ◌||◌, nat_lt, nat_le, ◌==◌, List, [], ◌∷◌, ◌++◌, map, length, take, drop, slice_index, Option, Some, None, MatchOption, ◌⊎◌}
 use Rattle.std.specs.List.{list_all, list_any}
 use Rattle.std.specs.Str.{bytes_eq}
@@ -7,8 +7,8 @@ use Rattle.zic_base.specs.Check.{Check, check, first_failed}
 use Rattle.zic_base.specs.declared.limit.TheConstants.{LONGEST_FILE}
 use Rattle.zic_posix.specs.Footer.{TzString}
 use Rattle.zic_posix.specs.Parsing.{NeedsMemory}
-use Rattle.zic_table.specs.Content.{Content, IsFooter}
-use Rattle.zic_table.specs.Designation.{is_designated}
+use Rattle.zic_content.specs.Content.{Content, IsFooter}
+use Rattle.zic_content.specs.Designation.{is_designated}
 use Rattle.zic_tzif.specs.declared.reason.ReadStop.{ReadStop}
 use Rattle.zic_tzif.specs.declared.reason.ReadStop.TheVariants as stop
 use Rattle.zic_tzif.specs.declared.reason.Reason.{Reason}
@@ -27,7 +27,7 @@ first_checks octets =
     ∷ check (nat_le (second_block octets) (length octets)) reason.Short
     ∷ []
 
--- There is a type and an octet of designations; standard indicators are none or one for each type, and so are UT indicators.
+-- There is a type and a byte of designations; standard indicators are none or one for each type, and so are UT indicators.
 abbrev pub are_counts : Counts → Bool
 are_counts c =
     nat_lt 0 c.types && nat_lt 0 c.characters && ((c.standard_indicators == 0) || (c.standard_indicators == c.types))
@@ -64,7 +64,7 @@ footer_checks octets =
 abbrev pub checks : List ℕ → List (Check Reason)
 checks octets = first_checks octets ++ second_checks octets ++ block_checks octets ++ footer_checks octets
 
--- what the octets say, where they are a file
+-- what the bytes say, where they are a file
 abbrev pub content_in : List ℕ → Content
 content_in octets = record {
   version = slice_index octets 4 - 48;
@@ -82,32 +82,32 @@ HasFooter content = (content.text ≡ []) ⊎ ((f : TzString) × IsFooter conten
 abbrev pub IsWhole : List ℕ → Type 0
 IsWhole octets = length octets ≡ footer_place octets + length (footer_text octets) + 2
 
--- the octets are a file, and this is what it says
+-- the bytes are a file, and this is what it says
 pub record IsFile (octets : List ℕ) (content : Content) : Type 0 where
   pub passes : first_failed (checks octets) ≡ None
   pub footer : HasFooter content
   pub whole : IsWhole octets
   pub says : content ≡ content_in octets
 
--- the first check that the octets fail has this reason
+-- the first check that the bytes fail has this reason
 abbrev pub IsFault : List ℕ → Reason → Type 0
 IsFault octets r = MatchOption (first_failed (checks octets))
     (((r ≡ reason.Footer) × (HasFooter (content_in octets) → ⊥))
     ⊎ ((r ≡ reason.TrailingBytes) × HasFooter (content_in octets) × (IsWhole octets → ⊥)))
     (λ first. r ≡ first)
 
--- the octets are a file
+-- the bytes are a file
 abbrev pub IsSomeFile : List ℕ → Type 0
 IsSomeFile octets = (content : Content) × IsFile octets content
 
--- Where memory may be wanting: with octets that are a file, or that pass all checks up to the second newline, with a footer's text that
+-- Where a reader may run out of memory: with bytes that are a file, or that pass all checks up to the second newline, with a footer's text that
 -- spells a TZ string with a long name. Whether such a footer agrees with the last transition is seen by what takes memory.
-abbrev pub MayWantMemory : List ℕ → Type 0
-MayWantMemory octets =
+abbrev pub MayRunOutOfMemory : List ℕ → Type 0
+MayRunOutOfMemory octets =
     IsSomeFile octets
     ⊎ ((first_failed (checks octets) ≡ None) × NeedsMemory (content_in octets).version (footer_text octets))
 
--- the reason that a reader tells, and nothing where it is want of memory
+-- the reason that a reader tells, and nothing where it is out of memory
 abbrev pub reason_of : ReadStop → Option Reason
 reason_of (stop.Bad reason) = Some reason
 reason_of stop.Memory = None

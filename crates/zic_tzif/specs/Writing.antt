@@ -1,12 +1,12 @@
--- The one form in which a file is written. Own choice: a first block of one type and one octet of designations, all 0, no
--- indicators, reserved octets 0.
+-- The one form in which a file is written. Own choice: a first block of one type and one byte of designations, all 0, no
+-- indicators, reserved bytes 0.
 use Rattle.std.specs.Prelude.{ℕ, ◌+◌, if◌then◌else◌, List, [], ◌∷◌, ◌++◌, map, length, replicate}
 use Rattle.std.specs.Int.{w32, w64, cast_unsigned}
 use Rattle.std.specs.List.{flat_map}
 use Rattle.byteorder.specs.Endian.{big_bytes}
-use Rattle.zic_table.specs.declared.content.Change.{Change}
-use Rattle.zic_table.specs.declared.content.LocalType.{LocalType}
-use Rattle.zic_table.specs.Content.{Content, IsWritable}
+use Rattle.zic_content.specs.declared.content.Change.{Change}
+use Rattle.zic_content.specs.declared.content.LocalType.{LocalType}
+use Rattle.zic_content.specs.Content.{Content, IsWritable}
 use Rattle.zic_tzif.specs.Reading.{IsFile}
 
 -- a header of this version, without indicators and leap seconds
@@ -21,7 +21,7 @@ type_octets t = big_bytes 4 (cast_unsigned w32 t.offset) ++ (if t.daylight then 
 abbrev pub time_octets : Change → List ℕ
 time_octets c = big_bytes 8 (cast_unsigned w64 c.instant)
 
--- the octets of a content
+-- the bytes of a content
 abbrev pub written : Content → List ℕ
 written content =
     header content.version 0 1 1 ++ replicate 7 0

@@ -2,4 +2,5 @@
 pub mod After
 pub mod Kept
 pub mod Parts
+pub mod Stored
 pub mod Window

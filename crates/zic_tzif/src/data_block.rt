@@ -11,21 +11,21 @@ use crate::type_record::{RECORD_LENGTH, are_designated, are_type_records};
 /// A data block without leap seconds, cut into its parts.
 #[derive(Clone, Copy)]
 pub struct DataBlock<'a> {
-    /// How many transitions there are.
+    /// The number of transitions.
     pub transitions: u32,
     /// Their times.
     pub times: &'a [u8],
     /// The numbers of the types that begin at them.
     pub numbers: &'a [u8],
-    /// How many local time types there are.
+    /// The number of local time types.
     pub types: u32,
     /// Their records.
     pub records: &'a [u8],
-    /// The octets of designations.
+    /// The bytes of designations.
     pub names: &'a [u8],
     /// The standard and UT indicators.
     pub indicators: &'a [u8],
-    /// The place behind the block.
+    /// The place after the block.
     pub end: usize,
     ghost times_are_there: { transitions * 8 ≤ length times.now },
     ghost numbers_are_there: { length numbers.now ≡ transitions },
@@ -36,7 +36,7 @@ impl<'a> DataBlock<'a> {
     ghost use Rattle.zic_tzif.specs.Header.{block_length, second_block, second_counts};
     ghost use Rattle.zic_tzif.specs.code.Parts.{Checks, HasParts, checks_of};
 
-    /// The second data block, which begins at `place`.
+    /// Cuts the second data block, which begins at `place`, into its parts.
     pub fn second(octets: &'a [u8], place: usize, counts: Counts) -> Self
         requires place { place ≡ second_block octets.now }
         requires counts { counts ≡ second_counts octets.now }
@@ -63,8 +63,8 @@ impl<'a> DataBlock<'a> {
         }
     }
 
-    /// Checks the times, the numbers of their types, the designations, the other octets of the records, and the
-    /// indicators, in this order.
+    /// Checks the times, the numbers of their types, the designations, the other bytes of the
+    /// records, and the indicators, in this order.
     pub fn check(&self) -> Result<(), Reason>
         ensures { Checks (checks_of self.now) (λ _. Unit {0}) result }
     {
@@ -87,7 +87,7 @@ impl<'a> DataBlock<'a> {
     }
 }
 
-/// Whether each indicator is 0 or 1.
+/// Returns whether each indicator is 0 or 1.
 fn are_indicators(octets: &[u8]) -> bool
     ensures { result ≡ list_all (λ b. nat_le b 1) octets.now }
 {

@@ -5,9 +5,9 @@ ghost use Rattle.zic_posix.specs.Instants.{Includes, AreBetween};
 ghost use Rattle.zic_tzif.specs.code.Window.{IsSplit};
 
 use crate::times::Times;
-use zic_posix::{FIRST_INSTANT, Instants, LAST_INSTANT};
+use zic_posix::{Instants, MAX_INSTANT, MIN_INSTANT};
 
-/// How many times come before a gap or at its first instant, and the gap's instants.
+/// The number of times before a gap or at its first instant, and the gap's instants.
 #[derive(Clone, Copy)]
 pub struct Gap {
     pub count: usize,
@@ -15,7 +15,7 @@ pub struct Gap {
 }
 
 impl Times {
-    /// The gap in which an instant lies. The times rise.
+    /// Returns the gap in which an instant lies. The times rise.
     pub fn gap_at(&self, t: i64) -> Gap
         requires { AllPairs (λ a b. a <ℤ b) self.now.times.items }
         ensures count { IsSplit self.now.times.items t result.count }
@@ -25,12 +25,12 @@ impl Times {
         let times = self.times.as_slice();
         let count = self.count_not_after(t);
         let first = if count == 0 {
-            FIRST_INSTANT
+            MIN_INSTANT
         } else {
             times[count - 1]
         };
         let last = if count == times.len() {
-            LAST_INSTANT
+            MAX_INSTANT
         } else {
             times[count] - 1
         };

@@ -6,7 +6,7 @@ ghost use Rattle.zic_tzif.specs.Reading.{are_counts};
 
 use byteorder::{BigEndian, ByteOrder};
 
-/// How many octets a header has.
+/// The length of a header in bytes.
 pub const HEADER_LENGTH: usize = 44;
 
 /// The six counts of a header, in their order.
@@ -20,7 +20,7 @@ pub struct Counts {
     pub characters: u32,
 }
 
-/// The counts of the header at a place.
+/// Returns the counts of the header at a place.
 pub fn counts_at(octets: &[u8], place: usize) -> Counts
     requires { place + 44 ≤ length octets.now }
     ensures { result ≡ counts_at octets.now place }
@@ -36,7 +36,8 @@ pub fn counts_at(octets: &[u8], place: usize) -> Counts
 }
 
 impl Counts {
-    /// How many octets a data block without leap seconds has, where a time has `width`.
+    /// Returns the length in bytes of a data block without leap seconds, where a time has `width`
+    /// bytes.
     pub fn block_length(self, width: usize) -> usize
         requires { width ≤ 8 }
         ensures { result ≡ block_length self width }
@@ -48,8 +49,8 @@ impl Counts {
             + self.ut_indicators as usize
     }
 
-    /// Whether a second data block may have these counts: it has a type, designations, and for each type an indicator or
-    /// for none.
+    /// Returns whether a second data block may have these counts: it has a type, designations, and
+    /// for each type an indicator or for none.
     pub fn are_readable(self) -> bool
         ensures { result ≡ are_counts self }
     {

@@ -1,8 +1,8 @@
-//! Laws about the definitions that the contracts cite. These functions do nothing.
+//! Laws of TZif files, each the contract of a function. No function here does anything.
 
 ghost use Rattle.zic_tzif.specs.Laws.{FilesHaveNoFault, FilesSayOne, FaultsAreOne, FilesAnswerOnce};
 
-/// No octets are both a file and faulty.
+/// No bytes are both a file and faulty.
 pub fn files_have_no_fault()
     ensures { FilesHaveNoFault }
 {}
@@ -12,7 +12,7 @@ pub fn files_say_one()
     ensures { FilesSayOne }
 {}
 
-/// Faulty octets have one reason.
+/// Faulty bytes have one reason.
 pub fn faults_are_one()
     ensures { FaultsAreOne }
 {}

@@ -1,4 +1,5 @@
-//! TZif files, as RFC 9636 has them: octets out and in, and what they answer at an instant.
+//! TZif files, as RFC 9636 has them: from bytes, as bytes, and what they answer at an instant. The
+//! tests stand in `zone_tests`.
 #![tactic(auto)]
 
 mod data_block;
@@ -6,16 +7,17 @@ mod designation;
 mod gap;
 mod header;
 pub mod laws;
-mod reading;
+mod reader;
 mod reason;
+mod stored;
 mod times;
 mod transition;
 mod type_record;
-mod writing;
+mod writer;
 mod zone;
 
-pub use reading::read;
+pub use reader::read;
 pub use reason::{ReadStop, Reason};
-pub use writing::{write, written_is_file};
+pub use writer::{write, written_is_file};
 pub use zic_posix::Instants;
-pub use zone::{Answer, Span, Zone};
+pub use zone::{Answer, AnswerSpan, Zone};

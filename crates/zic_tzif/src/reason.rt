@@ -1,19 +1,20 @@
-//! Why octets are no TZif file.
+//! Reasons why bytes are no TZif file.
 
 use std::alloc::{AllocError, AllocFailed};
 
 /// The check of a reader that fails first.
 #[derive(Clone, Copy, Debug, PartialEq, Eq)]
 pub enum Reason {
-    /// The octets end before the file does.
+    /// The bytes end before the file does.
     Short = 1,
     /// They do not begin with `TZif`.
     Magic = 2,
     /// The version is neither 2 nor 3.
     Version = 3,
-    /// The second header's first five octets are not those of the first.
+    /// The second header's first five bytes are not those of the first.
     HeadersDiffer = 4,
-    /// There is no type or no designation, or the number of standard or UT indicators is neither 0 nor that of the types.
+    /// There is no type or no designation, or the number of standard or UT indicators is neither 0
+    /// nor that of the types.
     Counts = 5,
     /// There are leap seconds.
     LeapSeconds = 6,
@@ -27,15 +28,16 @@ pub enum Reason {
     TypeRecord = 10,
     /// An indicator is neither 0 nor 1.
     Indicators = 11,
-    /// No newline and TZ string stand where the footer does, or it disagrees with the last transition.
+    /// No newline and TZ string stand where the footer does, or it disagrees with the last
+    /// transition.
     Footer = 12,
-    /// Octets follow the footer.
+    /// Bytes follow the footer.
     TrailingBytes = 13,
-    /// There are more than 1,048,576 octets.
+    /// There are more than 1,048,576 bytes.
     TooLarge = 14,
 }
 
-/// Why a file isn't read.
+/// The reason why a file isn't read.
 #[derive(Clone, Copy, Debug, PartialEq, Eq)]
 pub enum ReadStop {
     /// The first check that fails.

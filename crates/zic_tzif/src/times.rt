@@ -3,20 +3,21 @@
 ghost use Rattle.std.specs.Prelude.{◌≡◌, ◌+◌, ◌*◌, ◌<◌, ◌≤◌, ◌^◌, ◌<ℤ◌, length, AllPairs};
 ghost use Rattle.zic_tzif.specs.code.Window.{IsWindow, IsSplit, AreLevels};
 
-/// How many of the last halvings the compiler may write out one by one: those of the zones in use.
+/// The most halvings, at the end of a search, that the compiler may write out one by one: those of
+/// the zones in use.
 const SHORT: u32 = 7;
 
 /// Times, and what a search among them needs where they rise.
 #[derive(Debug, Drop)]
 pub struct Times {
     pub times: Vec<i64>,
-    /// How often the times are halved.
+    /// The number of halvings.
     levels: u32,
     ghost levels_are: { AreLevels levels (length times.items) },
 }
 
 impl Times {
-    /// These times.
+    /// Returns these times, ready to be searched.
     pub fn new(times: Vec<i64>) -> Times
         ensures { result.times ≡ times }
     {
@@ -24,7 +25,7 @@ impl Times {
         Times { times, levels }
     }
 
-    /// How many of the times aren't after an instant. The times rise.
+    /// Counts the times that aren't after an instant. The times rise.
     pub fn count_not_after(&self, t: i64) -> usize
         requires { AllPairs (λ a b. a <ℤ b) self.now.times.items }
         ensures { IsSplit self.now.times.items t result }
@@ -40,7 +41,8 @@ impl Times {
     }
 }
 
-/// The window of so many levels, at the front or at the end, in which the times pass `t`.
+/// Returns the window of this many levels, at the front or at the end, in which the times pass
+/// `t`.
 fn first_window(times: &[i64], levels: u32, t: i64) -> usize
     requires rising { AllPairs (λ a b. a <ℤ b) times.now }
     requires levels { AreLevels levels (length times.now) }
@@ -58,7 +60,7 @@ fn first_window(times: &[i64], levels: u32, t: i64) -> usize
     }
 }
 
-/// The half of a window in which the times pass `t`.
+/// Returns the half of a window in which the times pass `t`.
 fn halve(times: &[i64], base: usize, level: u32, t: i64) -> usize
     requires rising { AllPairs (λ a b. a <ℤ b) times.now }
     requires window { IsWindow times.now t base (level + 1) }
@@ -66,11 +68,12 @@ fn halve(times: &[i64], base: usize, level: u32, t: i64) -> usize
     ensures { IsWindow times.now t result level }
 {
     let half = 1usize << level;
-    // A shift: the compiler makes a branch of a choice, and the processor would guess it wrong every other time.
+    // A shift: the compiler makes a branch of a choice, and the processor would guess it wrong
+    // every other time.
     base + (usize::from(times[base + half - 1] <= t) << level)
 }
 
-/// Where in a short window the times pass `t`.
+/// Returns the place in a short window at which the times pass `t`.
 fn narrow(times: &[i64], base: usize, level: u32, t: i64) -> usize
     requires rising { AllPairs (λ a b. a <ℤ b) times.now }
     requires window { IsWindow times.now t base level }

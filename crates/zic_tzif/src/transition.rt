@@ -6,12 +6,12 @@ ghost use Rattle.zic_tzif.specs.Block.{pieces, time_in, do_rise, changes_at};
 
 use byteorder::{BigEndian, ByteOrder};
 use std::alloc::{AllocError, Global};
-use zic_table::Change;
+use zic_content::Change;
 
-/// How many octets a time has.
+/// The length of a time in bytes.
 pub const TIME_LENGTH: usize = 8;
 
-/// The time in eight octets.
+/// Returns the time in eight bytes.
 fn time_in(octets: &[u8]) -> i64
     requires { 8 ≤ length octets.now }
     ensures { result ≡ time_in octets.now }
@@ -19,7 +19,7 @@ fn time_in(octets: &[u8]) -> i64
     BigEndian::read_i64(octets)
 }
 
-/// Whether each of so many times comes before the next.
+/// Returns whether each of `count` times comes before the next.
 pub fn do_rise(count: u32, times: &[u8]) -> bool
     requires { count * 8 ≤ length times.now }
     ensures { result ≡ do_rise (map time_in (pieces 8 count times.now)) }
@@ -41,18 +41,19 @@ pub fn do_rise(count: u32, times: &[u8]) -> bool
     true
 }
 
-/// Whether each of the numbers is that of a type.
+/// Returns whether each of the numbers is that of a type.
 pub fn have_types(numbers: &[u8], types: u32) -> bool
     ensures { result ≡ list_all (λ number. nat_lt number types) numbers.now }
 {
     numbers.iter().all(|number| u32::from(*number) < types)
 }
 
-/// The last transition, if there is one.
+/// Returns the last transition, if there is one.
 pub fn last_change(times: &[u8], numbers: &[u8]) -> Option<Change>
     requires { length numbers.now * 8 ≤ length times.now }
     ensures { result
-        ≡ slice_get (changes_at (map time_in (pieces 8 (length numbers.now) times.now)) numbers.now)
+        ≡ slice_get
+        (changes_at (map time_in (pieces 8 (length numbers.now) times.now)) numbers.now)
         (length numbers.now - 1) }
 {
     let number = *numbers.last()?;
@@ -61,7 +62,7 @@ pub fn last_change(times: &[u8], numbers: &[u8]) -> Option<Change>
     Some(Change { instant, number })
 }
 
-/// So many times.
+/// Returns `count` times.
 pub fn times(alloc: Global, count: usize, octets: &[u8]) -> Result<Vec<i64>, AllocError>
     requires { count * 8 ≤ length octets.now }
     ensures { IfOk result (λ v. v.items ≡ map time_in (pieces 8 count octets.now)) }

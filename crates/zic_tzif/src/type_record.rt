@@ -2,19 +2,19 @@
 
 ghost use Rattle.std.specs.Prelude.{◌≡◌, ◌*◌, ◌<◌, ◌≤◌, length, map, slice_get, Some, IfOk};
 ghost use Rattle.std.specs.List.{list_all};
-ghost use Rattle.zic_table.specs.Designation.{is_designated};
+ghost use Rattle.zic_content.specs.Designation.{is_designated};
 ghost use Rattle.zic_tzif.specs.Block.{pieces, type_in, is_type_record};
 
 use crate::designation::designated_places;
 use byteorder::{BigEndian, ByteOrder};
 use std::alloc::{AllocError, Global};
 use zic_base::FARTHEST_FILE_OFFSET;
-use zic_table::LocalType;
+use zic_content::LocalType;
 
-/// How many octets a record has.
+/// The length of a record in bytes.
 pub const RECORD_LENGTH: usize = 6;
 
-/// The local time type of a record.
+/// Returns the local time type of a record.
 fn local_type(octets: &[u8]) -> LocalType
     requires { 6 ≤ length octets.now }
     ensures { result ≡ type_in octets.now }
@@ -26,7 +26,7 @@ fn local_type(octets: &[u8]) -> LocalType
     }
 }
 
-/// The local time type of this number, of so many.
+/// Returns the local time type of this number, of `count` types.
 pub fn type_at(count: u32, records: &[u8], number: u8) -> LocalType
     requires enough { count * 6 ≤ length records.now }
     requires inside { number < count }
@@ -36,7 +36,7 @@ pub fn type_at(count: u32, records: &[u8], number: u8) -> LocalType
     local_type(&records[place..place + RECORD_LENGTH])
 }
 
-/// Whether a record's flag is 0 or 1, and its offset within 25:59:59 either way.
+/// Returns whether a record's flag is 0 or 1, and its offset within 25:59:59 either way.
 fn is_type_record(octets: &[u8]) -> bool
     requires { 6 ≤ length octets.now }
     ensures { result ≡ is_type_record octets.now }
@@ -44,7 +44,7 @@ fn is_type_record(octets: &[u8]) -> bool
     octets[4] <= 1 && BigEndian::read_i32(octets).unsigned_abs() <= FARTHEST_FILE_OFFSET
 }
 
-/// Whether each of so many records has a designation.
+/// Returns whether each of `count` records has a designation.
 pub fn are_designated(count: u32, records: &[u8], names: &[u8]) -> bool
     requires { count * 6 ≤ length records.now }
     ensures { result
@@ -62,7 +62,7 @@ pub fn are_designated(count: u32, records: &[u8], names: &[u8]) -> bool
     true
 }
 
-/// Whether the flags and offsets of so many records are right.
+/// Returns whether the flags and offsets of `count` records are right.
 pub fn are_type_records(count: u32, records: &[u8]) -> bool
     requires { count * 6 ≤ length records.now }
     ensures { result ≡ list_all is_type_record (pieces 6 count records.now) }
@@ -78,7 +78,7 @@ pub fn are_type_records(count: u32, records: &[u8]) -> bool
     true
 }
 
-/// The local time types of so many records.
+/// Returns the local time types of `count` records.
 pub fn local_types(alloc: Global, count: u32, records: &[u8]) -> Result<Vec<LocalType>, AllocError>
     requires { count * 6 ≤ length records.now }
     ensures { IfOk result (λ v. v.items ≡ map type_in (pieces 6 count records.now)) }

@@ -1,31 +1,32 @@
-//! A file that was read, and what it answers.
+//! Files that were read, and what they answer.
 
 ghost use Rattle.std.specs.Prelude.{◌≡◌, ◌<◌, ◌≤◌, length, map, All, IfOk};
-ghost use Rattle.zic_table.specs.Content.{IsLocalType};
+ghost use Rattle.zic_content.specs.Content.{IsLocalType};
 ghost use Rattle.zic_tzif.specs.code.Kept.{name_length};
 
 use crate::designation::{designation, designation_of};
+use crate::stored::Stored;
 use crate::times::Times;
 use std::alloc::{AllocError, Global};
 use std::marker::Model;
 use zic_base::State;
+use zic_content::LocalType;
 use zic_posix::Footer;
-use zic_table::LocalType;
 
 mod span;
 
-pub use span::Span;
+pub use span::AnswerSpan;
 
 /// A TZif file that was read.
 #[derive(Debug, Drop)]
 pub struct Zone {
     version: u8,
-    /// Of the transitions.
+    /// The times of the transitions.
     times: Times,
-    /// Of the types that begin at the transitions.
+    /// The numbers of the types that begin at the transitions.
     numbers: Vec<u8>,
     types: Vec<LocalType>,
-    /// Of the types' designations.
+    /// The lengths of the types' designations.
     lengths: Vec<usize>,
     names: Vec<u8>,
     text: Vec<u8>,
@@ -33,7 +34,7 @@ pub struct Zone {
 }
 
 impl Model for Zone {
-    ghost use Rattle.zic_table.specs.Content.{Content};
+    ghost use Rattle.zic_content.specs.Content.{Content};
 
     ghost Value = { Content };
 
@@ -57,10 +58,10 @@ impl Model for Zone {
     }) z.footer };
 }
 
-/// What a file says of an instant.
+/// The answer of a file at an instant.
 #[derive(Clone, Copy, Debug, PartialEq, Eq)]
 pub enum Answer<'a> {
-    /// Local time is this.
+    /// Local time is this state.
     Known(State<'a>),
     /// The file leaves local time open from its last transition on.
     Unspecified,
@@ -70,58 +71,54 @@ impl Zone {
     ghost use Rattle.zic_base.specs.State.{shown};
     ghost use Rattle.zic_tzif.specs.Answer.{Answers, answered};
     ghost use Rattle.zic_tzif.specs.code.After.{IsNumberAfter, IsStateAfter};
-    ghost use Rattle.zic_table.specs.Content.{IsStateOfType};
+    ghost use Rattle.zic_content.specs.Content.{IsStateOfType};
     ghost use Rattle.zic_tzif.specs.code.Kept.{IsKept};
-    ghost use Rattle.zic_tzif.specs.Block.{changes_at};
+    ghost use Rattle.zic_tzif.specs.code.Stored.{stored_content};
 
-    /// A zone of these parts: the times of its transitions and the numbers of the types that begin at them, the types, the
-    /// octets of designations, and the footer's text and the footer.
+    /// Returns the zone of these parts, with the footer of their text.
     pub(crate) fn new(
         alloc: Global,
-        version: u8,
-        times: Vec<i64>,
-        numbers: Vec<u8>,
-        types: Vec<LocalType>,
-        names: Vec<u8>,
-        text: Vec<u8>,
+        stored: Stored,
         footer: Option<Footer>,
     ) -> Result<Zone, AllocError>
-        requires as_many { length times.items ≡ length numbers.items }
-        requires kept { IsKept (record { version = version; changes = changes_at times.items numbers.items; types = types.items; names = names.items; text = text.items }) footer }
-        ensures { IfOk result (λ zone. zone ≡ record { version = version; changes = changes_at times.items numbers.items; types = types.items; names = names.items; text = text.items }) }
+        requires as_many { length stored.times.items ≡ length stored.numbers.items }
+        requires kept { IsKept (stored_content stored) footer }
+        ensures { IfOk result (λ zone. zone ≡ stored_content stored) }
     {
-        let lengths = name_lengths(alloc, &names, &types)?;
+        let lengths = name_lengths(alloc, &stored.names, &stored.types)?;
         Ok(Zone {
-            version,
-            times: Times::new(times),
-            numbers,
-            types,
+            version: stored.version,
+            times: Times::new(stored.times),
+            numbers: stored.numbers,
+            types: stored.types,
             lengths,
-            names,
-            text,
+            names: stored.names,
+            text: stored.text,
             footer,
         })
     }
 
-    /// The footer, without its newlines.
+    /// Returns the footer, without its newlines.
     pub fn footer_text(&self) -> &[u8]
         ensures { result.now ≡ self.now.text }
     {
         &self.text
     }
 
-    /// The file's version, 2 or 3.
+    /// Returns the file's version, 2 or 3.
     pub fn version(&self) -> u8
         ensures { result ≡ self.now.version }
     {
         self.version
     }
 
-    /// Local time at an instant, in seconds from 1970-01-01T00:00:00 UT, without leap seconds. RFC 9636, 3.2 and 3.3.
+    /// Returns local time at an instant, in seconds from 1970-01-01T00:00:00 UT, without leap
+    /// seconds. RFC 9636, 3.2 and 3.3.
     ///
-    /// Before the first transition it is that of the first type, then that of the last transition's type, and from the last
-    /// transition on the footer's. It is left open from the last transition on where there is no footer; with neither it is
-    /// that of the first type. Takes a binary search.
+    /// Before the first transition it is that of the first type, then that of the last
+    /// transition's type, and from the last transition on the footer's. It is left open from the
+    /// last transition on where there is no footer; with neither it is that of the first type.
+    /// Takes a binary search.
     pub fn at(&self, t: i64) -> Answer<'_>
         ensures { Answers self.now t (answered result) }
     {
@@ -136,7 +133,7 @@ impl Zone {
         }
     }
 
-    /// Local time of the type in force after so many transitions.
+    /// Returns local time of the type in force after `count` transitions.
     fn state_after(&self, count: usize) -> State<'_>
         requires { count ≤ length self.now.changes }
         ensures { IsStateAfter self.now count (shown result) }
@@ -144,7 +141,7 @@ impl Zone {
         self.state_of(self.number_after(count))
     }
 
-    /// The number of the type in force after so many transitions.
+    /// Returns the number of the type in force after `count` transitions.
     fn number_after(&self, count: usize) -> u8
         requires { count ≤ length self.now.changes }
         ensures number { IsNumberAfter self.now.changes count result }
@@ -157,7 +154,7 @@ impl Zone {
         numbers[count - 1]
     }
 
-    /// Local time of the type of a number.
+    /// Returns local time of the type of a number.
     fn state_of(&self, number: u8) -> State<'_>
         requires { number < length self.now.types }
         ensures { IsStateOfType self.now number (shown result) }
@@ -172,7 +169,7 @@ impl Zone {
     }
 }
 
-/// The lengths of the types' designations.
+/// Returns the lengths of the types' designations.
 fn name_lengths(alloc: Global, names: &[u8], types: &[LocalType]) -> Result<Vec<usize>, AllocError>
     requires { All (IsLocalType names.now) types.now }
     ensures { IfOk result (λ v. v.items ≡ map (name_length names.now) types.now) }

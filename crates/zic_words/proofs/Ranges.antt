@@ -12,7 +12,7 @@ use Rattle.zic_calendar.specs.declared.day_form.On.{On}
 use Rattle.zic_calendar.specs.declared.day_form.On.TheVariants.{Day, Last, After, Before}
 use Rattle.zic_words.specs.declared.clock.ClockForm.{ClockForm}
 use Rattle.zic_words.specs.declared.clock.TheConstants.{LATEST_TIME}
-use Rattle.zic_words.specs.declared.time.TheConstants.{MOST_DIGITS, GREATEST_OFFSET}
+use Rattle.zic_words.specs.declared.time.TheConstants.{MAX_DIGITS, GREATEST_OFFSET}
 use Rattle.zic_words.specs.declared.year.TheConstants.{FIRST_YEAR, LAST_YEAR}
 use Rattle.zic_words.specs.Parts.{split_at_most_once}
 use Rattle.zic_words.specs.Dash.{is_dash}
@@ -104,7 +104,7 @@ between low high o =
 
 pub year_within : (field : List ℕ) → IfSome (year_of field) IsYear
 unfolding year_of
-year_within field = between FIRST_YEAR LAST_YEAR (number MOST_DIGITS field)
+year_within field = between FIRST_YEAR LAST_YEAR (number MAX_DIGITS field)
 
 -- the last year is one that a line may name, where the first is
 pub last_year_within : (first : ℕ) (field : List ℕ) → IsYear first → IfSome (last_year_of first field) (λ last. IfSome last IsYear)

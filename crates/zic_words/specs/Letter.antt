@@ -9,7 +9,7 @@ use Rattle.zic_words.specs.Dash.{is_dash}
 abbrev pub is_letter : List ℕ → Bool
 is_letter octets = nat_le (length octets) LONGEST_LETTER && list_all is_abbreviation_byte octets
 
--- the octets without those of `-`, which is the empty letter
+-- the bytes without those of `-`, which is the empty letter
 abbrev pub without_dash : List ℕ → List ℕ
 without_dash field = if is_dash field then [] else field
 

@@ -12,3 +12,4 @@ pub mod Saving
 pub mod Letter
 pub mod SetName
 pub mod Laws
+pub mod Limits

@@ -3,7 +3,7 @@ use Rattle.std.specs.Prelude.{◌≡◌, ℕ, ◌+◌, ◌-◌, ◌*◌, ◌/◌
 use Rattle.std.specs.List.{slice_split, list_all}
 use Rattle.std.specs.Char.{is_ascii_digit}
 use Rattle.zic_base.specs.Option.{◌>>=◌}
-use Rattle.zic_words.specs.declared.time.TheConstants.{MOST_DIGITS, GREATEST_OFFSET}
+use Rattle.zic_words.specs.declared.time.TheConstants.{MAX_DIGITS, GREATEST_OFFSET}
 use Rattle.zic_words.specs.Parts.{one_or_two, split_at_most_once}
 use Rattle.zic_words.specs.Dash.{is_dash}
 
@@ -23,7 +23,7 @@ sixtieths text = do
 
 -- one to nine decimals of a second, in billionths
 unfoldable pub decimals : List ℕ → Option ℕ
-decimals text = option_map (λ n. n * 10 ^ (MOST_DIGITS - length text)) (number MOST_DIGITS text)
+decimals text = option_map (λ n. n * 10 ^ (MAX_DIGITS - length text)) (number MAX_DIGITS text)
 
 -- no decimals, or these
 abbrev pub fraction_of : Option (List ℕ) → Option ℕ
@@ -54,9 +54,9 @@ minutes_from parts = do
 -- hours, and minutes or minutes and seconds where there are more parts, in billionths of a second
 unfoldable pub magnitude_from : List (List ℕ) → Option ℕ
 magnitude_from [] = None
-magnitude_from (hours ∷ []) = option_map (λ h. 10 ^ 9 * (3600 * h)) (number MOST_DIGITS hours)
+magnitude_from (hours ∷ []) = option_map (λ h. 10 ^ 9 * (3600 * h)) (number MAX_DIGITS hours)
 magnitude_from (hours ∷ part ∷ parts) = do
-  h ← number MOST_DIGITS hours
+  h ← number MAX_DIGITS hours
   rest ← minutes_from (part ∷ parts)
   Some (10 ^ 9 * (3600 * h) + rest)
 

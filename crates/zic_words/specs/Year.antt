@@ -3,7 +3,7 @@ use Rattle.std.specs.Prelude.{ℕ, Bool, false, ◌&&◌, List, length, pos, Opt
 use Rattle.std.specs.Int.{IsInRange}
 use Rattle.zic_base.specs.Option.{◌>>=◌}
 use Rattle.zic_calendar.specs.Calendar.{is_leap_year}
-use Rattle.zic_words.specs.declared.time.TheConstants.{MOST_DIGITS}
+use Rattle.zic_words.specs.declared.time.TheConstants.{MAX_DIGITS}
 use Rattle.zic_words.specs.declared.year.TheConstants.{FIRST_YEAR, LAST_YEAR}
 use Rattle.zic_words.specs.Word.{begins_word}
 use Rattle.zic_words.specs.Time.{number}
@@ -15,7 +15,7 @@ IsYear year = IsInRange FIRST_YEAR LAST_YEAR year
 -- a year: one to nine digits, 1 to 9000
 unfoldable pub year_of : List ℕ → Option ℕ
 year_of field = do
-  n ← number MOST_DIGITS field
+  n ← number MAX_DIGITS field
   if nat_le FIRST_YEAR n && nat_le n LAST_YEAR then Some n else None
 
 -- `only`, in full or cut

@@ -28,7 +28,7 @@ pub struct ClockTime {
     pub form: ClockForm,
 }
 
-/// The clock that a suffix names.
+/// Returns the clock that a suffix names, if it is one.
 fn clock_suffix(byte: u8) -> Option<ClockForm>
     ensures { result ≡ clock_suffix byte }
 {
@@ -40,7 +40,8 @@ fn clock_suffix(byte: u8) -> Option<ClockForm>
     }
 }
 
-/// AT in seconds, within 300 hours either way, and its clock.
+/// Returns the time of day that an AT or TIME field names, within 300 hours either way; `None`
+/// where it names none (zic(8), AT).
 #[tactic(auto, unfolding(crate::specs::Clock::clock_time_of))]
 pub fn clock_time(field: &[u8]) -> Option<ClockTime>
     ensures value { result ≡ clock_time_of field.now }
@@ -61,9 +62,10 @@ pub fn clock_time(field: &[u8]) -> Option<ClockTime>
     }
 }
 
-/// A time without a suffix, by this clock.
+/// Returns the time that a text without a suffix names, by this clock.
 fn time_by(form: ClockForm, text: &[u8]) -> Option<ClockTime>
-    ensures value { result ≡ option_map (λ s. record { seconds = s; form = form }) (signed_seconds LATEST_TIME text.now) }
+    ensures value { result ≡ option_map
+        (λ s. record { seconds = s; form = form }) (signed_seconds LATEST_TIME text.now) }
     ensures within { IfSome result (λ time. IsWithin LATEST_TIME time.seconds) }
 {
     let seconds = signed_seconds(LATEST_TIME, text)?;

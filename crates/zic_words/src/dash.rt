@@ -3,7 +3,8 @@
 ghost use Rattle.std.specs.Prelude.{◌≡◌};
 ghost use Rattle.zic_words.specs.Dash.{is_dash};
 
-/// Whether the field is `-`. A field without text, as `""`, is read as `-` before it comes here.
+/// Returns whether the field is `-`. A field without text, as `""`, is read as `-` before it comes
+/// here.
 pub fn is_dash(field: &[u8]) -> bool
     ensures { result ≡ is_dash field.now }
 {

@@ -1,4 +1,4 @@
-//! Which day of the month a rule names.
+//! Forms of days of a month.
 
 ghost use Rattle.std.specs.Prelude.{◌≡◌, ◌≤◌, ◌<◌, ◌==◌, IfSome, map, option_map};
 ghost use Rattle.std.specs.Int.{IsInRange};
@@ -21,7 +21,8 @@ const WEEKDAYS: [&[u8]; 7] = [
     b"saturday",
 ];
 
-/// A weekday, 0 (Sunday) to 6, from its name in English or a prefix of it that no other weekday has.
+/// Returns a weekday, 0 (Sunday) to 6, from its name in English or a prefix of it that no other
+/// weekday has.
 #[tactic(auto, unfolding(crate::specs::DayForm::weekday_of))]
 fn weekday(field: &[u8]) -> Option<u8>
     ensures value { result ≡ weekday_of field.now }
@@ -30,7 +31,7 @@ fn weekday(field: &[u8]) -> Option<u8>
     only_word(&WEEKDAYS, field)
 }
 
-/// A day of the month: one or two digits, from 1 to the longest.
+/// Returns the day of the month that one or two digits name, from 1 to `longest`.
 #[tactic(auto, unfolding(crate::specs::DayForm::day_within))]
 fn day_within(longest: u8, field: &[u8]) -> Option<u8>
     ensures value { result ≡ day_within longest field.now }
@@ -44,7 +45,7 @@ fn day_within(longest: u8, field: &[u8]) -> Option<u8>
     }
 }
 
-/// The weekday behind `last`.
+/// Returns the weekday after `last`.
 #[tactic(auto, unfolding(crate::specs::DayForm::last_weekday))]
 fn last_weekday(field: &[u8]) -> Option<u8>
     ensures value { result ≡ last_weekday field.now }
@@ -56,7 +57,8 @@ fn last_weekday(field: &[u8]) -> Option<u8>
     weekday(&field[4..])
 }
 
-/// A weekday, this sign and `=`, and a day of the month up to the longest.
+/// Returns the weekday and the day of the month, up to `longest`, of a field that has this sign and
+/// `=` between them.
 #[tactic(auto, unfolding(crate::specs::DayForm::weekday_and_day))]
 fn weekday_and_day(sign: u8, longest: u8, field: &[u8]) -> Option<(u8, u8)>
     ensures value { result ≡ weekday_and_day sign longest field.now }
@@ -74,15 +76,16 @@ fn weekday_and_day(sign: u8, longest: u8, field: &[u8]) -> Option<(u8, u8)>
     }
 }
 
-/// How many days the month, 1 to 12, has in a leap year or in a common year.
+/// Returns the length of the month, 1 to 12, in days, in a leap year or in a common year.
 fn month_length(is_leap: bool, month: u8) -> u8
     ensures { result ≡ month_length is_leap month }
 {
     days_in_month(if is_leap { 2000 } else { 2001 }, month)
 }
 
-/// `lastX`, `X>=D`, `X<=D` or a day, in a month from 1 to 12. 29 February is a day only where one year is meant, a leap
-/// year; it may not stand behind `>=`, and behind `<=` it means the last of the month.
+/// Returns the form that `lastX`, `X>=D`, `X<=D` or a day names, in a month from 1 to 12 (zic(8),
+/// ON). 29 February is a day only where one year is meant, a leap year; it may not stand after
+/// `>=`, and after `<=` it means the last of the month.
 #[tactic(auto, unfolding(crate::specs::DayForm::day_form_of))]
 pub fn parse_day_form(one_leap_year: bool, month: u8, field: &[u8]) -> Option<On>
     ensures value { result ≡ day_form_of one_leap_year month field.now }

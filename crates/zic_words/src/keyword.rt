@@ -5,7 +5,7 @@ ghost use Rattle.zic_words.specs.Keyword.{keyword_of};
 
 use crate::word::only_word;
 
-/// What kind of line a keyword begins.
+/// The keyword of a line.
 #[derive(Clone, Copy, Debug, PartialEq, Eq)]
 pub enum Keyword {
     Rule,
@@ -15,7 +15,7 @@ pub enum Keyword {
 
 const KEYWORDS: [&[u8]; 3] = [b"rule", b"zone", b"link"];
 
-/// The keyword, in full or cut, in any ASCII case.
+/// Returns the keyword that the field is, in full or cut, in any ASCII case.
 #[tactic(auto, unfolding(crate::specs::Keyword::keyword_of))]
 pub fn parse_keyword(field: &[u8]) -> Option<Keyword>
     ensures { result ≡ keyword_of field.now }

@@ -8,10 +8,11 @@ use std::alloc::Global;
 use std::marker::Model;
 use zic_base::{ShortText, are_abbreviation_bytes};
 
-/// How many bytes a letter may have.
+/// The greatest length of a letter, in bytes.
 pub const LONGEST_LETTER: usize = 16;
 
-/// What `%s` of a FORMAT stands for: at most 16 ASCII letters, digits, `+` and `-`, all kept inline; clauses see its octets.
+/// The text for which `%s` of a FORMAT stands: at most 16 ASCII letters, digits, `+` and `-`, all
+/// kept inline; clauses see its bytes.
 #[derive(Debug, Drop)]
 pub struct Letter {
     text: ShortText<LONGEST_LETTER>,
@@ -31,7 +32,8 @@ impl Model for Letter {
 impl Letter {
     ghost use Rattle.std.specs.Prelude.{true};
 
-    /// The letter that the field is, or none where it isn't one; the field `-` is the empty letter. Takes no memory.
+    /// Returns the letter that the field is, or `None` where it isn't one; the field `-` is the
+    /// empty letter. Takes no memory.
     #[tactic(auto, unfolding(crate::specs::Letter::letter_of))]
     pub fn parse(alloc: Global, field: &[u8]) -> Option<Letter>
         ensures { result ≡ letter_of field.now }
@@ -46,7 +48,7 @@ impl Letter {
         }
     }
 
-    /// The octets, empty where the field is `-`.
+    /// Returns the bytes, none where the field is `-`.
     pub fn octets(&self) -> &[u8]
         ensures octets { result.now ≡ self.now }
         ensures letter { is_letter self.now ≡ true }
@@ -55,7 +57,7 @@ impl Letter {
     }
 }
 
-/// Whether there are at most 16 bytes, and each is one that abbreviations are made of.
+/// Returns whether there are at most 16 bytes, and abbreviations may have each of them.
 fn is_letter(octets: &[u8]) -> bool
     ensures { result ≡ is_letter octets.now }
 {

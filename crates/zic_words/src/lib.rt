@@ -1,6 +1,8 @@
-//! Words of time zone source text: what single fields say. Times, years, months, days, names and letters.
+//! Words of time zone source text, each one field: times, years, months, days, names and letters.
+//! The tests stand in `source_tests`.
 //!
-//! Memory is taken only by `Name::parse` and `SetName::parse`, where the field is a name, and by copies of names.
+//! Memory is taken only by `Name::parse` and `SetName::parse`, where the field is a name, and by
+//! copies of names.
 //!
 //! The input format is that of zic(8); `docs/DEFINITIONS.md` lists where each rule is stated.
 #![tactic(auto)]
@@ -30,5 +32,5 @@ pub use name::{LONGEST_NAME, Name};
 pub use saving::{Saving, save};
 pub use set_name::SetName;
 pub use split::split_at_most_once;
-pub use time::{GREATEST_OFFSET, MOST_DIGITS, offset};
+pub use time::{GREATEST_OFFSET, MAX_DIGITS, offset};
 pub use year::{FIRST_YEAR, LAST_YEAR, ends_before, is_one_leap_year, last_year, parse_year};

@@ -20,7 +20,8 @@ const MONTHS: [&[u8]; 12] = [
     b"december",
 ];
 
-/// The number of a month, 1 to 12, from its name in English or a prefix of it that no other month has.
+/// Returns the number of a month, 1 to 12, from its name in English or a prefix of it that no other
+/// month has (zic(8), IN).
 #[tactic(auto, unfolding(crate::specs::Month::month_of))]
 pub fn parse_month(field: &[u8]) -> Option<u8>
     ensures value { result ≡ month_of field.now }

@@ -9,11 +9,12 @@ use std::alloc::{AllocError, Global};
 use std::marker::Model;
 use zic_base::ShortText;
 
-/// How many bytes the name of a zone, a link or a rule set may have.
+/// The greatest length of the name of a zone, a link or a rule set, in bytes.
 pub const LONGEST_NAME: usize = 255;
 
-/// The name of a zone or a link: 1 to 255 ASCII letters, digits, `_`, `-`, `+`, `.` and `/`, and no part between slashes
-/// is empty, `.` or `..`; clauses see its octets. Up to 32 octets are kept inline.
+/// The name of a zone or a link: 1 to 255 ASCII letters, digits, `_`, `-`, `+`, `.` and `/`, and no
+/// part between slashes is empty, `.` or `..`; clauses see its bytes. Up to 32 bytes are kept
+/// inline.
 #[derive(Debug, Drop, Clone, PartialEq, Eq, Hash)]
 pub struct Name {
     text: ShortText<32>,
@@ -35,7 +36,8 @@ impl Model for Name {
 impl Name {
     ghost use Rattle.std.specs.Prelude.{◌↔◌, true};
 
-    /// The name that the field is, or none where it isn't one; memory is asked for only where it is.
+    /// Returns the name that the field is, or `None` where it isn't one. Takes memory only where it
+    /// is.
     pub fn parse(alloc: Global, field: &[u8]) -> Option<Result<Name, AllocError>>
         ensures just { IsSome result ↔ (is_name field.now ≡ true) }
         ensures name { IfSome result (λ made. IfOk made (λ name. name ≡ field.now)) }
@@ -49,7 +51,7 @@ impl Name {
         }
     }
 
-    /// The octets.
+    /// Returns the bytes.
     pub fn octets(&self) -> &[u8]
         ensures octets { result.now ≡ self.now }
         ensures name { is_name self.now ≡ true }
@@ -64,14 +66,14 @@ fn is_name_byte(byte: u8) -> bool
     byte.is_ascii_alphanumeric() || matches!(byte, b'_' | b'-' | b'+' | b'.' | b'/')
 }
 
-/// Whether each byte may stand in a name.
+/// Returns whether each byte may stand in a name.
 fn are_name_bytes(field: &[u8]) -> bool
     ensures { result ≡ list_all is_name_byte field.now }
 {
     field.iter().all(|byte| is_name_byte(*byte))
 }
 
-/// Whether this may stand between the slashes of a name.
+/// Returns whether this part may stand between the slashes of a name.
 fn is_name_part(part: &[u8]) -> bool
     ensures { result ≡ is_name_part part.now }
 {
@@ -83,7 +85,7 @@ fn is_name_part(part: &[u8]) -> bool
     }
 }
 
-/// Whether each part between slashes may stand there.
+/// Returns whether each part between slashes may stand there.
 fn are_name_parts(field: &[u8]) -> bool
     ensures { result ≡ list_all is_name_part (slice_split (λ byte. byte == 47) field.now) }
 {
@@ -92,7 +94,7 @@ fn are_name_parts(field: &[u8]) -> bool
         .all(|part| is_name_part(part))
 }
 
-/// Whether the field is the name of a zone or a link.
+/// Returns whether the field is the name of a zone or a link.
 fn is_name(field: &[u8]) -> bool
     ensures { result ≡ is_name field.now }
 {

@@ -7,7 +7,7 @@ ghost use Rattle.zic_words.specs.Saving.{daylight_suffix, saving_of};
 use crate::dash::is_dash;
 use crate::time::{GREATEST_OFFSET, signed_seconds};
 
-/// What is added to standard time.
+/// The amount that is added to standard time.
 #[derive(Clone, Copy, Debug, PartialEq, Eq)]
 pub struct Saving {
     /// Within 24:00:00 either way.
@@ -16,7 +16,7 @@ pub struct Saving {
     pub daylight: bool,
 }
 
-/// Whether a suffix names daylight saving time.
+/// Returns whether a suffix names daylight saving time, if it is one.
 fn daylight_suffix(byte: u8) -> Option<bool>
     ensures { result ≡ daylight_suffix byte }
 {
@@ -27,7 +27,8 @@ fn daylight_suffix(byte: u8) -> Option<bool>
     }
 }
 
-/// SAVE in seconds, within 24 hours either way, and its flag.
+/// Returns the saving that a SAVE field names, within 24 hours either way; `None` where it names
+/// none (zic(8), SAVE).
 #[tactic(auto, unfolding(crate::specs::Saving::saving_of))]
 pub fn save(field: &[u8]) -> Option<Saving>
     ensures value { result ≡ saving_of field.now }

@@ -9,8 +9,8 @@ use std::alloc::{AllocError, Global};
 use std::marker::Model;
 use zic_base::ShortText;
 
-/// The name of a rule set: 1 to 255 octets from 0x21 to 0x7E, the first no digit, `-` or `+`; clauses see its octets. Up
-/// to 16 octets are kept inline.
+/// The name of a rule set: 1 to 255 bytes from 0x21 to 0x7E, the first no digit, `-` or `+`;
+/// clauses see its bytes. Up to 16 bytes are kept inline.
 #[derive(Debug, Drop, Clone, PartialEq, Eq, Hash)]
 pub struct SetName {
     text: ShortText<16>,
@@ -32,7 +32,8 @@ impl Model for SetName {
 impl SetName {
     ghost use Rattle.std.specs.Prelude.{◌↔◌, true};
 
-    /// The name that the field is, or none where it isn't one; memory is asked for only where it is.
+    /// Returns the name that the field is, or `None` where it isn't one. Takes memory only where it
+    /// is.
     pub fn parse(alloc: Global, field: &[u8]) -> Option<Result<SetName, AllocError>>
         ensures just { IsSome result ↔ (is_set_name field.now ≡ true) }
         ensures name { IfSome result (λ made. IfOk made (λ name. name ≡ field.now)) }
@@ -46,7 +47,7 @@ impl SetName {
         }
     }
 
-    /// The octets.
+    /// Returns the bytes.
     pub fn octets(&self) -> &[u8]
         ensures octets { result.now ≡ self.now }
         ensures name { is_set_name self.now ≡ true }
@@ -67,7 +68,7 @@ fn are_visible(field: &[u8]) -> bool
     field.iter().all(|byte| is_visible(*byte))
 }
 
-/// Whether the field isn't empty and doesn't begin as an amount of saving does.
+/// Returns whether the field isn't empty and doesn't begin as an amount of saving does.
 fn begins_name(field: &[u8]) -> bool
     ensures { result ≡ begins_name field.now }
 {
@@ -77,7 +78,7 @@ fn begins_name(field: &[u8]) -> bool
     }
 }
 
-/// Whether the field is the name of a rule set.
+/// Returns whether the field is the name of a rule set.
 fn is_set_name(field: &[u8]) -> bool
     ensures { result ≡ is_set_name field.now }
 {

@@ -4,7 +4,7 @@ ghost use Rattle.std.specs.Prelude.{◌≡◌, ◌∷◌, ◌==◌, ◌<◌, IfS
 ghost use Rattle.std.specs.List.{slice_split};
 ghost use Rattle.zic_words.specs.Parts.{other_parts, split_at_most_once};
 
-/// The part before the first such byte, and what follows that byte where there is one.
+/// Returns the part before the first separator, and the rest after it where there is one.
 pub(crate) fn split_once(bytes: &[u8], separator: u8) -> (&[u8], Option<&[u8]>)
     ensures parts { slice_split (λ byte. byte == separator) bytes.now
         ≡ result.0.now ∷ other_parts (λ byte. byte == separator) result.1 }
@@ -18,7 +18,8 @@ pub(crate) fn split_once(bytes: &[u8], separator: u8) -> (&[u8], Option<&[u8]>)
     (bytes, None)
 }
 
-/// The part before such a byte and the part after it, where it stands at most once.
+/// Returns the part before the separator and the part after it; `None` where it stands more than
+/// once.
 #[tactic(auto, unfolding(crate::specs::Parts::split_at_most_once))]
 pub fn split_at_most_once(bytes: &[u8], separator: u8) -> Option<(&[u8], Option<&[u8]>)>
     ensures { option_map (λ parts. (parts.0.now, option_map (λ part. part.now) parts.1)) result

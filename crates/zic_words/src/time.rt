@@ -8,27 +8,27 @@ use crate::dash::is_dash;
 use crate::split::{split_at_most_once, split_once};
 use std::cmp::Ordering;
 
-/// How many digits years, hours and decimals of a second may have.
-pub const MOST_DIGITS: usize = 9;
+/// The greatest number of digits of years, hours and decimals of a second.
+pub const MAX_DIGITS: usize = 9;
 
 /// The greatest STDOFF, SAVE and amount in RULES either way, in seconds: 24 hours.
 pub const GREATEST_OFFSET: u32 = 86_400;
 
-/// Billionths in a second.
+/// The billionths of a second.
 const BILLION: u32 = 1_000_000_000;
 
 /// A time without its sign.
 #[derive(Clone, Copy, Debug)]
 struct Time {
     seconds: u64,
-    /// What it has beyond its seconds, below a billion.
+    /// The fraction of a second, in billionths, below a billion.
     billionths: u32,
 }
 
-/// The number that the text spells in decimal digits: at least one, and at most so many.
+/// Returns the number that the text spells in decimal digits, from one to `most` of them.
 #[tactic(auto, unfolding(crate::specs::Time::number))]
 pub(crate) fn number(most: usize, text: &[u8]) -> Option<u32>
-    requires { most ≤ MOST_DIGITS }
+    requires { most ≤ MAX_DIGITS }
     ensures value { result ≡ number most text.now }
     ensures digits { IfSome result (λ n. n < 10 ^ length text.now) }
     ensures length { IfSome result (λ _. length text.now ≤ most) }
@@ -46,7 +46,7 @@ pub(crate) fn number(most: usize, text: &[u8]) -> Option<u32>
     Some(n)
 }
 
-/// Minutes or seconds: 0 to 59, in one or two digits.
+/// Returns minutes or seconds, 0 to 59, from one or two digits.
 #[tactic(auto, unfolding(crate::specs::Time::sixtieths))]
 fn sixtieths(text: &[u8]) -> Option<u64>
     ensures value { result ≡ sixtieths text.now }
@@ -56,20 +56,21 @@ fn sixtieths(text: &[u8]) -> Option<u64>
     if n < 60 { Some(u64::from(n)) } else { None }
 }
 
-/// One to nine decimals of a second, in billionths.
+/// Returns the billionths that one to nine decimals of a second name.
 #[tactic(auto, unfolding(crate::specs::Time::decimals))]
 fn decimals(text: &[u8]) -> Option<u32>
     ensures value { result ≡ decimals text.now }
     ensures fits { IfSome result (λ n. n < 10 ^ 9) }
 {
-    let n = number(MOST_DIGITS, text)?;
-    Some(n * 10u32.pow((MOST_DIGITS - text.len()) as u32))
+    let n = number(MAX_DIGITS, text)?;
+    Some(n * 10u32.pow((MAX_DIGITS - text.len()) as u32))
 }
 
-/// Seconds below 60, with decimals where there is a point.
+/// Returns a time of seconds below 60, with decimals where there is a point.
 #[tactic(auto, unfolding(crate::specs::Time::seconds_of))]
 fn seconds(text: &[u8]) -> Option<Time>
-    ensures value { option_map (λ time. 10 ^ 9 * time.seconds + time.billionths) result ≡ seconds_of text.now }
+    ensures value { option_map (λ time. 10 ^ 9 * time.seconds + time.billionths) result
+        ≡ seconds_of text.now }
     ensures seconds { IfSome result (λ time. time.seconds < 60) }
     ensures billionths { IfSome result (λ time. time.billionths < 10 ^ 9) }
 {
@@ -85,10 +86,11 @@ fn seconds(text: &[u8]) -> Option<Time>
     })
 }
 
-/// Minutes, or minutes and seconds.
+/// Returns a time of minutes, or of minutes and seconds.
 #[tactic(auto, unfolding(crate::specs::Time::minutes_from, crate::specs::Parts::split_at_most_once))]
 fn minutes(text: &[u8]) -> Option<Time>
-    ensures value { option_map (λ time. 10 ^ 9 * time.seconds + time.billionths) result ≡ minutes_from (slice_split (λ byte. byte == 58) text.now) }
+    ensures value { option_map (λ time. 10 ^ 9 * time.seconds + time.billionths) result
+        ≡ minutes_from (slice_split (λ byte. byte == 58) text.now) }
     ensures seconds { IfSome result (λ time. time.seconds < 3600) }
     ensures billionths { IfSome result (λ time. time.billionths < 10 ^ 9) }
 {
@@ -109,15 +111,16 @@ fn minutes(text: &[u8]) -> Option<Time>
     }
 }
 
-/// Hours, or hours and minutes, or hours, minutes and seconds, without a sign.
+/// Returns a time without a sign, of hours, of hours and minutes, or of hours, minutes and seconds.
 #[tactic(auto, unfolding(crate::specs::Time::magnitude_from))]
 fn magnitude(text: &[u8]) -> Option<Time>
-    ensures value { option_map (λ time. 10 ^ 9 * time.seconds + time.billionths) result ≡ magnitude text.now }
+    ensures value { option_map (λ time. 10 ^ 9 * time.seconds + time.billionths) result
+        ≡ magnitude text.now }
     ensures seconds { IfSome result (λ time. time.seconds < 10 ^ 13) }
     ensures billionths { IfSome result (λ time. time.billionths < 10 ^ 9) }
 {
     let (hours, rest) = split_once(text, b':');
-    let hours = 3600 * u64::from(number(MOST_DIGITS, hours)?);
+    let hours = 3600 * u64::from(number(MAX_DIGITS, hours)?);
     match rest {
         Some(rest) => {
             // Most times are hours and minutes.
@@ -140,7 +143,7 @@ fn magnitude(text: &[u8]) -> Option<Time>
     }
 }
 
-/// The whole second that is nearest to a time, and of two that are as near the even one.
+/// Returns the whole second that is nearest to a time, and of two that are as near the even one.
 fn nearest_second(time: Time) -> u64
     requires seconds { time.seconds < 10 ^ 13 }
     requires billionths { time.billionths < 10 ^ 9 }
@@ -154,7 +157,7 @@ fn nearest_second(time: Time) -> u64
     }
 }
 
-/// A time without its sign in whole seconds, where it is within the limit.
+/// Returns a time without a sign in whole seconds, where it is within the limit.
 #[tactic(auto, using(crate::proofs::Seconds::nearest_is), unfolding(crate::specs::Time::whole_seconds))]
 fn whole_seconds(limit: u32, text: &[u8]) -> Option<u32>
     ensures value { result ≡ whole_seconds limit text.now }
@@ -169,7 +172,7 @@ fn whole_seconds(limit: u32, text: &[u8]) -> Option<u32>
     }
 }
 
-/// A time in whole seconds, below 0 behind a `-`, within the limit either way.
+/// Returns a time in whole seconds, below 0 after a `-`, where it is within the limit either way.
 #[tactic(auto, unfolding(crate::specs::Time::signed_seconds))]
 pub(crate) fn signed_seconds(limit: u32, text: &[u8]) -> Option<i32>
     requires { limit < 2 ^ 31 }
@@ -188,7 +191,8 @@ pub(crate) fn signed_seconds(limit: u32, text: &[u8]) -> Option<i32>
     }
 }
 
-/// STDOFF in seconds, positive east, at most 24 hours either way.
+/// Returns the offset that an STDOFF field names, in seconds, positive east, within 24 hours either
+/// way; `None` where it names none (zic(8), STDOFF).
 #[tactic(auto, unfolding(crate::specs::Time::offset_of))]
 pub fn offset(field: &[u8]) -> Option<i32>
     ensures value { result ≡ offset_of field.now }

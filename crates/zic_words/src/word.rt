@@ -5,8 +5,9 @@ ghost use Rattle.std.specs.List.{starts_with};
 ghost use Rattle.std.specs.Str.{str_to_ascii_lowercase};
 ghost use Rattle.zic_words.specs.Word.{begins_word, only_word};
 
-/// Whether a text in lower case begins with this front, which may have any ASCII case.
-// Out of line, so that a loop over words is short enough to be unrolled: it mostly compares first letters.
+/// Returns whether a text in lower case begins with this front, which may have any ASCII case.
+// Out of line, so that a loop over words is short enough to be unrolled: it mostly compares first
+// letters.
 #[inline(never)]
 fn begins(text: &[u8], front: &[u8]) -> bool
     ensures { result ≡ starts_with nat_eq text.now (str_to_ascii_lowercase front.now) }
@@ -22,14 +23,15 @@ fn begins(text: &[u8], front: &[u8]) -> bool
     true
 }
 
-/// Whether the field is a word in lower case or a nonempty prefix of it, in any ASCII case.
+/// Returns whether the field is a word in lower case or a nonempty prefix of it, in any ASCII case.
 pub(crate) fn begins_word(word: &[u8], field: &[u8]) -> bool
     ensures { result ≡ begins_word word.now field.now }
 {
     !field.is_empty() && begins(word, field)
 }
 
-/// Whether a word in lower case begins with this letter and goes on with this front, which may have any ASCII case.
+/// Returns whether a word in lower case begins with this letter and goes on with this front, which
+/// may have any ASCII case.
 fn begins_with_letter(word: &[u8], letter: u8, front: &[u8]) -> bool
     ensures { result ≡ starts_with nat_eq word.now (letter ∷ str_to_ascii_lowercase front.now) }
 {
@@ -39,8 +41,8 @@ fn begins_with_letter(word: &[u8], letter: u8, front: &[u8]) -> bool
     }
 }
 
-/// The place, from 0, of the only one of some words in lower case that begins with the field, which may have any ASCII
-/// case.
+/// Returns the place, from 0, of the only one of some words in lower case that begins with the
+/// field, which may have any ASCII case; `None` where no word or more than one does.
 pub(crate) fn only_word(words: &[&[u8]], field: &[u8]) -> Option<u8>
     requires { length words.now < 256 }
     ensures value { result ≡ only_word (map (λ word. word.now) words.now) field.now }

@@ -13,7 +13,7 @@ const UNITED_STATES: &[u8] =
 const EIRE: &[u8] =
     b"Rule Eire 1996 max - Mar lastSun 1:00u 0 -\nRule Eire 1996 max - Oct lastSun 1:00u -1:00 -\n";
 
-/// What a source text says.
+/// Reads a source text.
 fn read(alloc: Global, parts: &[&[u8]]) -> Result<Source, Fail> {
     let mut text = Vec::new(alloc);
     for part in parts {
@@ -28,7 +28,7 @@ fn read(alloc: Global, parts: &[&[u8]]) -> Result<Source, Fail> {
     }
 }
 
-/// What `make` answers for the only zone of a source.
+/// Returns the answer of `make` for the only zone of a source.
 fn footer(alloc: Global, place: Place, parts: &[&[u8]]) -> Result<Result<Footer, Stop>, Fail> {
     let source = read(alloc, parts)?;
     if source.zones() != 1 {
@@ -40,7 +40,7 @@ fn footer(alloc: Global, place: Place, parts: &[&[u8]]) -> Result<Result<Footer,
     Ok(make(alloc, place, &found))
 }
 
-/// The text of the footer.
+/// Returns the text of the footer.
 fn text(alloc: Global, rules: &[u8], zone: &[u8]) -> Result<Vec<u8>, Fail> {
     match footer(alloc, Place { text: 1, line: 3 }, &[rules, zone])? {
         Ok(footer) => Ok(print(alloc, &footer)?),

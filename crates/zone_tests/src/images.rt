@@ -3,14 +3,15 @@
 use std::alloc::Global;
 use std::test::Fail;
 use zic_base::{Kind, Place, State, Stop};
-use zic_image::*;
 use zic_source::read_source;
+use zic_table::*;
 use zic_tzif::Answer;
 
-/// A header of version 2 up to its last three counts, those of transitions, types and octets of designations.
+/// A header of version 2 up to its last three counts, those of transitions, types and bytes of
+/// designations.
 const HEADER: &[u8] = b"TZif2\0\0\0\0\0\0\0\0\0\0\0\0\0\0\0\0\0\0\0\0\0\0\0\0\0\0\0";
 
-/// What follows in the first header, and the first block.
+/// The rest of the first header, and the first block.
 const EMPTY_BLOCK: &[u8] = b"\0\0\0\0\0\0\0\x01\0\0\0\x01\0\0\0\0\0\0\0";
 
 /// The rules of the United States from 2007 on, and a zone of them.
@@ -18,7 +19,7 @@ const NEW_YORK: &[u8] = b"Rule US 2007 max - Mar Sun>=8 2:00 1:00 D\n\
 Rule US 2007 max - Nov Sun>=1 2:00 0 S\n\
 Zone Z/NY -5:00 US E%sT\n";
 
-/// The image of a zone of a source text, by its number from 0.
+/// Returns the image of a zone of a source text, by its number from 0.
 fn image(alloc: Global, text: &[u8], zone: usize) -> Result<Result<Image, Stop>, Fail> {
     let mut texts = Vec::new(alloc);
     texts.push(Vec::from_slice(alloc, text)?)?;
@@ -31,7 +32,7 @@ fn image(alloc: Global, text: &[u8], zone: usize) -> Result<Result<Image, Stop>,
     Ok(image_of(alloc, &source, zone))
 }
 
-/// These octets, one after another.
+/// Returns these bytes, one after another.
 fn joined(alloc: Global, parts: &[&[u8]]) -> Result<Vec<u8>, Fail> {
     let mut octets = Vec::new(alloc);
     for part in parts {

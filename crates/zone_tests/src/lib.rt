@@ -1,5 +1,5 @@
-//! Tests of zones: of POSIX TZ strings, occurrences, states, stretches, timelines, footers, tables, files and images. They stand
-//! in a crate of their own, since a crate with tests is proved twice.
+//! Tests of zones: of POSIX TZ strings, occurrences, states, periods, timelines, footers, tables,
+//! files and images. They stand in a crate of their own, since a crate with tests is proved twice.
 #![tactic(auto)]
 
 #[cfg(test)]
@@ -11,9 +11,9 @@ mod images;
 #[cfg(test)]
 mod occurrences;
 #[cfg(test)]
-mod states;
+mod periods;
 #[cfg(test)]
-mod stretches;
+mod states;
 #[cfg(test)]
 mod strings;
 #[cfg(test)]

@@ -8,7 +8,7 @@ use zic_base::{Fault, Kind, Stop};
 use zic_occurrences::*;
 use zic_source::{Rules, Source, read_source};
 
-/// The source of this text.
+/// Returns the source of this text.
 fn source(alloc: Global, text: &[u8]) -> Result<Source, Fail> {
     let mut texts = Vec::new(alloc);
     texts.push(Vec::from_slice(alloc, text)?)?;
@@ -19,7 +19,8 @@ fn source(alloc: Global, text: &[u8]) -> Result<Source, Fail> {
     }
 }
 
-/// The occurrences of the set of the text's first zone, on that zone's first line, or the fault.
+/// Returns the occurrences of the set of the text's first zone, on that zone's first line, or the
+/// fault.
 fn listed(
     alloc: Global,
     text: &[u8],
@@ -42,7 +43,7 @@ fn listed(
     }
 }
 
-/// The instants of the first six occurrences.
+/// Returns the instants of the first six occurrences.
 fn first_six(alloc: Global, text: &[u8]) -> Result<[i64; 6], Fail> {
     let listed = listed(alloc, text, 1)?.ok().ok_or("occurrences")?;
     match listed.as_slice() {
@@ -107,7 +108,7 @@ fn first_instants(rt: HostRuntime) -> Result<(), Fail> {
     Ok(())
 }
 
-/// Whether the fault is that of rules out of order, at this line of the first text.
+/// Returns whether the fault is that of rules out of order, at this line of the first text.
 fn is_disorder(fault: Fault, line: u64) -> bool {
     fault.kind == Kind::RulesOutOfOrder && fault.place.text == 1 && fault.place.line == line
 }
@@ -196,7 +197,26 @@ fn rules_and_years(rt: HostRuntime) -> Result<(), Fail> {
     Ok(())
 }
 
-/// The last year that the set of the text's first zone names.
+#[test]
+fn seconds_of_moments(rt: HostRuntime) -> Result<(), Fail> {
+    let text = b"Rule US 2007 max - Mar Sun>=8 2:00 1:00 D\nZone A -5:00 US E%sT";
+    let source = source(rt.alloc(), text)?;
+    if source.rules() == 0 {
+        return Err(Fail::from("a rule"));
+    }
+    let rule = source.rule(0);
+    assert_eq!(rt; year_second(rule.first), 1_167_609_600);
+    // 2007-03-11 02:00 by the wall clock, five hours west of UT.
+    let second = nominal_second(rule.first, &rule.moment);
+    assert_eq!(rt; second, 1_173_578_400);
+    assert_eq!(rt;
+        instant_by(rule.moment.at.form, -18_000, 0, second),
+        1_173_596_400
+    );
+    Ok(())
+}
+
+/// Returns the last year that the set of the text's first zone names.
 fn last_named(alloc: Global, text: &[u8]) -> Result<u16, Fail> {
     let source = source(alloc, text)?;
     if source.zones() == 0 || source.lines(0) == 0 {

@@ -212,9 +212,9 @@ fn refuses_other_texts(rt: HostRuntime) {
 #[test]
 fn tells_the_standard_part(rt: HostRuntime) -> Result<(), Fail> {
     let footer = parse(rt.alloc(), b"<+0530>-5:30", 2)?;
-    assert!(rt; footer.std().octets() == b"+0530".as_slice());
-    assert_eq!(rt; footer.offset(), 19800);
-    assert!(rt; footer.dst().is_none());
+    assert!(rt; footer.std.octets() == b"+0530".as_slice());
+    assert_eq!(rt; footer.offset, 19800);
+    assert!(rt; footer.dst.is_none());
     Ok(())
 }
 
@@ -233,8 +233,8 @@ fn tells_the_daylight_part(rt: HostRuntime) -> Result<(), Fail> {
         time: 3600,
     };
     let footer = parse(rt.alloc(), b"IST-1GMT0,M10.5.0,J60/1", 2)?;
-    assert_eq!(rt; footer.offset(), 3600);
-    let dst = footer.dst().expect(&rt, "a daylight part");
+    assert_eq!(rt; footer.offset, 3600);
+    let dst = footer.dst.as_ref().expect(&rt, "a daylight part");
     assert!(rt; dst.name.octets() == b"GMT".as_slice());
     assert!(rt; (dst.offset, dst.start, dst.stop) == (0, start, stop));
     Ok(())

@@ -11,10 +11,10 @@ use zic_rules::timeline;
 use zic_source::{Source, read_source};
 use zic_table::*;
 
-/// Where faults of the only zone are told.
+/// The place of faults of the only zone.
 const PLACE: Place = Place { text: 1, line: 3 };
 
-/// What a source text says.
+/// Reads a source text.
 fn read(alloc: Global, parts: &[&[u8]]) -> Result<Source, Fail> {
     let mut text = Vec::new(alloc);
     for part in parts {
@@ -29,7 +29,7 @@ fn read(alloc: Global, parts: &[&[u8]]) -> Result<Source, Fail> {
     }
 }
 
-/// What `table` answers for the only zone of a source.
+/// Returns the answer of `table` for the only zone of a source.
 fn made(alloc: Global, parts: &[&[u8]]) -> Result<Result<Table, Stop>, Fail> {
     let source = read(alloc, parts)?;
     if source.zones() != 1 {

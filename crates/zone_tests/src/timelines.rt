@@ -24,7 +24,7 @@ const EIRE: &[u8] =
 const MENOMINEE: &[u8] =
     b"Rule US 1967 1973 - Apr lastSun 2:00 1:00 D\nRule US 1967 2006 - Oct lastSun 2:00 0 S\n";
 
-/// What a source text says.
+/// Reads a source text.
 fn read(alloc: Global, parts: &[&[u8]]) -> Result<Source, Fail> {
     let mut text = Vec::new(alloc);
     for part in parts {
@@ -39,8 +39,8 @@ fn read(alloc: Global, parts: &[&[u8]]) -> Result<Source, Fail> {
     }
 }
 
-/// The change of this number, or none where there are fewer.
-fn change_at<'a>(found: &'a Timeline<'_>, number: usize) -> Option<Change<'a>> {
+/// Returns the change of this number, or `None` where there are fewer.
+fn change_at<'a>(found: &'a Timeline<'_>, number: usize) -> Option<(i64, State<'a>)> {
     if number < found.len() {
         Some(found.change(number))
     } else {
@@ -48,12 +48,12 @@ fn change_at<'a>(found: &'a Timeline<'_>, number: usize) -> Option<Change<'a>> {
     }
 }
 
-/// The offset, flag and abbreviation of a state.
+/// Returns the offset, flag and abbreviation of a state.
 fn told(state: State<'_>) -> (i32, bool, &[u8]) {
     (state.offset, state.daylight, state.name)
 }
 
-/// What is shown at an instant before the explicit end, or none at a later one.
+/// Returns what is shown at an instant before the explicit end, or `None` at a later one.
 fn state_at<'a>(found: &'a Timeline<'_>, t: i64) -> Option<State<'a>> {
     if t < found.end() {
         Some(found.state(t))

@@ -271,7 +271,7 @@ fn a_column_of_the_greatest_length(rt: HostRuntime) -> Result<(), Fail> {
 }
 
 /// How long piece 0 waits for piece 1, in turns.
-const MOST_TURNS: u64 = 1_000_000;
+const MAX_TURNS: u64 = 1_000_000;
 
 /// Holds piece 0 until piece 1 has entered.
 #[derive(Drop)]
@@ -292,7 +292,7 @@ impl Gate for Hold {
 
 /// Waits until the flag is up, and says whether it was in time.
 fn has_entered(flag: &AtomicU64) -> bool {
-    for _ in 0..MOST_TURNS {
+    for _ in 0..MAX_TURNS {
         if flag.load(Ordering::SeqCst) == 1 {
             return true;
         }
@@ -310,7 +310,7 @@ fn two_workers_are_at_the_gate_at_once(rt: HostRuntime) -> Result<(), Fail> {
         late: AtomicU64::new(0),
     };
     let plan = Plan::new(2, 1, 1, 100, 1000).ok_or("no plan")?;
-    let column = b"Etc/UTC,0\nEtc/UTC,0".as_slice();
+    let column = b"Etc/UTC,0\nEtc/UTC,0\n".as_slice();
     let made = converted(&rt, alloc, &files, (&plan, &gate), column, Vec::new(alloc));
     assert_eq!(rt; made.answer, Ok(2));
     assert_eq!(rt; made.writer.into_inner().as_slice(), &THREE_ROWS[..92]);

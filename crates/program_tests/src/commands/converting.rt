@@ -1,9 +1,8 @@
 //! `convert`, and how it tells of its rows, with outside values.
 
-use super::folder::{Disk, Log};
 use super::{Broken, US, told};
 use std::alloc::Global;
-use std::cell::{Cell, RefCell};
+use std::cell::Cell;
 use std::io::{self, Read, Write};
 use std::sync::Wait;
 use std::test::Fail;
@@ -15,7 +14,8 @@ use zic_counted::Counted;
 
 const UTC: &str = "Zone Etc/UTC 0 - UTC";
 
-/// What `convert` writes, and then how many rows it says there are, or the failure's text and status.
+/// Returns what `convert` writes, and then the number of rows that it answers, or the failure's
+/// text and status.
 fn converted<T: Threads + Wait + Sync, R: Read>(
     rt: &T,
     alloc: Global,
@@ -25,8 +25,8 @@ fn converted<T: Threads + Wait + Sync, R: Read>(
 ) -> Result<String, Fail> {
     let plan = Plan::new(2, 1, 1, max_rows, max_bytes).ok_or("no plan")?;
     let mut writer = Counted::new(Vec::new(alloc));
-    let text = Vec::from_slice(alloc, source.as_bytes())?;
-    let answer = convert(rt, alloc, &plan, text, column, &mut writer);
+    let texts = [Vec::from_slice(alloc, source.as_bytes())?];
+    let answer = convert(rt, alloc, &plan, &texts, column, &mut writer);
     let mut text = String::from_utf8(writer.into_inner())
         .ok()
         .ok_or("no text")?;
@@ -91,42 +91,13 @@ fn convert_reads_the_column_once_the_source_has_files(rt: HostRuntime) -> Result
 fn convert_tells_that_rows_are_not_written(rt: HostRuntime) -> Result<(), Fail> {
     let alloc = rt.alloc();
     let plan = Plan::new(2, 1, 1, 9, 100).ok_or("no plan")?;
-    let text = Vec::from_slice(alloc, UTC.as_bytes())?;
+    let texts = [Vec::from_slice(alloc, UTC.as_bytes())?];
     let mut column = Counted::new(b"Etc/UTC,0".as_slice());
     let mut broken = Counted::new(Broken);
-    let answer = convert(&rt, alloc, &plan, text, &mut column, &mut broken);
+    let answer = convert(&rt, alloc, &plan, &texts, &mut column, &mut broken);
     let unwritten = told(alloc, answer.err().ok_or("it was written")?)?;
     assert_eq!(rt; unwritten.as_str(), "cannot write rows, status 3");
     assert_eq!(rt; broken.failures(), 1, "of the writer");
-    Ok(())
-}
-
-#[test]
-fn convert_opens_its_source(rt: HostRuntime) -> Result<(), Fail> {
-    let alloc = rt.alloc();
-    let calls = RefCell::new(String::new(alloc));
-    let log = Log {
-        alloc,
-        calls: &calls,
-        fails: "open none",
-    };
-    let disk = Disk {
-        log,
-        octets: UTC.as_bytes(),
-    };
-    let plan = Plan::new(2, 1, 1, 9, 100).ok_or("no plan")?;
-    let mut writer = Counted::new(Vec::new(alloc));
-    let mut input = Counted::new(b"Etc/UTC,0".as_slice());
-    let answer = convert_source(&rt, alloc, &plan, &disk, "none", &mut input, &mut writer);
-    let unread = told(alloc, answer.err().ok_or("it was read")?)?;
-    assert_eq!(rt; unread.as_str(), "cannot read none, status 3");
-    let answer = convert_source(&rt, alloc, &plan, &disk, "a", &mut input, &mut writer);
-    assert_eq!(rt; answer.ok(), Some(1));
-    assert_eq!(rt;
-        str::from_utf8(&writer.into_inner()).ok(),
-        Some("Etc/UTC,0,1970-01-01T00:00:00,+00:00:00,0,UTC\n")
-    );
-    assert_eq!(rt; calls.into_inner().as_str(), "open none\nopen a\n");
     Ok(())
 }
 
@@ -160,7 +131,12 @@ fn progress_is_told_twice_a_second_or_at_the_end(rt: HostRuntime) -> Result<(), 
         let clock = Quarters(Cell::new(1000));
         let mut rows: Vec<u8> = Vec::new(alloc);
         let mut told: Vec<u8> = Vec::new(alloc);
-        let mut progress = Progress::new(&mut rows, &clock, &mut told, is_terminal);
+        let line = if is_terminal {
+            Told::Anew(&mut told)
+        } else {
+            Told::Once(&mut told)
+        };
+        let mut progress = Progress::new(&mut rows, &clock, line);
         for _ in 0..5 {
             progress.write_all(b"a,1\nb,2\nc,3\nd,4\n")?;
         }
@@ -181,11 +157,24 @@ fn progress_tells_nothing_before_the_first_write(rt: HostRuntime) -> Result<(), 
     let alloc = rt.alloc();
     let clock = Quarters(Cell::new(0));
     let mut told: Vec<u8> = Vec::new(alloc);
-    let mut unused = Progress::new(Broken, &clock, &mut told, true);
+    let mut unused = Progress::new(Broken, &clock, Told::Anew(&mut told));
     unused.finish();
-    let mut broken = Progress::new(Broken, &clock, &mut told, false);
+    let mut broken = Progress::new(Broken, &clock, Told::Once(&mut told));
     assert!(rt; broken.write(b"a,1\n").is_err());
     broken.finish();
     assert!(rt; told.is_empty());
+    Ok(())
+}
+
+#[test]
+fn progress_is_told_nowhere_where_nobody_asks(rt: HostRuntime) -> Result<(), Fail> {
+    let clock = Quarters(Cell::new(0));
+    let mut rows: Vec<u8> = Vec::new(rt.alloc());
+    let told: Told<&mut Vec<u8>> = Told::Never;
+    let mut progress = Progress::new(&mut rows, &clock, told);
+    progress.write_all(b"a,1\n")?;
+    progress.flush()?;
+    progress.finish();
+    assert_eq!(rt; rows.as_slice(), b"a,1\n".as_slice());
     Ok(())
 }

@@ -13,10 +13,10 @@ use zic_counted::Counted;
 
 /// Notes calls, of which one fails.
 #[derive(Clone, Copy)]
-pub(super) struct Log<'a> {
-    pub(super) alloc: Global,
-    pub(super) calls: &'a RefCell<String>,
-    pub(super) fails: &'a str,
+struct Log<'a> {
+    alloc: Global,
+    calls: &'a RefCell<String>,
+    fails: &'a str,
 }
 
 impl<'a> Log<'a> {
@@ -34,25 +34,25 @@ impl<'a> Log<'a> {
     }
 }
 
-/// A file system in which each file that is opened has the same octets.
+/// A file system in which each file that is opened has the same bytes.
 #[derive(Drop)]
-pub(super) struct Disk<'a> {
-    pub(super) log: Log<'a>,
-    pub(super) octets: &'a [u8],
+struct Disk<'a> {
+    log: Log<'a>,
+    bytes: &'a [u8],
 }
 
 /// A file of it.
 #[derive(Drop)]
-pub(super) struct DiskFile<'a> {
+struct DiskFile<'a> {
     log: Log<'a>,
-    octets: &'a [u8],
+    bytes: &'a [u8],
 }
 
 impl<'a> Read for DiskFile<'a> {
     fn read(&mut self, buf: &mut [u8]) -> io::Result<usize> {
-        let mut octets = self.octets;
-        let read = octets.read(buf);
-        self.octets = octets;
+        let mut bytes = self.bytes;
+        let read = bytes.read(buf);
+        self.bytes = bytes;
         read
     }
 }
@@ -107,7 +107,7 @@ impl<'a> Files for Disk<'a> {
         self.log.note(what, path)?;
         Ok(DiskFile {
             log: self.log,
-            octets: self.octets,
+            bytes: self.bytes,
         })
     }
 
@@ -149,7 +149,8 @@ impl<'a> Files for Disk<'a> {
     }
 }
 
-/// The calls of `build` of the words, and then its failure's text and status, if it has one. The word `-` is this input.
+/// Returns the calls of `build` of the words, and then its failure's text and status, if it has
+/// one. The word `-` is this input.
 fn built<T: Threads + Wait + Sync>(
     rt: &T,
     alloc: Global,
@@ -166,7 +167,7 @@ fn built<T: Threads + Wait + Sync>(
     };
     let disk = Disk {
         log,
-        octets: b"# A source.\n",
+        bytes: b"# A source.\n",
     };
     let mut sources = Vec::new(alloc);
     for word in words.split_whitespace() {
@@ -180,7 +181,7 @@ fn built<T: Threads + Wait + Sync>(
     Ok(told_calls)
 }
 
-/// What `build` of the words comes to. The word `-` is this input.
+/// Returns what `build` of the words comes to. The word `-` is this input.
 fn build_words<T: Threads + Wait + Sync>(
     rt: &T,
     alloc: Global,
@@ -271,8 +272,47 @@ fn an_empty_word_is_no_path(rt: HostRuntime) -> Result<(), Fail> {
     Ok(())
 }
 
+/// Writes what `check` makes of the source that a word names, or the failure's text and status.
+/// The word `-` is the input.
+fn check_word<T: Threads + Wait + Sync>(
+    rt: &T,
+    alloc: Global,
+    disk: &Disk<'_>,
+    input: &mut Counted<&[u8]>,
+    word: &str,
+    out: &mut Counted<Vec<u8>>,
+) -> Result<(), Fail> {
+    let words = [String::from_str(alloc, word)?];
+    let checked = match read_sources(alloc, disk, input, &words) {
+        Ok(texts) => check(rt, alloc, &plan(1)?, &texts, out),
+        Err(failure) => Err(failure),
+    };
+    if let Err(failure) = checked {
+        out.write_all(told(alloc, failure)?.as_bytes())?;
+    }
+    Ok(())
+}
+
+/// Writes what `show` makes of the file that a word names at instant 0, or the failure's text and
+/// status.
+fn show_word(
+    alloc: Global,
+    disk: &Disk<'_>,
+    word: &str,
+    out: &mut Counted<Vec<u8>>,
+) -> Result<(), Fail> {
+    let shown = match read_file(alloc, disk, word) {
+        Ok(bytes) => show(alloc, &bytes, 0, out),
+        Err(failure) => Err(failure),
+    };
+    if let Err(failure) = shown {
+        out.write_all(told(alloc, failure)?.as_bytes())?;
+    }
+    Ok(())
+}
+
 #[test]
-fn check_and_show_open_their_words(rt: HostRuntime) -> Result<(), Fail> {
+fn words_for_sources_and_files_are_opened(rt: HostRuntime) -> Result<(), Fail> {
     let alloc = rt.alloc();
     let calls = RefCell::new(String::new(alloc));
     let log = Log {
@@ -282,24 +322,19 @@ fn check_and_show_open_their_words(rt: HostRuntime) -> Result<(), Fail> {
     };
     let source = Disk {
         log,
-        octets: b"Zone Etc/UTC 0 - UTC",
+        bytes: b"Zone Etc/UTC 0 - UTC",
     };
-    let plan = plan(1)?;
     let mut out = Counted::new(Vec::new(alloc));
     let mut input = Counted::new(b"Zone A 0 - UTC".as_slice());
     for word in ["a", "-", "none"] {
-        if let Err(failure) = check_source(&rt, alloc, &plan, &source, &mut input, word, &mut out) {
-            out.write_all(told(alloc, failure)?.as_bytes())?;
-        }
+        check_word(&rt, alloc, &source, &mut input, word, &mut out)?;
     }
     let file = Disk {
         log,
-        octets: UTC_FILE.as_slice(),
+        bytes: UTC_FILE.as_slice(),
     };
     for word in ["f", "none"] {
-        if let Err(failure) = show_file(alloc, &file, word, 0, &mut out) {
-            out.write_all(told(alloc, failure)?.as_bytes())?;
-        }
+        show_word(alloc, &file, word, &mut out)?;
     }
     assert_eq!(rt;
         str::from_utf8(&out.into_inner()).ok(),

@@ -20,7 +20,7 @@ const SOURCE: &str = "Zone Etc/UTC 0 - UTC\nLink Z/EST East\nZone Z/EST -5 - EST
 #[derive(Drop)]
 struct Kept {
     path: String,
-    octets: Vec<u8>,
+    bytes: Vec<u8>,
 }
 
 /// A tree in memory, which refuses one path.
@@ -32,23 +32,24 @@ struct Shelf<'a> {
 }
 
 impl<'a> Tree for Shelf<'a> {
-    ghost placed = { λ shelf. Some (map (λ file. record { path = string_bytes file.path; octets = file.octets.items }) shelf.files.items) };
+    ghost placed = { λ shelf. Some (map (λ file. record { path = string_bytes file.path; bytes = file.bytes.items }) shelf.files.items) };
 
-    fn place(&mut self, path: &str, octets: &[u8]) -> Result<(), Unplaced> {
+    fn place(&mut self, path: &str, bytes: &[u8]) -> Result<(), Unplaced> {
         if path == self.refuses {
             return Err(Unplaced::Refused);
         }
         let path = String::from_str(self.alloc, path)?;
         let mut copy = Vec::new(self.alloc);
-        copy.extend_from_slice(octets)?;
-        match self.files.push(Kept { path, octets: copy }) {
+        copy.extend_from_slice(bytes)?;
+        match self.files.push(Kept { path, bytes: copy }) {
             Ok(()) => Ok(()),
             Err(_) => Err(Unplaced::Memory),
         }
     }
 }
 
-/// What `build` of the source places in the folder D, and its failure's text and status, if it has one.
+/// What `build` of the source places in the folder D, and its failure's text and status, if it has
+/// one.
 fn placed<T: Threads + Wait + Sync>(
     rt: &T,
     alloc: Global,
@@ -78,9 +79,9 @@ fn files_are_placed_in_the_order_of_the_source(rt: HostRuntime) -> Result<(), Fa
     ];
     assert_eq!(rt; told.as_str(), "");
     assert_eq!(rt; files.len(), want.len());
-    for (file, (path, octets)) in files.iter().zip(want) {
+    for (file, (path, bytes)) in files.iter().zip(want) {
         assert_eq!(rt; file.path.as_str(), path);
-        assert_eq!(rt; &file.octets[..], octets.as_slice(), "at {path:?}");
+        assert_eq!(rt; &file.bytes[..], bytes.as_slice(), "at {path:?}");
     }
     Ok(())
 }
@@ -92,7 +93,7 @@ fn a_refused_file_ends_the_command_and_is_named(rt: HostRuntime) -> Result<(), F
     assert_eq!(rt; files.len(), 1);
     for file in &files {
         assert_eq!(rt; file.path.as_str(), "D/Etc/UTC");
-        assert_eq!(rt; &file.octets[..], UTC_FILE.as_slice());
+        assert_eq!(rt; &file.bytes[..], UTC_FILE.as_slice());
     }
     Ok(())
 }

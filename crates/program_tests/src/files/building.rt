@@ -41,7 +41,7 @@ const PLANS: [(u64, u64); 16] = [
     (64, 65_536),
 ];
 
-/// Builds with so many workers, and so many zones in a piece.
+/// Builds with this number of workers, and this number of zones in a piece.
 fn built<R: Threads + Wait + Sync, G: Gate + Sync>(
     rt: &R,
     alloc: Global,
@@ -192,8 +192,8 @@ fn no_piece_after_the_fault_is_begun(rt: HostRuntime) -> Result<(), Fail> {
     Ok(())
 }
 
-/// How long piece 0 waits for piece 1, in turns.
-const MOST_TURNS: u64 = 1_000_000;
+/// The number of turns that piece 0 waits for piece 1.
+const MAX_TURNS: u64 = 1_000_000;
 
 /// Holds piece 0 until piece 1 has entered.
 #[derive(Drop)]
@@ -212,9 +212,9 @@ impl Gate for Hold {
     }
 }
 
-/// Waits until the flag is up, and says whether it was in time.
+/// Waits until the flag is up, and returns whether it was in time.
 fn has_entered(flag: &AtomicU64) -> bool {
-    for _ in 0..MOST_TURNS {
+    for _ in 0..MAX_TURNS {
         if flag.load(Ordering::SeqCst) == 1 {
             return true;
         }

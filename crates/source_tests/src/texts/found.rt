@@ -1,4 +1,4 @@
-//! What reading finds by name: a set's rules and a link's zone.
+//! A set's rules and a link's zone, which reading finds by name.
 
 use super::*;
 
@@ -16,7 +16,8 @@ Rule A 2002 only - Jan 1 0 0 -
 Link B A/B
 ";
 
-/// For each rule of the second source, the numbers of the rules that its set has in the first.
+/// Returns for each rule of the second source the numbers of the rules that its set has in the
+/// first.
 fn sets_text(alloc: Global, source: &Source, named: &Source) -> Result<String, Fail> {
     let mut text = String::new(alloc);
     for rule in 0..named.rules() {
@@ -47,7 +48,7 @@ fn unknown_sets_have_no_rules(rt: HostRuntime) -> Result<(), Fail> {
     Ok(())
 }
 
-/// The number of the zone at the end of each link.
+/// Returns the number of the zone at the end of each link.
 fn link_zones_text(alloc: Global, source: &Source) -> Result<String, Fail> {
     let mut text = String::new(alloc);
     for link in 0..source.links() {

@@ -2,7 +2,7 @@
 
 use super::*;
 
-/// So many lines: the text before a number, the number, and the text behind it.
+/// Returns `count` lines: the text before a number, the number, and the text after it.
 fn numbered(alloc: Global, count: u32, before: &str, behind: &str) -> Result<Vec<u8>, Fail> {
     let mut text = Vec::new(alloc);
     for number in 0..count {
@@ -12,7 +12,8 @@ fn numbered(alloc: Global, count: u32, before: &str, behind: &str) -> Result<Vec
     Ok(text)
 }
 
-/// Asserts that this is the first fault of these texts, which are too long for a message, or that they have none.
+/// Asserts that this is the first fault of these texts, which are too long for a message, or that
+/// they have none.
 fn assert_long(
     rt: &impl Abort,
     alloc: Global,
@@ -69,7 +70,7 @@ fn zone_lines_are_counted(rt: HostRuntime) -> Result<(), Fail> {
     assert_long(&rt, alloc, &[&zone, b"Zone B 0 - UTC"], too_many(2, 1))
 }
 
-/// Links of one chain, each before the link to which it leads.
+/// Returns links of one chain, each before the link to which it leads.
 #[test]
 fn a_long_chain_is_followed(rt: HostRuntime) -> Result<(), Fail> {
     let alloc = rt.alloc();

@@ -40,7 +40,7 @@ fn chains_have_faults(rt: HostRuntime) -> Result<(), Fail> {
     assert_faults(&rt, rt.alloc(), CHAIN_FAULTS)
 }
 
-/// What the one link of these texts says.
+/// Returns the names of the one link of these texts.
 fn link_text(alloc: Global, texts: &[&[u8]]) -> Result<String, Fail> {
     let source = source(alloc, texts)?;
     if source.links() != 1 {

@@ -1,9 +1,9 @@
-//! What Rule lines say.
+//! Rule lines.
 
 use super::*;
 use zic_calendar::On;
 
-/// The moment of the one rule of this text.
+/// Returns the moment of the one rule of this text.
 fn moment(alloc: Global, text: &[u8]) -> Result<Moment, Fail> {
     let source = source(alloc, &[text])?;
     if source.rules() != 1 {
@@ -12,7 +12,7 @@ fn moment(alloc: Global, text: &[u8]) -> Result<Moment, Fail> {
     Ok(source.rule(0).moment)
 }
 
-/// The months, days and times of the rules, and AT's clock.
+/// The months, days and times of rules, and AT's clock.
 const MOMENTS: &[(&[u8], u8, On, i32, ClockForm)] = &[
     (
         b"Rule US 2007 ma - Mar Su>=8 2 1 D",

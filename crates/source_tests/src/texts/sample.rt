@@ -64,7 +64,7 @@ z b31 1 - Z
 #
 ";
 
-/// The line of the first fault, or 0 for a source.
+/// Returns the line of the first fault, or 0 for a source.
 fn answer(alloc: Global, text: Vec<u8>) -> Result<u64, Fail> {
     match read_source(alloc, &[text]) {
         Ok(_) => Ok(0),
@@ -95,7 +95,7 @@ fn each_front_of_the_sample_returns(rt: HostRuntime) -> Result<(), Fail> {
     Ok(())
 }
 
-/// The answers to a text with each of the 256 bytes at this place.
+/// Returns the answers to a text with each of the 256 bytes at this place.
 fn answers_at(alloc: Global, text: &[u8], place: usize) -> Result<u64, Fail> {
     let mut greatest = 0;
     for byte in 0..=255 {

@@ -1,4 +1,4 @@
-//! What Zone and continuation lines say.
+//! Zone and continuation lines.
 
 use super::*;
 
@@ -39,7 +39,7 @@ fn until_text(alloc: Global, until: &Option<Until>) -> Result<String, Fail> {
     }
 }
 
-/// A line's place, offset, RULES, FORMAT and UNTIL.
+/// Returns a line's place, offset, RULES, FORMAT and UNTIL.
 fn line_text(alloc: Global, line: &ZoneLine) -> Result<String, Fail> {
     let (number, offset) = (line.place.line, line.offset);
     let rules = rules_text(alloc, &line.rules)?;
@@ -48,7 +48,7 @@ fn line_text(alloc: Global, line: &ZoneLine) -> Result<String, Fail> {
     Ok(format!(in alloc; "{number}: {offset}, {rules}, {format}, {until}")?)
 }
 
-/// What the first line of this text's one zone says, or the text's first fault.
+/// Returns the first line of this text's one zone as text, or the text's first fault.
 fn answer_text(alloc: Global, text: &[u8]) -> Result<String, Fail> {
     match read(alloc, &[text])? {
         Ok(source) if source.zones() == 1 => line_text(alloc, source.line(0, 0)),
@@ -85,7 +85,8 @@ fn lines_say_their_fields(rt: HostRuntime) -> Result<(), Fail> {
     Ok(())
 }
 
-/// The UNTIL of the first line of this text's one zone, whose second line is the text's fourth and has none.
+/// The UNTIL of the first line of this text's one zone, whose second line is the text's fourth and
+/// has none.
 fn first_until(alloc: Global, text: &[u8]) -> Result<String, Fail> {
     let source = source(alloc, &[text])?;
     if source.zones() != 1 || source.lines(0) != 2 {
@@ -127,11 +128,12 @@ fn untils_have_their_parts(rt: HostRuntime) -> Result<(), Fail> {
     Ok(())
 }
 
-/// A line for each line of each zone of this source: the zone's name, the line's number in its text, and its offset.
+/// A line for each line of each zone of this source: the zone's name, the line's number in its
+/// text, and its offset.
 fn offsets_text(alloc: Global, source: &Source) -> Result<String, Fail> {
     let mut text = String::new(alloc);
     for zone in 0..source.zones() {
-        let name = text_of(alloc, source.zone_name(zone))?;
+        let name = text_of(alloc, source.zone_name(zone).octets())?;
         for line in 0..source.lines(zone) {
             let line = source.line(zone, line);
             let (number, offset) = (line.place.line, line.offset);
@@ -154,7 +156,8 @@ A 6 18000
 C 1 21600
 ";
 
-/// A continuation line belongs to the zone before it, whatever its first word is, and zones keep their order.
+/// A continuation line belongs to the zone before it, whatever its first word is, and zones keep
+/// their order.
 #[test]
 fn zones_keep_their_lines(rt: HostRuntime) -> Result<(), Fail> {
     let alloc = rt.alloc();

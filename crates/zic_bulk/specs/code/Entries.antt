@@ -6,17 +6,8 @@ use Rattle.zic_base.specs.declared.place.Place.{Place}
 use Rattle.zic_lines.specs.declared.link.Link.{Link}
 use Rattle.zic_source.specs.Links.{EndsAt}
 use Rattle.zic_source.specs.Source.{SourceLines, zone_at}
-use Rattle.zic_image.specs.Image.{FileImage}
-use Rattle.zic_bulk.specs.Files.{File}
-use Rattle.zic_bulk.specs.declared.entry.Entry.{Entry}
-
--- an image for a number that no zone has
-abbrev pub no_image : FileImage
-no_image = record { octets = []; content = record { version = 2; changes = []; types = []; names = []; text = [] } }
-
--- the file of an entry: its name, and the image of its zone
-abbrev pub file_of : List FileImage → Entry → File
-file_of images entry = record { name = entry.name; image = slice_index_or images entry.zone no_image }
+use Rattle.zic_files.specs.File.{FileImage, File}
+use Rattle.zic_files.specs.declared.entry.Entry.{Entry}
 
 -- the entry of the zone of this number
 pub record IsEntryOfZone (source : SourceLines) (number : ℕ) (entry : Entry) : Type 0 where
@@ -25,19 +16,29 @@ pub record IsEntryOfZone (source : SourceLines) (number : ℕ) (entry : Entry) :
 
 -- the entry of the link of this number
 abbrev pub IsEntryOfLink : SourceLines → ℕ → Entry → Type 0
-IsEntryOfLink source number entry = IfSome (slice_get source.links number) (λ link. (entry.name ≡ link.name) × EndsAt source link entry.zone)
+IsEntryOfLink source number entry =
+    IfSome (slice_get source.links number) (λ link. (entry.name ≡ link.name)
+    × EndsAt source link entry.zone)
 
--- The zone of the first number is there, and its Zone line stands before the link of the other number, if that is there.
+-- The zone of the first number is there, and its Zone line stands before the link of the other
+-- number, if that is there.
 abbrev pub IsZoneNext : SourceLines → ℕ → ℕ → Type 0
-IsZoneNext source number link = IsSomeAnd (zone_at source number) (λ zone. IfSome (slice_get source.links link) (λ l. IsBefore zone.first.place l.place))
+IsZoneNext source number link =
+    IsSomeAnd (zone_at source number)
+    (λ zone. IfSome (slice_get source.links link) (λ l. IsBefore zone.first.place l.place))
 
--- The link of the second number is there, and stands before the Zone line of the zone of the first number, if that is there.
+-- The link of the second number is there, and stands before the Zone line of the zone of the first
+-- number, if that is there.
 abbrev pub IsLinkNext : SourceLines → ℕ → ℕ → Type 0
-IsLinkNext source number link = IsSomeAnd (slice_get source.links link) (λ l. IfSome (zone_at source number) (λ zone. IsBefore l.place zone.first.place))
+IsLinkNext source number link =
+    IsSomeAnd (slice_get source.links link)
+    (λ l. IfSome (zone_at source number) (λ zone. IsBefore l.place zone.first.place))
 
 -- an entry of the Zone line at this place
 abbrev pub IsZoneEntry : SourceLines → Place → Entry → Type 0
-IsZoneEntry source place entry = IsSomeAnd (zone_at source entry.zone) (λ zone. (zone.first.place ≡ place) × (entry.name ≡ zone.name))
+IsZoneEntry source place entry =
+    IsSomeAnd (zone_at source entry.zone) (λ zone. (zone.first.place ≡ place)
+    × (entry.name ≡ zone.name))
 
 -- an entry of the Link line at this place
 pub record IsLinkEntry (source : SourceLines) (place : Place) (entry : Entry) : Type 0 where

@@ -3,9 +3,9 @@ use Rattle.std.specs.Prelude.{ℕ, ◌+◌, ◌*◌, ◌≤◌, ◌<◌, List, l
 use Rattle.std.specs.Int.{div_ceil}
 use Rattle.zic_base.specs.declared.fault.Fault.{Fault}
 use Rattle.zic_source.specs.Source.{SourceLines}
-use Rattle.zic_source.specs.declared.limit.TheConstants.{MOST_NAMES}
-use Rattle.zic_image.specs.Image.{FileImage}
-use Rattle.zic_bulk.specs.declared.plan.TheConstants.{MOST_OF_PIECE}
+use Rattle.zic_source.specs.declared.limit.TheConstants.{MAX_NAMES}
+use Rattle.zic_files.specs.File.{FileImage}
+use Rattle.zic_plan.specs.declared.plan.TheConstants.{MAX_OF_PIECE}
 use Rattle.zic_bulk.specs.code.Zones.{AreImagesWithin, IsFaultWithin}
 
 -- a source, and how many zones a piece has; the last may have fewer
@@ -24,10 +24,12 @@ start_of pieces i = min (i * pieces.size) (length pieces.source.zones)
 -- what holds of the pieces of a source
 pub record ArePieces (pieces : Pieces) : Type 0 where
   pub some : 0 < pieces.size
-  pub most : pieces.size ≤ MOST_OF_PIECE
-  pub few : length pieces.source.zones ≤ MOST_NAMES
+  pub most : pieces.size ≤ MAX_OF_PIECE
+  pub few : length pieces.source.zones ≤ MAX_NAMES
 
 -- What a piece comes to: the images of its zones, or the fault of the first of them that has one.
 abbrev pub IsOutcomeOf : Pieces → ℕ → Result (List FileImage) Fault → Type 0
-IsOutcomeOf pieces i (Ok images) = AreImagesWithin pieces.source (start_of pieces i) (start_of pieces (i + 1)) images
-IsOutcomeOf pieces i (Err fault) = IsFaultWithin pieces.source (start_of pieces i) (start_of pieces (i + 1)) fault
+IsOutcomeOf pieces i (Ok images) =
+    AreImagesWithin pieces.source (start_of pieces i) (start_of pieces (i + 1)) images
+IsOutcomeOf pieces i (Err fault) =
+    IsFaultWithin pieces.source (start_of pieces i) (start_of pieces (i + 1)) fault

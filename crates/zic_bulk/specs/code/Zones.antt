@@ -3,18 +3,22 @@ use Rattle.std.specs.Prelude.{◌≡◌, ◌+◌, ◌≤◌, ◌<◌, ℕ, List,
 use Rattle.zic_base.specs.declared.fault.Fault.{Fault}
 use Rattle.zic_source.specs.Source.{SourceLines}
 use Rattle.zic_states.specs.Fault.{HasOffsetOutOfRange}
-use Rattle.zic_stretches.specs.Stretch.{zone_of}
-use Rattle.zic_image.specs.Image.{FileImage, IsImageOf, IsFaultOfZone}
+use Rattle.zic_rules.specs.Period.{zone_of}
+use Rattle.zic_files.specs.File.{FileImage}
+use Rattle.zic_table.specs.Image.{IsImageOf, IsFaultOfZone}
 use Rattle.zic_bulk.specs.Files.{IsReadImage}
 
 -- their images, in order
-pub record AreImagesWithin (source : SourceLines) (first end : ℕ) (images : List FileImage) : Type 0 where
+pub record AreImagesWithin (source : SourceLines) (first end : ℕ)
+    (images : List FileImage) : Type 0 where
   pub count : first + length images ≡ end
-  pub each : (k : ℕ) (image : FileImage) → slice_get images k ≡ Some image → IsReadImage (zone_of source (first + k)) image
+  pub each : (k : ℕ) (image : FileImage) → slice_get images k ≡ Some image
+      → IsReadImage (zone_of source (first + k)) image
 
 -- Each has an image.
 abbrev pub HaveImagesWithin : SourceLines → ℕ → ℕ → Type 0
-HaveImagesWithin source first end = (m : ℕ) → first ≤ m → m < end → (image : FileImage) × IsImageOf (zone_of source m) image
+HaveImagesWithin source first end =
+    (m : ℕ) → first ≤ m → m < end → (image : FileImage) × IsImageOf (zone_of source m) image
 
 -- the fault of the first of them that has one
 pub record IsFaultWithin (source : SourceLines) (first end : ℕ) (fault : Fault) : Type 0 where
@@ -24,7 +28,8 @@ pub record IsFaultWithin (source : SourceLines) (first end : ℕ) (fault : Fault
   pub fault_of_zone : IsFaultOfZone (zone_of source number) fault
   pub before : HaveImagesWithin source first number
 
--- where memory may be wanting: at one of them with each offset in its range, before which each has an image
+-- where memory may run out: at one of them with each offset in its range, before which each has an
+-- image
 pub record MayWantWithin (source : SourceLines) (first end : ℕ) : Type 0 where
   pub number : ℕ
   pub from : first ≤ number

@@ -1,6 +1,6 @@
 -- The first line of some bytes.
-use Rattle.std.specs.Prelude.{◌≡◌, ◌<◌, ◌⊎◌, ℕ, true, false, List, [], ◌∷◌, ◌++◌, length, slice_index, All}
-use Rattle.zic_columns.specs.Column.{AreWholeLines, ends_line, fields_of, plain_records}
+use Rattle.std.specs.Prelude.{◌≡◌, ◌<◌, ◌≤◌, ◌⊎◌, ℕ, true, false, List, [], ◌∷◌, ◌++◌, length, slice_index, take, All}
+use Rattle.zic_columns.specs.Column.{AreWholeLines, AreWholeRecords, column_records, ends_line, fields_of, plain_records}
 
 -- the rest are the bytes from the first that ends no line
 pub record IsAfterLineEnds (bytes rest : List ℕ) : Type 0 where
@@ -16,3 +16,11 @@ pub record IsFirstLine (bytes line rest : List ℕ) : Type 0 where
   pub one : plain_records before ≡ fields_of line ∷ []
   pub whole : (rest ≡ []) ⊎ AreWholeLines before
   pub shorter : length rest < length bytes
+
+-- so many bytes hold the first record, and are whole records or all
+pub record IsFirstRecord (bytes : List ℕ) (len : ℕ) : Type 0 where
+  pub some : 0 < len
+  pub within : len ≤ length bytes
+  pub fields : List (List ℕ)
+  pub one : column_records (take len bytes) ≡ fields ∷ []
+  pub whole : (len ≡ length bytes) ⊎ AreWholeRecords (take len bytes)

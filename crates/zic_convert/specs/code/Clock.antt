@@ -1,11 +1,11 @@
 -- What a clock keeps from row to row.
 use Rattle.std.specs.Prelude.{◌≡◌, ℕ, false, List, [], ◌∷◌, Option, Some, None, Contains, IfSome, MatchOption}
 use Rattle.zic_base.specs.State.{Shown}
-use Rattle.zic_bulk.specs.Files.{File}
-use Rattle.zic_bulk.specs.Sound.{IsAlwaysKnown}
+use Rattle.zic_files.specs.File.{File}
+use Rattle.zic_files.specs.Sound.{IsAlwaysKnown}
 use Rattle.zic_posix.specs.declared.instants.Instants.{Instants}
 use Rattle.zic_rows.specs.Row.{row_text}
-use Rattle.zic_table.specs.Content.{Content}
+use Rattle.zic_content.specs.Content.{Content}
 use Rattle.zic_tzif.specs.Answer.{AnswersThroughout}
 use Rattle.zic_convert.specs.Rows.{IsTextOf, fault_of, is_named}
 use Rattle.zic_convert.specs.declared.query.Query.{Query}

@@ -1,17 +1,12 @@
 -- How a conversion ends early.
-use Rattle.std.specs.Prelude.{◌≡◌, ℕ, ◌+◌, ◌-◌, ◌*◌, ◌<◌, ◌⊎◌, min, List, Option}
+use Rattle.std.specs.Prelude.{◌≡◌, ℕ, ◌+◌, ◌<◌, ◌⊎◌, List, Option}
 use Rattle.zic_counted.specs.Counts.{Counts, HasFailedSince, greatest}
-use Rattle.zic_bulk.specs.Files.{File}
-use Rattle.zic_bulk.specs.Plan.{Limits}
-use Rattle.zic_bulk.specs.declared.stop.RunStop.{RunStop}
-use Rattle.zic_bulk.specs.declared.stop.RunStop.TheVariants as stop
+use Rattle.zic_files.specs.File.{File}
+use Rattle.zic_plan.specs.declared.stop.RunStop.{RunStop}
+use Rattle.zic_plan.specs.declared.stop.RunStop.TheVariants as stop
 use Rattle.zic_convert.specs.Convert.{WritesAt, WritesPart}
 use Rattle.zic_convert.specs.declared.halt.Halt.{Halt}
 use Rattle.zic_convert.specs.declared.halt.Halt.TheVariants as halt
-
--- how many records the next block may have, where so many rows were converted
-abbrev pub block_size : Limits → ℕ → ℕ
-block_size plan count = min (plan.workers * plan.row_piece) (plan.max_rows + 1 - count)
 
 -- what was written where the column could not be read on, or where the conversion ends for another cause
 abbrev pub WritesAtHalt : List File → ℕ → List ℕ → Halt → Option (List ℕ) → Option (List ℕ) → Type 0

@@ -1,47 +1,39 @@
--- The records of a block, cut into pieces.
-use Rattle.std.specs.Prelude.{ℕ, ◌+◌, ◌*◌, ◌≤◌, ◌<◌, List, [], ◌∷◌, ◌++◌, length, min, slice_range, Option, Some, None, Result, Ok, Err}
-use Rattle.std.specs.Int.{div_ceil}
-use Rattle.zic_bulk.specs.Files.{File}
-use Rattle.zic_bulk.specs.declared.stop.RowKind.{RowKind}
-use Rattle.zic_bulk.specs.declared.plan.TheConstants.{MOST_OF_PIECE, MOST_ROWS, MOST_WORKERS}
+-- The records of a round, in pieces.
+use Rattle.std.specs.Prelude.{◌≡◌, ℕ, ◌+◌, ◌*◌, ◌≤◌, Bool, true, List, [], ◌∷◌, ◌++◌, length, slice_get, Option, Some, None, IsSome, IfSome, Result, Ok, Err}
+use Rattle.zic_columns.specs.Column.{column_records}
+use Rattle.zic_columns.specs.Round.{ArePiecesOf}
+use Rattle.zic_columns.specs.declared.pieces.TheConstants.{MAX_PIECES}
+use Rattle.zic_files.specs.File.{File}
+use Rattle.zic_plan.specs.declared.stop.RowKind.{RowKind}
+use Rattle.zic_plan.specs.declared.plan.TheConstants.{MAX_OF_PIECE, MAX_ROWS}
 use Rattle.zic_convert.specs.code.Row.{AreRowsOf, RowsOf}
 
--- the records of a block, the number of the first as a row, how many rows there may be, and how many records a piece has; the last may
--- have fewer
+-- the bytes of each piece, the number of the first record as a row, how many rows there may be, how many records a piece has (the last
+-- may have fewer), and whether a piece with a fault stops the task
 pub record Pieces : Type 0 where
   pub files : List File
-  pub records : List (List (List ℕ))
+  pub pieces : List (List ℕ)
   pub first : ℕ
   pub most : ℕ
   pub size : ℕ
+  pub stops : Bool
 
--- how many pieces there are
-abbrev pub count_of : Pieces → ℕ
-count_of pieces = div_ceil (length pieces.records) pieces.size
+-- what holds of the pieces of a round
+pub record ArePieces (p : Pieces) : Type 0 where
+  pub some : 1 ≤ p.size
+  pub small : p.size ≤ MAX_OF_PIECE
+  pub cut : ArePiecesOf p.size p.pieces
+  pub few : length p.pieces ≤ MAX_PIECES
+  pub first : p.first ≤ MAX_ROWS + 1
 
--- the number of a piece's first record, and of the last piece's end
-abbrev pub start_of : Pieces → ℕ → ℕ
-start_of pieces i = min (i * pieces.size) (length pieces.records)
+-- the rows of a piece's records
+abbrev pub AreRowsOfPiece : Pieces → ℕ → RowsOf → Type 0
+AreRowsOfPiece p i rows = IfSome (slice_get p.pieces i) (λ piece. AreRowsOf p.files p.most (p.first + i * p.size) (column_records piece) rows)
 
--- what holds of the pieces of a block
-pub record ArePieces (pieces : Pieces) : Type 0 where
-  pub some : 0 < pieces.size
-  pub small : pieces.size ≤ MOST_OF_PIECE
-  pub few : length pieces.records ≤ MOST_WORKERS * MOST_OF_PIECE
-  pub first : pieces.first ≤ MOST_ROWS + 1
-
--- the records from one number on up to another
-abbrev pub records_of : Pieces → ℕ → List (List (List ℕ))
-records_of pieces i = slice_range pieces.records (start_of pieces i) (start_of pieces (i + 1))
-
--- What a piece comes to: the rows of its records. It always has a value.
+-- What a piece comes to: its rows, up to the first that has a fault, or where that is to stop the task a fault.
 abbrev pub IsOutcomeOf : Pieces → ℕ → Result RowsOf (Unit {0}) → Type 0
-IsOutcomeOf pieces i (Ok rows) = AreRowsOf pieces.files pieces.most (pieces.first + start_of pieces i) (records_of pieces i) rows
-IsOutcomeOf pieces i (Err fault) = ⊥
-
--- no piece of a task has a fault
-abbrev pub NeverFaults : {X F : Type 0} → (ℕ → Result X F → Type 0) → Type 0
-NeverFaults {X} {F} outcome = (i : ℕ) (fault : F) → outcome i (Err fault) → ⊥
+IsOutcomeOf p i (Ok rows) = AreRowsOfPiece p i rows
+IsOutcomeOf p i (Err fault) = (p.stops ≡ true) × (rows : RowsOf) × AreRowsOfPiece p i rows × IsSome rows.fault
 
 -- some rows, and the rows after them, where none of the first has a fault
 abbrev pub followed_by : RowsOf → RowsOf → Option RowKind → RowsOf

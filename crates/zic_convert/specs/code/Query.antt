@@ -1,9 +1,9 @@
 -- What a record asks for.
 use Rattle.std.specs.Prelude.{◌≡◌, ℕ, ℤ, false, List, [], ◌∷◌, Some, None, IsSomeAnd}
-use Rattle.zic_bulk.specs.declared.stop.RowKind.{RowKind}
-use Rattle.zic_bulk.specs.declared.stop.RowKind.TheVariants as kind
-use Rattle.zic_columns.specs.declared.record.Record.{Record}
-use Rattle.zic_columns.specs.declared.record.Record.TheVariants.{Pair, Other}
+use Rattle.zic_plan.specs.declared.stop.RowKind.{RowKind}
+use Rattle.zic_plan.specs.declared.stop.RowKind.TheVariants as kind
+use Rattle.zic_columns.specs.declared.entry.Record.{Record}
+use Rattle.zic_columns.specs.declared.entry.Record.TheVariants.{Pair, Other}
 use Rattle.zic_rows.specs.Instant.{IsRowInstant, instant_of}
 use Rattle.zic_convert.specs.Rows.{is_row_instant}
 

@@ -1,8 +1,8 @@
 -- Rows as the code has them.
 use Rattle.std.specs.Prelude.{◌≡◌, ℕ, List, length, Option}
 use Rattle.std.specs.List.{concat}
-use Rattle.zic_bulk.specs.Files.{File}
-use Rattle.zic_bulk.specs.declared.stop.RowKind.{RowKind}
+use Rattle.zic_files.specs.File.{File}
+use Rattle.zic_plan.specs.declared.stop.RowKind.{RowKind}
 use Rattle.zic_convert.specs.Rows.{ComeTo}
 
 -- the text of some rows, how many there are, and the fault of the row after them, or none

@@ -3,10 +3,11 @@ use Rattle.std.specs.Prelude.{◌≡◌, ℕ, ◌+◌, ◌⊎◌, List, Option, 
 use Rattle.std.specs.Io.{StartsWith}
 use Rattle.std.specs.Io.KnownBytes.{Appends}
 use Rattle.zic_counted.specs.Counts.{Counts, HasFailedSince}
-use Rattle.zic_bulk.specs.declared.stop.RunStop.{RunStop}
-use Rattle.zic_bulk.specs.declared.stop.RunStop.TheVariants as stop
-use Rattle.zic_convert.specs.code.Row.{RowsOf}
-use Rattle.zic_convert.specs.code.Pieces.{joined}
+use Rattle.zic_plan.specs.declared.stop.RunStop.{RunStop}
+use Rattle.zic_plan.specs.declared.stop.RunStop.TheVariants as stop
+use Rattle.zic_columns.specs.Round.{records_of}
+use Rattle.zic_convert.specs.code.Row.{AreRowsOf, RowsOf}
+use Rattle.zic_convert.specs.code.Pieces.{Pieces}
 
 -- what the writer holds, where that is known, grew by these bytes, and nothing failed
 abbrev pub Wrote : {W : Type 0} → (W → Option (List ℕ)) → Counts W → Counts W → List ℕ → Type 0
@@ -29,11 +30,12 @@ EndsAtRow contents old new first rows (stop.Row row kind) = (rows.fault ≡ Some
 EndsAtRow contents old new first rows stop.WriteFailed = FailsWithin contents old new rows.text
 EndsAtRow contents old new first rows _ = ⊥
 
--- the rows of pieces were all written, and this is their count
-abbrev pub WritesPieces : {W : Type 0} → (List RowsOf → Type 0) → (W → Option (List ℕ)) → Counts W → Counts W → ℕ → Type 0
-WritesPieces Are contents old new count = (rows : List RowsOf) × Are rows × WritesRows contents old new (joined rows) count
+-- the rows of a round were all written, and this is their count
+abbrev pub WritesRound : {W : Type 0} → Pieces → (W → Option (List ℕ)) → Counts W → Counts W → ℕ → Type 0
+WritesRound p contents old new count = (rows : RowsOf) × AreRowsOf p.files p.most p.first (records_of p.pieces) rows × WritesRows contents old new rows count
 
--- the rows of pieces before one with a fault were written, or the writer failed, or rows could not be made for want of memory
-abbrev pub EndsInPieces : {W : Type 0} → (List RowsOf → Type 0) → (W → Option (List ℕ)) → Counts W → Counts W → ℕ → RunStop → Type 0
-EndsInPieces Are contents old new first why =
-    ((why ≡ stop.Memory) × (new ≡ old)) ⊎ ((rows : List RowsOf) × Are rows × EndsAtRow contents old new first (joined rows) why)
+-- the rows of a round before one with a fault were written, or the writer failed, or rows could not be made for want of memory
+abbrev pub EndsInRound : {W : Type 0} → Pieces → (W → Option (List ℕ)) → Counts W → Counts W → RunStop → Type 0
+EndsInRound p contents old new why =
+    ((why ≡ stop.Memory) × (new ≡ old))
+    ⊎ ((rows : RowsOf) × AreRowsOf p.files p.most p.first (records_of p.pieces) rows × EndsAtRow contents old new p.first rows why)

@@ -4,6 +4,7 @@ ghost use Rattle.std.specs.Prelude.{◌≡◌, ◌≤◌, IfOk};
 ghost use Rattle.zic_counted.specs.Counts.{HasFailedSince};
 
 use super::Counted;
+use crate::output::{WriteFailed, flush, write_all};
 use std::io::{self, ErrorKind, Read, Write};
 use std::process::Abort;
 use std::test::Fail;
@@ -15,14 +16,15 @@ enum Answer {
     Error(ErrorKind),
 }
 
-/// Answers each call with the first of its answers, which it drops, and from then on with no bytes.
+/// Answers each call with the first of its answers, which it drops, and from then on with no
+/// bytes.
 #[derive(Debug, Drop)]
 struct Scripted<'a> {
     answers: &'a [Answer],
 }
 
 impl Scripted<'_> {
-    /// The answer to a call with so much room.
+    /// Returns the answer to a call with so much room.
     fn next(&mut self, room: usize) -> io::Result<usize>
         ensures { IfOk result (λ n. n ≤ room) }
     {
@@ -54,7 +56,7 @@ impl Write for Scripted<'_> {
     }
 }
 
-/// The answer that was given.
+/// Returns the answer that was given.
 fn told(answer: io::Result<usize>) -> Answer {
     match answer {
         Ok(n) => Answer::Bytes(n),
@@ -77,7 +79,8 @@ fn expect_reads(rt: &impl Abort, answers: &[Answer], failures: u64, taken: u64) 
     assert!(rt; reader.into_inner().answers.is_empty());
 }
 
-/// Checks that a writer passes these answers on, each to a write of the bytes, and how many failures it has counted then.
+/// Checks that a writer passes these answers on, each to a write of the bytes, and how many
+/// failures it has counted then.
 fn expect_writes(rt: &impl Abort, answers: &[Answer], bytes: &[u8], failures: u64) {
     let mut writer = Counted::new(Scripted { answers });
     for answer in answers {
@@ -144,7 +147,7 @@ fn counts_stay_at_their_greatest_value(rt: HostRuntime) {
 #[derive(Clone, Copy, Debug, PartialEq, Eq)]
 enum Unread {
     ReadFailed,
-    /// Want of memory, or too many tries.
+    /// Memory ran out, or there were too many tries.
     Other,
 }
 
@@ -199,4 +202,38 @@ fn bytes_are_those_of_the_writer(rt: HostRuntime) -> Result<(), Fail> {
     assert!(rt; !writer.has_failed_since(0));
     assert_eq!(rt; writer.into_inner().as_slice(), b"abc".as_slice());
     Ok(())
+}
+
+/// Checks what a write of all of `abcd` to a writer with these answers comes to, and how many
+/// answers it left unasked.
+fn expect_write_all(
+    rt: &impl Abort,
+    answers: &[Answer],
+    want: Result<(), WriteFailed>,
+    unasked: usize,
+) {
+    let mut writer = Counted::new(Scripted { answers });
+    assert_eq!(rt; write_all(&mut writer, b"abcd"), want, "{answers:?}");
+    assert_eq!(rt; writer.has_failed_since(0), want.is_err(), "{answers:?}");
+    assert_eq!(rt; writer.into_inner().answers.len(), unasked, "{answers:?}");
+}
+
+#[test]
+fn all_is_written_up_to_the_first_failure(rt: HostRuntime) {
+    let (one, all) = (Answer::Bytes(1), Answer::Bytes(4));
+    expect_write_all(&rt, &[one, one, Answer::Bytes(2), all], Ok(()), 1);
+    expect_write_all(&rt, &[all, OTHER], Ok(()), 1);
+    expect_write_all(&rt, &[one, OTHER, all], Err(WriteFailed), 1);
+    expect_write_all(&rt, &[INTERRUPTED, all], Err(WriteFailed), 1);
+    expect_write_all(&rt, &[one, Answer::Bytes(0), all], Err(WriteFailed), 1);
+}
+
+#[test]
+fn a_flush_fails_with_the_writer(rt: HostRuntime) {
+    let answers = [Answer::Bytes(0), OTHER];
+    let mut writer = Counted::new(Scripted { answers: &answers });
+    assert_eq!(rt; flush(&mut writer), Ok(()));
+    assert!(rt; !writer.has_failed_since(0));
+    assert_eq!(rt; flush(&mut writer), Err(WriteFailed));
+    assert!(rt; writer.has_failed_since(0));
 }

@@ -10,7 +10,7 @@ use Rattle.zic_source.specs.Sound.{IsSoundMoment, IsWithinDay}
 use Rattle.zic_words.specs.declared.time.TheConstants.{GREATEST_OFFSET}
 use Rattle.zic_rules.specs.declared.tail.TailRule.{TailRule}
 use Rattle.zic_footer.specs.Making.{IsPair, IsWide, edge_of, by_rules}
-use Rattle.zic_footer.specs.declared.making.Pair.{Pair}
+use Rattle.zic_footer.specs.declared.maker.Pair.{Pair}
 
 -- a moment of every year
 pub record IsYearly (moment : Moment) : Type 0 where
@@ -28,13 +28,9 @@ pub record AreSoundTails (standard : ℤ) (rules : List TailRule) : Type 0 where
   pub within : IsWithinDay standard
   pub each : (k : ℕ) (rule : TailRule) → slice_get rules k ≡ Some rule → IsSoundTail standard rule
 
--- so many days from the start of a week to a day of a month, or back
+-- the days from the start of a week to a day of a month, or back
 abbrev pub IsSmall : ℤ → Type 0
 IsSmall shift = (neg_ℤ (pos 7) ≤ℤ shift) × (shift ≤ℤ pos 9)
-
--- a second near the years of four digits
-abbrev pub IsNear : ℤ → Type 0
-IsNear second = unsigned_abs second ≤ 1_000_000_000_000
 
 -- Between the moment a of this year and that of the next lies the moment b of some year.
 pub record LiesBetween (a b : Moment) (year : ℤ) : Type 0 where

@@ -29,8 +29,10 @@ module _ {X F : Type 0} where
   HasEnded claims w = IsOf claims w.pass × (w.pass.known.ended ≡ true)
 
   abbrev pub HasWorked : (ℕ → Result X F → Type 0) → Worked X F → Type 0
-  HasWorked outcome w = IsWork outcome w.pass.known.pieces w.pass.known.events w.values.items w.halt
+  HasWorked outcome w =
+      IsWork outcome w.pass.known.pieces w.pass.known.events w.values.items w.halt
 
   -- the worker ended, did its work, and its pass stands for so many
   abbrev pub DidWork : (ℕ → Result X F → Type 0) → Shared → ℕ → Worked X F → Type 0
-  DidWork outcome claims parts w = HasEnded claims w × (w.pass.known.parts ≡ parts) × HasWorked outcome w
+  DidWork outcome claims parts w =
+      HasEnded claims w × (w.pass.known.parts ≡ parts) × HasWorked outcome w

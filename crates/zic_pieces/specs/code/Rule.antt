@@ -7,7 +7,8 @@ use Rattle.zic_pieces.specs.Given.{given, is_whole}
 use Rattle.zic_pieces.specs.Core.{drew, reported, glanced, IsCore}
 use Rattle.zic_pieces.specs.Passes.{IsSound}
 
--- the table shows a state of the core: its words are NEXT and FAULT, and the views of its seats what the passes know
+-- the table shows a state of the core: its words are NEXT and FAULT, and the views of its seats
+-- what the passes know
 abbrev pub Shows : ℕ → State (Unit {0}) Known → Type 0
 Shows n s = (next : ℕ) × (fault : ℕ) × (s.words ≡ next ∷ fault ∷ []) × IsCore n next fault s.views
 
@@ -24,13 +25,17 @@ Told st m found m' = (m'.0 ≡ reported st.first m.0) × IsSound m'.0 × (m'.1 �
 
 -- the number found is at most what the pass had seen
 abbrev pub Looked : Step (Unit {0}) → Sat → ℕ → Sat → Type 0
-Looked st m least m' = (m'.0 ≡ glanced least m.0) × (least ≤ m.0.seen) × IsSound m'.0 × (m'.1 ≡ m.1)
+Looked st m least m' =
+    (m'.0 ≡ glanced least m.0) × (least ≤ m.0.seen) × IsSound m'.0 × (m'.1 ≡ m.1)
 
 -- nothing changes, and the pass is sound
 abbrev pub Learned : Step (Unit {0}) → Sat → ℕ → Sat → Type 0
 Learned st m found m' = (m' ≡ m) × IsSound m.0
 
--- what a pass keeps between calls: no slots, its room, whether it has ended, and how many numbers were given; each draw of a piece has its glance
+-- what a pass keeps between calls: no slots, its room, whether it has ended, and how many numbers
+-- were given; each draw of a piece has its glance
 abbrev pub IsKept : Sat → ℕ → Bool → ℕ → Type 0
 IsKept m room ended count =
-    (m.1 ≡ []) × (m.0.parts ≡ room + 1) × (m.0.ended ≡ ended) × (count ≡ length (given m.0.pieces m.0.events)) × (is_whole m.0.pieces m.0.events ≡ true) × IsSound m.0
+    (m.1 ≡ []) × (m.0.parts ≡ room + 1) × (m.0.ended ≡ ended)
+    × (count ≡ length (given m.0.pieces m.0.events)) × (is_whole m.0.pieces m.0.events ≡ true)
+    × IsSound m.0

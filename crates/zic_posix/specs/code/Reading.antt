@@ -7,7 +7,7 @@ use Rattle.zic_posix.specs.declared.footer.DayRule.{DayRule}
 use Rattle.zic_posix.specs.declared.footer.DayRule.TheVariants.{J, N, M}
 use Rattle.zic_posix.specs.declared.footer.Dst.{Dst}
 use Rattle.zic_posix.specs.declared.footer.Edge.{Edge}
-use Rattle.zic_posix.specs.declared.limit.TheConstants.{SHORTEST_NAME, MOST_HOURS, MOST_WIDE_HOURS, MOST_MINUTES_OR_SECONDS, LAST_DAY, USUAL_TIME, USUAL_SAVING}
+use Rattle.zic_posix.specs.declared.limit.TheConstants.{SHORTEST_NAME, MAX_HOURS, MAX_WIDE_HOURS, MAX_MINUTES_OR_SECONDS, LAST_DAY, USUAL_TIME, USUAL_SAVING}
 use Rattle.zic_posix.specs.Footer.{TzString}
 use Rattle.zic_posix.specs.Grammar.{is_letter, is_digit, decimal}
 
@@ -50,7 +50,7 @@ number_at longest least most text =
 -- minutes or seconds after a colon, or 0 where there is no colon
 unfoldable pub part_at : List ℕ → Option (ℕ × List ℕ)
 part_at [] = Some (0, [])
-part_at (b ∷ rest) = if b == 58 then number_at 2 0 MOST_MINUTES_OR_SECONDS rest else Some (0, b ∷ rest)
+part_at (b ∷ rest) = if b == 58 then number_at 2 0 MAX_MINUTES_OR_SECONDS rest else Some (0, b ∷ rest)
 
 -- hours, minutes and seconds, as seconds
 unfoldable pub clock_at : ℕ → ℕ → List ℕ → Option (ℕ × List ℕ)
@@ -74,18 +74,18 @@ signed_at longest most text = do
 -- an offset
 unfoldable pub offset_at : List ℕ → Option (ℤ × List ℕ)
 offset_at text = do
-  west ← signed_at 2 MOST_HOURS text
+  west ← signed_at 2 MAX_HOURS text
   Some (neg_ℤ west.0, west.1)
 
 -- the time of an edge, of version 2
 unfoldable pub plain_time_at : List ℕ → Option (ℤ × List ℕ)
 plain_time_at text = do
-  size ← clock_at 2 MOST_HOURS text
+  size ← clock_at 2 MAX_HOURS text
   Some (pos size.0, size.1)
 
 -- the time of an edge, of this version
 unfoldable pub time_at : ℕ → List ℕ → Option (ℤ × List ℕ)
-time_at version text = if version == 2 then plain_time_at text else signed_at 3 MOST_WIDE_HOURS text
+time_at version text = if version == 2 then plain_time_at text else signed_at 3 MAX_WIDE_HOURS text
 
 -- a number of one digit after a dot
 unfoldable pub digit_at : ℕ → ℕ → List ℕ → Option (ℕ × List ℕ)

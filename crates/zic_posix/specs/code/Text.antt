@@ -1,8 +1,8 @@
 -- Strings whose names lie in their text.
 use Rattle.std.specs.Prelude.{Option, Some, None}
 use Rattle.zic_posix.specs.declared.footer.Dst.{Dst}
-use Rattle.zic_posix.specs.declared.reading.DstText.{DstText}
-use Rattle.zic_posix.specs.declared.reading.TzText.{TzText}
+use Rattle.zic_posix.specs.declared.reader.DstText.{DstText}
+use Rattle.zic_posix.specs.declared.reader.TzText.{TzText}
 use Rattle.zic_posix.specs.Footer.{TzString}
 
 -- a daylight part without where its name lies in memory

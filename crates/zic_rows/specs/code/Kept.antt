@@ -1,10 +1,11 @@
 -- What a writer of rows keeps from row to row; no public contract cites it.
 use Rattle.std.specs.Prelude.{◌≡◌, ℕ, ◌≤◌, ℤ, pos, ◌-ℤ◌, Bool, if◌then◌else◌, List, [], ◌∷◌, ◌++◌, take, drop}
+use Rattle.zic_base.specs.Digits.{offset_text}
 use Rattle.zic_base.specs.State.{shown}
 use Rattle.zic_base.specs.declared.state.State.{State}
 use Rattle.zic_rows.specs.declared.limit.TheConstants.{DAYS_TO_1970}
 use Rattle.zic_rows.specs.Local.{civil_of}
-use Rattle.zic_rows.specs.Row.{date_text, offset_text, state_text, IsRowState}
+use Rattle.zic_rows.specs.Row.{date_text, state_text, IsRowState}
 
 -- a comma, the date of a day, and a `T`; the days are counted from 0001-01-01
 unfoldable pub kept_date : ℕ → List ℕ
@@ -14,7 +15,7 @@ kept_date day = 44 ∷ (date_text (civil_of (pos day -ℤ pos DAYS_TO_1970) 0) +
 unfoldable pub before_name : ℤ → Bool → List ℕ
 before_name offset daylight = 44 ∷ (offset_text offset ++ 44 ∷ (if daylight then 49 else 48) ∷ 44 ∷ [])
 
--- the octets of a line: the date first, and after a time of day the text of the state, which a row may have
+-- the bytes of a line: the date first, and after a time of day the text of the state, which a row may have
 pub record IsKeptLine (state : State) (day : ℕ) (octets : List ℕ) (len : ℕ) : Type 0 where
   pub may : IsRowState (shown state)
   pub date : take 12 octets ≡ kept_date day

@@ -1,11 +1,12 @@
--- What is shown from one stretch to the next.
+-- What is shown from one period to the next.
 use Rattle.std.specs.Prelude.{◌≡◌, ◌≢◌, ◌≤◌, ◌<◌, ℕ, zero, suc, ℤ, ◌+ℤ◌, ◌<ℤ◌, List, [], ◌∷◌, ◌++◌, true, false, Option, Some, None, option_map, IfSome, Contains, slice_get, slice_index, length, unsigned_abs}
 use Rattle.zic_base.specs.declared.fault.Kind.{Kind}
 use Rattle.zic_base.specs.declared.fault.Kind.TheVariants as kind
 use Rattle.zic_lines.specs.declared.rule.Rule.{Rule}
 use Rattle.zic_lines.specs.declared.zone_line.ZoneLine.{ZoneLine}
 use Rattle.zic_words.specs.declared.time.TheConstants.{GREATEST_OFFSET}
-use Rattle.zic_states.specs.Abbreviation.{abbreviation, is_abbreviation}
+use Rattle.zic_states.specs.Abbreviation.{abbreviation}
+use Rattle.zic_words.specs.Limits.{is_abbreviation}
 use Rattle.zic_states.specs.Change.{Change}
 use Rattle.zic_states.specs.End.{IsEnd}
 use Rattle.zic_states.specs.Fault.{HasOffsetOutOfRange, HasNoLetter, HasBadAbbreviation, IsSavingOf, IsSound}
@@ -15,11 +16,11 @@ use Rattle.zic_states.specs.Refusal.{IsRefusal}
 use Rattle.zic_base.specs.State.{Shown}
 use Rattle.zic_states.specs.Zone.{Zone, Shows}
 use Rattle.zic_rules.specs.declared.changes.DatedState.{DatedState}
-use Rattle.zic_stretches.specs.declared.stretch.Stretch.{Stretch}
-use Rattle.zic_stretches.specs.declared.stretch.Stretches.{Stretches}
+use Rattle.zic_rules.specs.declared.period.Period.{Period}
+use Rattle.zic_rules.specs.declared.period.Periods.{Periods}
 use Rattle.zic_rules.specs.declared.zone_state.ZoneState.{ZoneState}
-use Rattle.zic_stretches.specs.Stretch.{AreStretches, Holds}
-use Rattle.zic_stretches.specs.code.Held.{IsFrom, ComesAfter}
+use Rattle.zic_rules.specs.Period.{ArePeriods, Holds}
+use Rattle.zic_rules.specs.code.Held.{IsFrom, ComesAfter}
 
 -- what a state of the code says
 abbrev pub shown_by : ZoneState → Shown
@@ -63,12 +64,12 @@ abbrev pub IsOneOutOfRange : List Rule → ℤ → List ℕ → Type 0
 IsOneOutOfRange rules offset numbers = (n : ℕ) × (rule : Rule) × Contains numbers n × (slice_get rules n ≡ Some rule)
     × (GREATEST_OFFSET < unsigned_abs (offset +ℤ rule.saving.seconds))
 
--- The stretches of a zone are known, and no fault before theirs applies.
-pub record HasStretches (zone : Zone) (all : Stretches) : Type 0 where
+-- The periods of a zone are known, and no fault before theirs applies.
+pub record HasPeriods (zone : Zone) (all : Periods) : Type 0 where
   pub in_range : HasOffsetOutOfRange zone → ⊥
   pub orderly : IsOrderly zone
   pub is_end : IsEnd zone all.end
-  pub stretches : AreStretches zone all.end all.list.items
+  pub periods : ArePeriods zone all.end all.list.items
 
 -- At some instant the line of this number holds by this rule.
 abbrev pub IsHeld : Zone → ℕ → Option ℕ → Type 0
@@ -104,27 +105,27 @@ AreSoFrom IsSo end start state (c ∷ cs) =
     × ((t : ℤ) → IsFrom start t → t <ℤ c.instant → IsSo t state)
     × AreSoFrom IsSo end (Some c.instant) c.state cs
 
--- where the stretch before this place begins, if there is one
-abbrev pub from_of : List Stretch → ℕ → Option ℤ
+-- where the period before this place begins, if there is one
+abbrev pub from_of : List Period → ℕ → Option ℤ
 from_of ss zero = None
 from_of ss (suc k) = option_map (λ s. s.from) (slice_get ss k)
 
--- up to the stretch at this place, if there is one, and the end
-abbrev pub IsUpTo : Stretches → ℕ → ℤ → Type 0
+-- up to the period at this place, if there is one, and the end
+abbrev pub IsUpTo : Periods → ℕ → ℤ → Type 0
 IsUpTo all i t = (t <ℤ all.end) × IfSome (slice_get all.list.items i) (λ s. t <ℤ s.from)
 
--- From the stretch before this place on, up to that at this place, the state is so.
-abbrev pub IsSoTo : (ℤ → Shown → Type 0) → Stretches → ℕ → Shown → Type 0
+-- From the period before this place on, up to that at this place, the state is so.
+abbrev pub IsSoTo : (ℤ → Shown → Type 0) → Periods → ℕ → Shown → Type 0
 IsSoTo IsSo all i state = (t : ℤ) → IsFrom (from_of all.list.items i) t → IsUpTo all i t → IsSo t state
 
--- the changes so far, up to the stretch at this place, where the state `last` is shown before it: they go on with any later ones
-pub record AreKeptTo (zone : Zone) (all : Stretches) (first : Shown) (i : ℕ) (last : Shown) (cs : List Change) : Type 0 where
+-- the changes so far, up to the period at this place, where the state `last` is shown before it: they go on with any later ones
+pub record AreKeptTo (zone : Zone) (all : Periods) (first : Shown) (i : ℕ) (last : Shown) (cs : List Change) : Type 0 where
   pub so : IsSoTo (ShowsNamed zone) all i last
   pub later : (rest : List Change) → AreSoFrom (ShowsNamed zone) all.end (from_of all.list.items i) last rest
       → AreSoFrom (ShowsNamed zone) all.end None first (cs ++ rest)
 
--- Before the stretch at this place the zone shows some state at each instant.
-abbrev pub ShowsSomeTo : Zone → Stretches → ℕ → Type 0
+-- Before the period at this place the zone shows some state at each instant.
+abbrev pub ShowsSomeTo : Zone → Periods → ℕ → Type 0
 ShowsSomeTo zone all i = (t : ℤ) → IsUpTo all i t → (state : Shown) × Shows zone t state
 
 -- before its end the zone shows some state at each instant

@@ -15,7 +15,7 @@ use Rattle.zic_source.specs.Event.{Event, Line, End, text_events, events_of}
 use Rattle.zic_source.specs.Source.{SourceLines, no_lines}
 use Rattle.zic_source.specs.Grammar.{is_open, IsReadable, IsSource}
 use Rattle.zic_source.specs.Whole.{HasFirst}
-use Rattle.zic_source.specs.FirstFault.{Fails, IsReached, IsFirstFault, MayWantMemory}
+use Rattle.zic_source.specs.FirstFault.{Fails, IsReached, IsFirstFault, MayRunOutOfMemory}
 use Rattle.zic_source.specs.Texts.{texts_of}
 use Rattle.zic_source.specs.code.Events.{Leads, IsMet, FailsIn, WantsIn}
 use Rattle.zic_source.proofs.reading.Steps.{none_read}
@@ -104,14 +104,14 @@ module _ (texts : List (List ℕ)) where
   reading_fails stop = if_some_map (fault_of stop) _ _
       (λ fault (source, event, met, fails). inl (record { source = source; event = event; reached = reached source event met; fails = fails }))
 
-  pub reading_wants : (stop : Stop) → IfNone (fault_of stop) (WantsIn no_lines (events_of texts)) → IfNone (fault_of stop) (MayWantMemory texts)
+  pub reading_wants : (stop : Stop) → IfNone (fault_of stop) (WantsIn no_lines (events_of texts)) → IfNone (fault_of stop) (MayRunOutOfMemory texts)
   reading_wants stop = if_none_map (fault_of stop) _ _
       (λ (source, line, met, short). inl (source, line, reached source (Line line) met, short))
 
   pub whole_fails : (source : SourceLines) → Leads no_lines (events_of texts) source → (stop : Stop) → IfSome (fault_of stop) (HasFirst source) → IfSome (fault_of stop) (IsFirstFault texts)
   whole_fails source leads stop = if_some_map (fault_of stop) _ _ (λ fault first. inr (source, all_read source leads, first))
 
-  pub whole_wants : (source : SourceLines) → Leads no_lines (events_of texts) source → (stop : Stop) → IfNone (fault_of stop) (MayWantMemory texts)
+  pub whole_wants : (source : SourceLines) → Leads no_lines (events_of texts) source → (stop : Stop) → IfNone (fault_of stop) (MayRunOutOfMemory texts)
   whole_wants source leads stops.Memory = inr (source, all_read source leads)
   whole_wants source leads (stops.Fault fault) = tt
 

@@ -17,7 +17,7 @@ use Rattle.zic_lines.specs.Checks.{byte_checks, field_checks, line_checks}
 use Rattle.zic_lines.specs.declared.zone_line.ZoneLine.{ZoneLine}
 use Rattle.zic_lines.specs.declared.rule.Rule.{Rule}
 use Rattle.zic_lines.specs.declared.entry.Entry.TheVariants as entries
-use Rattle.zic_source.specs.declared.limit.TheConstants.{MOST_RULES, MOST_RULES_OF_SET}
+use Rattle.zic_source.specs.declared.limit.TheConstants.{MAX_RULES, MAX_RULES_OF_SET}
 use Rattle.zic_source.specs.Source.{SourceLines, ZoneLines, set_size, set_rules, lines_of_zone, zone_lines_of}
 use Rattle.zic_source.specs.Checks.{entry_checks}
 use Rattle.zic_source.proofs.lookups.Numbers.{set_rules_size}
@@ -59,10 +59,10 @@ module _ (source : SourceLines) (rule : Rule) (numbers : List ℕ) (are : number
   size : length numbers ≡ set_size rule.name source.rules
   size = ap length are ∙ set_rules_size rule.name source.rules
 
-  pub rule_passes : length numbers < MOST_RULES_OF_SET → length source.rules < MOST_RULES → first_failed (entry_checks source (entries.Rule rule)) ≡ None
+  pub rule_passes : length numbers < MAX_RULES_OF_SET → length source.rules < MAX_RULES → first_failed (entry_checks source (entries.Rule rule)) ≡ None
   rule_passes set all = both_pass _ _ (lt-ltb _ _ (omega (arith, size))) (lt-ltb _ _ all)
 
-  pub set_is_full : (place : Place) (fault : Fault) → fault ≡ fault_at place TooMany → MOST_RULES_OF_SET ≤ length numbers → IsFirstFailed place (entry_checks source (entries.Rule rule)) fault
+  pub set_is_full : (place : Place) (fault : Fault) → fault ≡ fault_at place TooMany → MAX_RULES_OF_SET ≤ length numbers → IsFirstFailed place (entry_checks source (entries.Rule rule)) fault
   set_is_full place fault is full = (ap (λ (f : Fault). f.place) is, first_fails _ _ (le-ltb _ _ (omega (arith, size))) ∙ sym (ap (λ (f : Fault). Some f.kind) is))
 
 -- a name, and room for what has it

@@ -13,14 +13,14 @@ use Rattle.zic_base.specs.declared.fault.Kind.TheVariants.{UnknownRules, Unknown
 use Rattle.zic_lines.specs.declared.rule.Rule.{Rule}
 use Rattle.zic_lines.specs.declared.zone_line.ZoneLine.{ZoneLine}
 use Rattle.zic_lines.specs.declared.link.Link.{Link}
-use Rattle.zic_source.specs.declared.names.Names.{Names}
+use Rattle.zic_source.specs.declared.owners.Owners.{Owners}
 use Rattle.zic_source.specs.Source.{SourceLines, ZoneLines, lines_of_zone}
-use Rattle.zic_source.specs.code.Names.{IndexesNames}
+use Rattle.zic_source.specs.code.Owners.{IndexesNames}
 use Rattle.zic_source.specs.Links.{EndsAtZone}
 use Rattle.zic_source.specs.Whole.{is_unknown, IsWhole, HasAt, HasFirst}
 use Rattle.zic_base.specs.Fault.{fault_at}
 use Rattle.zic_source.specs.code.Faults.{IsEarlier, IsFirst, LineIsRight, LineHas, ZoneIsRight, ZoneHas, LinkHas, IsFirstOfZones, IsFirstOfLinks}
-use Rattle.zic_source.proofs.Elements.{from_flat_map, into_flat_map}
+use Rattle.zic_base.proofs.Elements.{from_flat_map, into_flat_map}
 use Rattle.zic_source.proofs.links.Ways.{link_excludes}
 use Rattle.zic_source.proofs.faults.Earlier.{earlier_first}
 
@@ -50,7 +50,7 @@ module _ (source : SourceLines) where
   have_at place LinkCycle (link, at, same, never) = inr (link, at, inr (ap (λ (p : Place). fault_at p LinkCycle) (sym same), never))
   have_at place _ h = absurd h
 
-  module _ (names : Names) (is : IndexesNames names source) (of_zones of_links found : Option Fault) (zones : IsFirstOfZones source of_zones) (links : IsFirstOfLinks source of_links) (earlier : IsEarlier of_zones of_links found) where
+  module _ (names : Owners) (is : IndexesNames names source) (of_zones of_links found : Option Fault) (zones : IsFirstOfZones source of_zones) (links : IsFirstOfLinks source of_links) (earlier : IsEarlier of_zones of_links found) where
     first : IsFirst
         (((zone : ZoneLines) → Contains source.zones zone → ZoneIsRight source.rules zone) × ((link : Link) → Contains source.links link → EndsAtZone source link))
         (λ fault. ((zone : ZoneLines) × Contains source.zones zone × ZoneHas source.rules zone fault) ⊎ ((link : Link) × Contains source.links link × LinkHas source link fault))

@@ -4,10 +4,10 @@ use Rattle.std.specs.Prelude.{slice_get}
 use Rattle.std.proofs.lemmas.List.{length-append}
 use Rattle.zic_base.specs.declared.fault.Fault.{Fault}
 use Rattle.zic_lines.specs.declared.link.Link.{Link}
-use Rattle.zic_source.specs.declared.names.Names.{Names}
+use Rattle.zic_source.specs.declared.owners.Owners.{Owners}
 use Rattle.zic_source.specs.Source.{SourceLines}
 use Rattle.zic_source.specs.Links.{EndsAtZone, EndsAt}
-use Rattle.zic_source.specs.code.Names.{IndexesNames}
+use Rattle.zic_source.specs.code.Owners.{IndexesNames}
 use Rattle.zic_source.specs.code.Chains.{EndsAtNumber}
 use Rattle.zic_source.specs.code.Faults.{LinkHas, IsEarlier, IsFirst, IsFirstOf}
 use Rattle.zic_source.proofs.lookups.Named.{get_push_cases}
@@ -31,7 +31,7 @@ same_place : (source : SourceLines) (link : Link) (fault : Fault) → LinkHas so
 same_place source link fault (inl nowhere) = ap (λ (f : Fault). f.place) nowhere.0
 same_place source link fault (inr never) = ap (λ (f : Fault). f.place) never.0
 
-module _ (names : Names) (source : SourceLines) (is : IndexesNames names source) (n : ℕ) (link : Link) (at : slice_get source.links n ≡ Some link) (zones : List ℕ) (fault : Option Fault) (found : AreFound source n zones fault) where
+module _ (names : Owners) (source : SourceLines) (is : IndexesNames names source) (n : ℕ) (link : Link) (at : slice_get source.links n ≡ Some link) (zones : List ℕ) (fault : Option Fault) (found : AreFound source n zones fault) where
   -- the chain of one link more ends at a zone
   pub one_zone : (zone : ℕ) (more : List ℕ) → EndsAt source link zone → more ≡ zones ++ zone ∷ [] → AreFound source (n + 1) more fault
   one_zone zone more to pushed = record {

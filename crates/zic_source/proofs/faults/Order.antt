@@ -6,7 +6,7 @@ use Rattle.std.proofs.lemmas.List.Elements.{Contains-append_right}
 use Rattle.zic_base.specs.declared.place.Place.{Place}
 use Rattle.zic_base.specs.declared.fault.Fault.{Fault}
 use Rattle.zic_base.specs.Place.{IsBefore}
-use Rattle.zic_source.proofs.Elements.{first_contained, cons_cases}
+use Rattle.zic_base.proofs.Elements.{first_contained, cons_cases}
 
 pub before_before : (a b c : Place) → IsBefore a b → IsBefore b c → IsBefore a c
 before_before a b c (inl x) (inl y) = inl (omega arith)

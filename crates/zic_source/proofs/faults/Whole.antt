@@ -12,7 +12,7 @@ use Rattle.zic_lines.specs.declared.zone_line.ZoneLine.{ZoneLine}
 use Rattle.zic_source.specs.Source.{SourceLines, zone_lines_of}
 use Rattle.zic_source.specs.Links.{EndsAtZone, EndsNowhere, HasNoEnd}
 use Rattle.zic_source.specs.Whole.{is_unknown, IsWhole, HasAt, HasFirst}
-use Rattle.zic_source.proofs.Elements.{first_contained, only_one, from_flat_map, into_flat_map}
+use Rattle.zic_base.proofs.Elements.{first_contained, only_one, from_flat_map, into_flat_map}
 use Rattle.zic_source.proofs.links.NamesDiffer.{NamesDiffer, not_nowhere, not_endless, nowhere_ends}
 use Rattle.zic_source.proofs.links.ThreeEnds.{three_ends}
 use Rattle.zic_source.proofs.faults.Order.{IsFirstOf, first_of}

@@ -6,7 +6,7 @@ use Rattle.zic_lines.specs.declared.link.Link.{Link}
 use Rattle.zic_source.specs.Source.{SourceLines, ZoneLines}
 use Rattle.zic_source.specs.Links.{is_link_name, is_zone_name, IsPath, EndsAtZone, EndsNowhere, HasNoEnd}
 use Rattle.zic_source.proofs.SameBytes.{bytes_eq_itself}
-use Rattle.zic_source.proofs.Elements.{contained_passes}
+use Rattle.zic_base.proofs.Elements.{contained_passes}
 use Rattle.zic_source.proofs.Counts.{any_counts, one_passes, passes_counted}
 use Rattle.zic_source.proofs.reading.Limits.{bearers}
 

@@ -7,7 +7,7 @@ use Rattle.zic_lines.specs.declared.link.Link.{Link}
 use Rattle.zic_source.specs.Source.{SourceLines}
 use Rattle.zic_source.specs.Links.{is_link_name, is_zone_name, is_named, IsPath, EndsAtZone, EndsNowhere, HasNoEnd}
 use Rattle.zic_source.proofs.SameBytes.{bytes_eq_means}
-use Rattle.zic_source.proofs.Elements.{cons_cases, one_that_passes}
+use Rattle.zic_base.proofs.Elements.{cons_cases, one_that_passes}
 use Rattle.zic_source.proofs.links.NamesDiffer.{NamesDiffer, link_has}
 
 -- ---- one element less

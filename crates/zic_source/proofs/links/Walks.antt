@@ -8,10 +8,10 @@ use Rattle.std.proofs.lemmas.Option.{slice_get-get_or}
 use Rattle.zic_lines.specs.declared.link.Link.{Link}
 use Rattle.zic_source.specs.declared.chains.End.{End}
 use Rattle.zic_source.specs.declared.chains.End.TheVariants as ends
-use Rattle.zic_source.specs.declared.names.Named.TheVariants as named
-use Rattle.zic_source.specs.declared.names.Names.{Names}
+use Rattle.zic_source.specs.declared.owners.Owner.TheVariants as named
+use Rattle.zic_source.specs.declared.owners.Owners.{Owners}
 use Rattle.zic_source.specs.Source.{SourceLines}
-use Rattle.zic_source.specs.code.Names.{who, IndexesNames}
+use Rattle.zic_source.specs.code.Owners.{who, IndexesNames}
 use Rattle.zic_source.specs.code.Chains.{EndsAs, ChainEnds, IsFound, HasEnd, AreRight, DifferOn}
 use Rattle.zic_source.proofs.links.Ways.{LeadsOn, ends_as_next, never_ends, link_within}
 
@@ -47,7 +47,7 @@ differ_more path old found at end here differ = λ i. ⊎_elim
     (cases_eq i at)
 
 -- The walk from one link has come to another by the path, and has marked the links on it.
-pub record IsWalk (names : Names) (source : SourceLines) (start : ℕ) (old found : List (Option End)) (path : List ℕ) (link : ℕ) : Type 0 where
+pub record IsWalk (names : Owners) (source : SourceLines) (start : ℕ) (old found : List (Option End)) (path : List ℕ) (link : ℕ) : Type 0 where
   pub long : length found ≡ length source.links
   pub here : link < length source.links
   pub within : (i : ℕ) → Contains path i → i < length source.links
@@ -67,7 +67,7 @@ pub record IsWalked (source : SourceLines) (start : ℕ) (old new : List (Option
 nothing_in : (i : ℕ) → Contains [] i → ⊥
 nothing_in i has = absurd (omega (arith, has.1))
 
-pub walk_begins : (names : Names) (source : SourceLines) (start : ℕ) (found : List (Option End)) (path : List ℕ) → length found ≡ length source.links → start < length source.links → AreRight source found → path ≡ []
+pub walk_begins : (names : Owners) (source : SourceLines) (start : ℕ) (found : List (Option End)) (path : List ℕ) → length found ≡ length source.links → start < length source.links → AreRight source found → path ≡ []
     → IsWalk names source start found found path start
 walk_begins names source start found path long here right empty = subst (λ (xs : List ℕ). IsWalk names source start found found xs start) (sym empty) (record {
   long = long;
@@ -80,7 +80,7 @@ walk_begins names source start found path long here right empty = subst (λ (xs 
   begun = inl refl;
 })
 
-module _ {names : Names} {source : SourceLines} (is : IndexesNames names source) {start : ℕ} {old found : List (Option End)} {path : List ℕ} {link : ℕ} (walk : IsWalk names source start old found path link) where
+module _ {names : Owners} {source : SourceLines} (is : IndexesNames names source) {start : ℕ} {old found : List (Option End)} {path : List ℕ} {link : ℕ} (walk : IsWalk names source start old found path link) where
   walk_within : (i : ℕ) → Contains (path ++ link ∷ []) i → i < length source.links
   walk_within i has = ⊎_elim (λ on. walk.within i on) (λ now. subst (λ (n : ℕ). n < length source.links) (sym now) walk.here) (push_cases path i link has)
 

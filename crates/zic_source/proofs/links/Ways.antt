@@ -7,21 +7,21 @@ use Rattle.zic_lines.specs.declared.link.Link.{Link}
 use Rattle.zic_base.specs.declared.fault.Fault.{Fault}
 use Rattle.zic_source.specs.declared.chains.End.{End}
 use Rattle.zic_source.specs.declared.chains.End.TheVariants as ends
-use Rattle.zic_source.specs.declared.names.Named.{Named}
-use Rattle.zic_source.specs.declared.names.Named.TheVariants as named
-use Rattle.zic_source.specs.declared.names.Names.{Names}
+use Rattle.zic_source.specs.declared.owners.Owner.{Owner}
+use Rattle.zic_source.specs.declared.owners.Owner.TheVariants as named
+use Rattle.zic_source.specs.declared.owners.Owners.{Owners}
 use Rattle.zic_source.specs.Source.{SourceLines, ZoneLines, zone_at}
 use Rattle.zic_source.specs.Links.{is_link_name, is_named, IsPath, LeadsTo, EndsAtZone, EndsAt, EndsNowhere, HasNoEnd}
-use Rattle.zic_source.specs.code.Names.{who, IndexesNames}
+use Rattle.zic_source.specs.code.Owners.{who, IndexesNames}
 use Rattle.zic_source.specs.code.Chains.{EndsAs}
 use Rattle.zic_source.specs.code.Faults.{LinkHas}
 use Rattle.zic_source.proofs.links.NamesDiffer.{NamesDiffer, path_rest, not_nowhere, not_endless}
 use Rattle.zic_source.proofs.SameBytes.{bytes_eq_means}
-use Rattle.zic_source.proofs.Elements.{get_contained, contains_got}
+use Rattle.zic_base.proofs.Elements.{get_contained, contains_got}
 use Rattle.zic_source.proofs.lookups.Named.{some_there, there_some, any_found, link_there, nobody}
 
 -- the link of this number has a target that is the name of a link that passes
-abbrev pub LeadsOn : Names → SourceLines → (ℕ → Type 0) → ℕ → Type 0
+abbrev pub LeadsOn : Owners → SourceLines → (ℕ → Type 0) → ℕ → Type 0
 LeadsOn names source Passes i = (link : Link) → slice_get source.links i ≡ Some link → (j : ℕ) × (who names link.target ≡ Some (named.Link j)) × Passes j
 
 -- a chain that ends at the zone of a number ends at a zone
@@ -32,7 +32,7 @@ ends_at_some source link number at = let zone = some_there _ _ at in (zone.0, co
 pub ends_within : (source : SourceLines) (link : Link) (zone : ℕ) → EndsAt source link zone → zone < length source.zones
 ends_within source link number at = let zone = some_there _ _ at in slice_get_within source.zones number zone.0 zone.1
 
-module _ (names : Names) (source : SourceLines) (is : IndexesNames names source) where
+module _ (names : Owners) (source : SourceLines) (is : IndexesNames names source) where
   same_link : (k l : Link) → Contains source.links k → Contains source.links l → k.name ≡ l.name → k ≡ l
   same_link k l has_k has_l e =
       let at_k : slice_get source.links has_k.0 ≡ Some k = get_contained source.links k has_k in
@@ -86,7 +86,7 @@ module _ (names : Names) (source : SourceLines) (is : IndexesNames names source)
 
   pub ends_nowhere : (link : Link) → who names link.target ≡ None → EndsAs source link ends.Nowhere
   ends_nowhere link e =
-      let absent : is_named source link.target ≡ false = sym (nobody names source link.target is) ∙ ap (λ (o : Option Named). is_some o) e in
+      let absent : is_named source link.target ≡ false = sym (nobody names source link.target is) ∙ ap (λ (o : Option Owner). is_some o) e in
       (link.target, ([], refl), ap not absent)
 
   among : (Passes : ℕ → Type 0) → ((i : ℕ) → Passes i → LeadsOn names source Passes i) → (path : List Link) (i : ℕ) (link : Link) → Passes i → slice_get source.links i ≡ Some link → (name : List ℕ) → IsPath source link.target path name → is_link_name source name ≡ true

@@ -6,11 +6,11 @@ use Rattle.std.specs.List.{list_any}
 use Rattle.std.proofs.lemmas.Bool.{or_cases, or_left, or_right}
 use Rattle.zic_lines.specs.declared.link.Link.{Link}
 use Rattle.zic_lines.specs.declared.zone_line.ZoneLine.{ZoneLine}
-use Rattle.zic_source.specs.declared.names.Named.{Named}
-use Rattle.zic_source.specs.declared.names.Named.TheVariants as named
-use Rattle.zic_source.specs.declared.names.Names.{Names}
+use Rattle.zic_source.specs.declared.owners.Owner.{Owner}
+use Rattle.zic_source.specs.declared.owners.Owner.TheVariants as named
+use Rattle.zic_source.specs.declared.owners.Owners.{Owners}
 use Rattle.zic_source.specs.Source.{SourceLines, ZoneLines}
-use Rattle.zic_source.specs.code.Names.{who, IndexesNames}
+use Rattle.zic_source.specs.code.Owners.{who, IndexesNames}
 use Rattle.zic_source.specs.Links.{is_link_name, is_zone_name, is_named}
 use Rattle.zic_source.specs.code.Adding.{continued}
 use Rattle.zic_source.proofs.SameBytes.{bytes_eq_means, bytes_eq_itself}
@@ -49,7 +49,7 @@ get_push_cases [] y (suc i) x e = absurd cc
 get_push_cases (z ∷ xs) y zero x e = inl e
 get_push_cases (z ∷ xs) y (suc i) x e = ⊎_elim (λ l. inl l) (λ r. inr (ap (λ (n : ℕ). suc n) r.0, r.1)) (get_push_cases xs y i x e)
 
-has_name : (names : Names) (source : SourceLines) (name : List ℕ) → IndexesNames names source → (found : Option Named) → who names name ≡ found → is_named source name ≡ true → is_some found ≡ true
+has_name : (names : Owners) (source : SourceLines) (name : List ℕ) → IndexesNames names source → (found : Option Owner) → who names name ≡ found → is_named source name ≡ true → is_some found ≡ true
 has_name names source name is (Some x) e h = refl
 has_name names source name is None e h = ⊎_elim
     (λ zone. let at = any_found _ source.zones zone in
@@ -66,59 +66,59 @@ zone_there source i zone name at same = any_at _ source.zones i zone at (ap (byt
 pub link_there : (source : SourceLines) (i : ℕ) (link : Link) (name : List ℕ) → slice_get source.links i ≡ Some link → link.name ≡ name → is_link_name source name ≡ true
 link_there source i link name at same = any_at _ source.links i link at (ap (bytes_eq link.name) (sym same) ∙ bytes_eq_itself link.name)
 
-is_there : (names : Names) (source : SourceLines) (name : List ℕ) → IndexesNames names source → (found : Named) → who names name ≡ Some found → is_named source name ≡ true
+is_there : (names : Owners) (source : SourceLines) (name : List ℕ) → IndexesNames names source → (found : Owner) → who names name ≡ Some found → is_named source name ≡ true
 is_there names source name is (named.Zone i) e = let at = some_there _ _ (is.zone_has i name e) in
     or_left (is_zone_name source name) (is_link_name source name) (zone_there source i at.0 name at.1 at.2)
 is_there names source name is (named.Link i) e = let at = some_there _ _ (is.link_has i name e) in
     or_right (is_zone_name source name) (is_link_name source name) (link_there source i at.0 name at.1 at.2)
 
-names_tell : (names : Names) (source : SourceLines) (name : List ℕ) → IndexesNames names source → (found : Option Named) → who names name ≡ found → (b : Bool) → is_named source name ≡ b → is_some found ≡ b
+names_tell : (names : Owners) (source : SourceLines) (name : List ℕ) → IndexesNames names source → (found : Option Owner) → who names name ≡ found → (b : Bool) → is_named source name ≡ b → is_some found ≡ b
 names_tell names source name is (Some x) e true h = refl
 names_tell names source name is (Some x) e false h = absurd (let there : is_named source name ≡ true = is_there names source name is x e in cc)
 names_tell names source name is None e true h = has_name names source name is None e h
 names_tell names source name is None e false h = refl
 
 -- somebody has a name exactly if it is a zone's or a link's
-pub nobody : (names : Names) (source : SourceLines) (name : List ℕ) → IndexesNames names source → is_some (who names name) ≡ is_named source name
+pub nobody : (names : Owners) (source : SourceLines) (name : List ℕ) → IndexesNames names source → is_some (who names name) ≡ is_named source name
 nobody names source name is = names_tell names source name is (who names name) refl (is_named source name) refl
 
 -- what a look-up tells of a name
-pub looked_up : (names : Names) (source : SourceLines) (name : List ℕ) (found : Option Named) (b : Bool) → IndexesNames names source → found ≡ who names name → b ≡ is_some found → is_named source name ≡ b
-looked_up names source name found b is at tells = sym (nobody names source name is) ∙ ap (λ (o : Option Named). is_some o) (sym at) ∙ sym tells
+pub looked_up : (names : Owners) (source : SourceLines) (name : List ℕ) (found : Option Owner) (b : Bool) → IndexesNames names source → found ≡ who names name → b ≡ is_some found → is_named source name ≡ b
+looked_up names source name found b is at tells = sym (nobody names source name is) ∙ ap (λ (o : Option Owner). is_some o) (sym at) ∙ sym tells
 
-pub nobody_found : (found : Option Named) (b : Bool) → b ≡ is_some found → b ≡ false → found ≡ None
+pub nobody_found : (found : Option Owner) (b : Bool) → b ≡ is_some found → b ≡ false → found ≡ None
 nobody_found None b tells off = refl
 nobody_found (Some one) b tells off = absurd cc
 
 -- what was told of names is told after a new name
-module _ (f g : List ℕ → Option Named) (name : List ℕ) (one : Named) (fresh : is_some (f name) ≡ false) (told : (other : List ℕ) → g other ≡ cond (bytes_eq name other) (Some one) (f other)) where
+module _ (f g : List ℕ → Option Owner) (name : List ℕ) (one : Owner) (fresh : is_some (f name) ≡ false) (told : (other : List ℕ) → g other ≡ cond (bytes_eq name other) (Some one) (f other)) where
   told_new : g name ≡ Some one
   told_new = told name ∙ ap (λ (b : Bool). cond b (Some one) (f name)) (bytes_eq_itself name)
 
-  told_by : (other : List ℕ) (who : Named) → f other ≡ Some who → (b : Bool) → bytes_eq name other ≡ b → cond b (Some one) (f other) ≡ Some who
+  told_by : (other : List ℕ) (who : Owner) → f other ≡ Some who → (b : Bool) → bytes_eq name other ≡ b → cond b (Some one) (f other) ≡ Some who
   told_by other who e true same = absurd (
-      let some : is_some (f name) ≡ true = ap (λ (l : List ℕ). is_some (f l)) (bytes_eq_means name other same) ∙ ap (λ (o : Option Named). is_some o) e in cc)
+      let some : is_some (f name) ≡ true = ap (λ (l : List ℕ). is_some (f l)) (bytes_eq_means name other same) ∙ ap (λ (o : Option Owner). is_some o) e in cc)
   told_by other who e false same = e
 
-  told_still : (other : List ℕ) (who : Named) → f other ≡ Some who → g other ≡ Some who
+  told_still : (other : List ℕ) (who : Owner) → f other ≡ Some who → g other ≡ Some who
   told_still other who e = told other ∙ told_by other who e (bytes_eq name other) refl
 
-  told_from : (other : List ℕ) (who : Named) (b : Bool) → bytes_eq name other ≡ b → cond b (Some one) (f other) ≡ Some who → ((name ≡ other) × (one ≡ who)) ⊎ (f other ≡ Some who)
+  told_from : (other : List ℕ) (who : Owner) (b : Bool) → bytes_eq name other ≡ b → cond b (Some one) (f other) ≡ Some who → ((name ≡ other) × (one ≡ who)) ⊎ (f other ≡ Some who)
   told_from other who true same e = inl (bytes_eq_means name other same, cc)
   told_from other who false same e = inr e
 
-  told_cases : (other : List ℕ) (who : Named) → g other ≡ Some who → ((name ≡ other) × (one ≡ who)) ⊎ (f other ≡ Some who)
+  told_cases : (other : List ℕ) (who : Owner) → g other ≡ Some who → ((name ≡ other) × (one ≡ who)) ⊎ (f other ≡ Some who)
   told_cases other who e = told_from other who (bytes_eq name other) refl (sym (told other) ∙ e)
 
 -- a zone's name is new
-pub zone_kept : (names names' : Names) (source : SourceLines) (zone : ZoneLines) → IndexesNames names source → is_named source zone.name ≡ false
+pub zone_kept : (names names' : Owners) (source : SourceLines) (zone : ZoneLines) → IndexesNames names source → is_named source zone.name ≡ false
     → ((other : List ℕ) → who names' other ≡ cond (bytes_eq zone.name other) (Some (named.Zone (length source.zones))) (who names other))
     → IndexesNames names' (record source { zones = source.zones ++ zone ∷ [] })
 zone_kept names names' source zone is new told =
-    let one : Named = named.Zone (length source.zones) in
+    let one : Owner = named.Zone (length source.zones) in
     let fresh : is_some (who names zone.name) ≡ false = nobody names source zone.name is ∙ new in
-    let still : (other : List ℕ) (by : Named) → who names other ≡ Some by → who names' other ≡ Some by = told_still (who names) (who names') zone.name one fresh told in
-    let cases : (other : List ℕ) (by : Named) → who names' other ≡ Some by → ((zone.name ≡ other) × (one ≡ by)) ⊎ (who names other ≡ Some by) = told_cases (who names) (who names') zone.name one fresh told in
+    let still : (other : List ℕ) (by : Owner) → who names other ≡ Some by → who names' other ≡ Some by = told_still (who names) (who names') zone.name one fresh told in
+    let cases : (other : List ℕ) (by : Owner) → who names' other ≡ Some by → ((zone.name ≡ other) × (one ≡ by)) ⊎ (who names other ≡ Some by) = told_cases (who names) (who names') zone.name one fresh told in
     record {
       zones = λ i z e. ⊎_elim
           (λ before. still z.name (named.Zone i) (is.zones i z before))
@@ -136,14 +136,14 @@ zone_kept names names' source zone is new told =
     }
 
 -- a link's name is new
-pub link_kept : (names names' : Names) (source : SourceLines) (link : Link) → IndexesNames names source → is_named source link.name ≡ false
+pub link_kept : (names names' : Owners) (source : SourceLines) (link : Link) → IndexesNames names source → is_named source link.name ≡ false
     → ((other : List ℕ) → who names' other ≡ cond (bytes_eq link.name other) (Some (named.Link (length source.links))) (who names other))
     → IndexesNames names' (record source { links = source.links ++ link ∷ [] })
 link_kept names names' source link is new told =
-    let one : Named = named.Link (length source.links) in
+    let one : Owner = named.Link (length source.links) in
     let fresh : is_some (who names link.name) ≡ false = nobody names source link.name is ∙ new in
-    let still : (other : List ℕ) (by : Named) → who names other ≡ Some by → who names' other ≡ Some by = told_still (who names) (who names') link.name one fresh told in
-    let cases : (other : List ℕ) (by : Named) → who names' other ≡ Some by → ((link.name ≡ other) × (one ≡ by)) ⊎ (who names other ≡ Some by) = told_cases (who names) (who names') link.name one fresh told in
+    let still : (other : List ℕ) (by : Owner) → who names other ≡ Some by → who names' other ≡ Some by = told_still (who names) (who names') link.name one fresh told in
+    let cases : (other : List ℕ) (by : Owner) → who names' other ≡ Some by → ((link.name ≡ other) × (one ≡ by)) ⊎ (who names other ≡ Some by) = told_cases (who names) (who names') link.name one fresh told in
     record {
       zones = λ i zone e. still zone.name (named.Zone i) (is.zones i zone e);
       links = λ i l e. ⊎_elim
@@ -173,7 +173,7 @@ named_there (Some x) None zone same e = absurd cc
 named_there (Some x) (Some y) zone same e = let first : x ≡ zone = cc in let names : x.name ≡ y.name = cc in (y, refl, sym names ∙ ap (λ (z : ZoneLines). z.name) first)
 
 -- a continuation line changes no name
-pub continuation_kept : (names : Names) (source : SourceLines) (line : ZoneLine) → IndexesNames names source → IndexesNames names (record source { zones = continued source.zones line })
+pub continuation_kept : (names : Owners) (source : SourceLines) (line : ZoneLine) → IndexesNames names source → IndexesNames names (record source { zones = continued source.zones line })
 continuation_kept names source line is = record {
   zones = λ i zone e. let was = named_there _ _ zone (continued_names source.zones line i) e in ap (who names) (sym was.2) ∙ is.zones i was.0 was.1;
   links = is.links;

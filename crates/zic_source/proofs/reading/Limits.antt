@@ -12,7 +12,7 @@ use Rattle.zic_lines.specs.declared.zone_line.ZoneLine.{ZoneLine}
 use Rattle.zic_lines.specs.declared.entry.Entry.{Entry}
 use Rattle.zic_lines.specs.declared.entry.Entry.TheVariants as entries
 use Rattle.zic_lines.specs.Entry.{rules_in, links_in, zone_entries_in, names_in}
-use Rattle.zic_source.specs.declared.limit.TheConstants.{MOST_RULES, MOST_RULES_OF_SET, MOST_ZONE_LINES, MOST_NAMES}
+use Rattle.zic_source.specs.declared.limit.TheConstants.{MAX_RULES, MAX_RULES_OF_SET, MAX_ZONE_LINES, MAX_NAMES}
 use Rattle.zic_source.specs.Source.{ZoneLines, SourceLines, set_size, zone_lines_of, entries_of_zone}
 use Rattle.zic_source.specs.Links.{is_link_name, is_named}
 use Rattle.zic_source.specs.Checks.{entry_checks}
@@ -36,10 +36,10 @@ pub data Limit : Type 0 where
 
 -- how much of it there may be
 abbrev pub most : Limit → ℕ
-most (OfSet name) = MOST_RULES_OF_SET
-most Rules = MOST_RULES
-most Lines = MOST_ZONE_LINES
-most Names = MOST_NAMES
+most (OfSet name) = MAX_RULES_OF_SET
+most Rules = MAX_RULES
+most Lines = MAX_ZONE_LINES
+most Names = MAX_NAMES
 most (OfName name) = 1
 
 -- how many zones and links have the name
@@ -139,7 +139,7 @@ one_name source own name new within true e =
 one_name source own name new within false e = omega arith
 
 -- a rule more of a set that isn't full
-one_rule : (rules : List Rule) (rule : Rule) (name : List ℕ) → set_size rule.name rules < MOST_RULES_OF_SET → set_size name rules ≤ MOST_RULES_OF_SET → (b : Bool) → bytes_eq name rule.name ≡ b → set_size name rules + cond b 1 0 ≤ MOST_RULES_OF_SET
+one_rule : (rules : List Rule) (rule : Rule) (name : List ℕ) → set_size rule.name rules < MAX_RULES_OF_SET → set_size name rules ≤ MAX_RULES_OF_SET → (b : Bool) → bytes_eq name rule.name ≡ b → set_size name rules + cond b 1 0 ≤ MAX_RULES_OF_SET
 one_rule rules rule name small within true e = omega (arith, ap (λ (n : List ℕ). set_size n rules) (bytes_eq_means name rule.name e))
 one_rule rules rule name small within false e = omega arith
 
@@ -148,25 +148,25 @@ below a b passes kind e = let both = passed (ltb a b) kind passes e in (ltb-true
 
 pub room_if_passed : (source : SourceLines) (entry : Entry) → ((limit : Limit) → amount source limit ≤ most limit) → first_failed (entry_checks source entry) ≡ None → HasRoom source entry
 room_if_passed source (entries.Rule rule) within e (OfSet name) =
-    let set = below (set_size rule.name source.rules) MOST_RULES_OF_SET _ _ e in
+    let set = below (set_size rule.name source.rules) MAX_RULES_OF_SET _ _ e in
     omega (arith, one_rule source.rules rule name set.0 (within (OfSet name)) (bytes_eq name rule.name) refl)
 room_if_passed source (entries.Rule rule) within e Rules =
-    let set = below (set_size rule.name source.rules) MOST_RULES_OF_SET _ _ e in
-    let all = below (length source.rules) MOST_RULES _ _ set.1 in omega (arith, all.0)
+    let set = below (set_size rule.name source.rules) MAX_RULES_OF_SET _ _ e in
+    let all = below (length source.rules) MAX_RULES _ _ set.1 in omega (arith, all.0)
 room_if_passed source (entries.Zone own line) within e Lines =
     let new = passed (not (is_named source own)) _ _ e in
-    let lines = below (length (zone_lines_of source)) MOST_ZONE_LINES _ _ new.1 in omega (arith, lines.0)
+    let lines = below (length (zone_lines_of source)) MAX_ZONE_LINES _ _ new.1 in omega (arith, lines.0)
 room_if_passed source (entries.Zone own line) within e Names =
     let new = passed (not (is_named source own)) _ _ e in
-    let lines = below (length (zone_lines_of source)) MOST_ZONE_LINES _ _ new.1 in
-    let names = below (length source.zones + length source.links) MOST_NAMES _ _ lines.1 in omega (arith, names.0)
+    let lines = below (length (zone_lines_of source)) MAX_ZONE_LINES _ _ new.1 in
+    let names = below (length source.zones + length source.links) MAX_NAMES _ _ lines.1 in omega (arith, names.0)
 room_if_passed source (entries.Zone own line) within e (OfName name) =
     let new = passed (not (is_named source own)) _ _ e in omega (arith, one_name source own name new.0 (within (OfName name)) (bytes_eq own name) refl)
 room_if_passed source (entries.Continuation line) within e Lines =
-    let lines = below (length (zone_lines_of source)) MOST_ZONE_LINES _ _ e in omega (arith, lines.0)
+    let lines = below (length (zone_lines_of source)) MAX_ZONE_LINES _ _ e in omega (arith, lines.0)
 room_if_passed source (entries.Link link) within e Names =
     let new = passed (not (is_named source link.name)) _ _ e in
-    let names = below (length source.zones + length source.links) MOST_NAMES _ _ new.1 in omega (arith, names.0)
+    let names = below (length source.zones + length source.links) MAX_NAMES _ _ new.1 in omega (arith, names.0)
 room_if_passed source (entries.Link link) within e (OfName name) =
     let new = passed (not (is_named source link.name)) _ _ e in omega (arith, one_name source link.name name new.0 (within (OfName name)) (bytes_eq link.name name) refl)
 room_if_passed source entry within e limit = omega (arith, within limit)
@@ -182,16 +182,16 @@ module _ (source : SourceLines) where
 
   pub passed_if_room : (entry : Entry) → HasRoom source entry → first_failed (entry_checks source entry) ≡ None
   passed_if_room (entries.Rule rule) room =
-      let set : set_size rule.name source.rules < MOST_RULES_OF_SET = omega (arith, room (OfSet rule.name), counts_itself rule.name) in
-      let all : length source.rules < MOST_RULES = omega (arith, room Rules) in
+      let set : set_size rule.name source.rules < MAX_RULES_OF_SET = omega (arith, room (OfSet rule.name), counts_itself rule.name) in
+      let all : length source.rules < MAX_RULES = omega (arith, room Rules) in
       rw (lt-ltb _ _ set, lt-ltb _ _ all) refl
   passed_if_room (entries.Zone name line) room =
-      let lines : length (zone_lines_of source) < MOST_ZONE_LINES = omega (arith, room Lines) in
-      let names : length source.zones + length source.links < MOST_NAMES = omega (arith, room Names) in
+      let lines : length (zone_lines_of source) < MAX_ZONE_LINES = omega (arith, room Lines) in
+      let names : length source.zones + length source.links < MAX_NAMES = omega (arith, room Names) in
       rw (unnamed name (room (OfName name)), lt-ltb _ _ lines, lt-ltb _ _ names) refl
   passed_if_room (entries.Continuation line) room =
-      let lines : length (zone_lines_of source) < MOST_ZONE_LINES = omega (arith, room Lines) in
+      let lines : length (zone_lines_of source) < MAX_ZONE_LINES = omega (arith, room Lines) in
       rw (lt-ltb _ _ lines) refl
   passed_if_room (entries.Link link) room =
-      let names : length source.zones + length source.links < MOST_NAMES = omega (arith, room Names) in
+      let names : length source.zones + length source.links < MAX_NAMES = omega (arith, room Names) in
       rw (unnamed link.name (room (OfName link.name)), lt-ltb _ _ names) refl

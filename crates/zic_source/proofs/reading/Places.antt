@@ -14,7 +14,7 @@ use Rattle.zic_lines.specs.Grammar.{Says}
 use Rattle.zic_source.specs.Event.{Event, Line, End, text_events, events_of}
 use Rattle.zic_source.specs.Source.{SourceLines, zone_lines_of}
 use Rattle.zic_source.specs.Grammar.{Statement, Entered, Ended, EventSays}
-use Rattle.zic_source.proofs.Elements.{cons_cases, all_if_each, only_one}
+use Rattle.zic_base.proofs.Elements.{cons_cases, all_if_each, only_one}
 use Rattle.zic_source.proofs.faults.Order.{before_before, not_before_itself}
 use Rattle.zic_source.proofs.reading.Zones.{lines_in}
 use Rattle.zic_source.proofs.reading.Read.{entries_of, Read}

@@ -14,7 +14,7 @@ use Rattle.zic_lines.specs.Grammar.{Says}
 use Rattle.zic_source.specs.Event.{Event, Line, End}
 use Rattle.zic_source.specs.Source.{SourceLines, ZoneLines, zone_lines_of, entries_of_zone}
 use Rattle.zic_source.specs.Grammar.{Statement, Entered, Ended, EventSays}
-use Rattle.zic_source.proofs.Elements.{cons_cases, first_contained, only_one, from_flat_map, into_flat_map}
+use Rattle.zic_base.proofs.Elements.{cons_cases, first_contained, only_one, from_flat_map, into_flat_map}
 use Rattle.zic_source.proofs.reading.Zones.{lines_in, zone_lines_said}
 use Rattle.zic_source.proofs.reading.Limits.{IsOf}
 use Rattle.zic_source.proofs.reading.Read.{entries_of}

@@ -9,7 +9,7 @@ use Rattle.zic_lines.specs.Entry.{links_in, zone_entries_in}
 use Rattle.zic_source.specs.Event.{events_of}
 use Rattle.zic_source.specs.Source.{SourceLines, ZoneLines, lines_of_zone, zone_lines_of, entries_of_zone}
 use Rattle.zic_source.specs.Sound.{StandInOrder}
-use Rattle.zic_source.proofs.Elements.{all_if_each, first_contained, into_flat_map}
+use Rattle.zic_base.proofs.Elements.{all_if_each, first_contained, into_flat_map}
 use Rattle.zic_source.proofs.reading.Places.{Rising, rising_from, last_rising, each_before, place_of, before_all, said_rises, no_link}
 use Rattle.zic_source.proofs.reading.Read.{entries_of, Read}
 

@@ -13,7 +13,7 @@ use Rattle.zic_source.specs.Source.{SourceLines, ZoneLines, lines_of_zone, zone_
 use Rattle.zic_source.specs.Grammar.{said, is_open, IsSource}
 use Rattle.zic_source.specs.Whole.{is_unknown}
 use Rattle.zic_source.specs.Sound.{IsSoundRule, IsSoundLine, IsSoundZone, IsSoundLink, names_of, IsSoundSource}
-use Rattle.zic_source.proofs.Elements.{all_if_each, only_one, into_flat_map}
+use Rattle.zic_base.proofs.Elements.{all_if_each, only_one, into_flat_map}
 use Rattle.zic_source.proofs.Counts.{times, once_differ}
 use Rattle.zic_source.proofs.reading.Zones.{lines_in}
 use Rattle.zic_source.proofs.reading.Limits.{OfSet, Rules, Lines, Names, OfName, bearers}

@@ -12,7 +12,7 @@ use Rattle.zic_source.specs.Event.{Event, Line, End, text_events, events_of}
 use Rattle.zic_source.specs.Source.{ZoneLines, lines_of_zone, entries_of_zone}
 use Rattle.zic_source.specs.Grammar as statement
 use Rattle.zic_source.specs.Grammar.{Statement, Entered, Ended, EventSays, said, entries_in}
-use Rattle.zic_source.proofs.Elements.{cons_cases}
+use Rattle.zic_base.proofs.Elements.{cons_cases}
 use Rattle.zic_source.proofs.reading.Continuations.{Continued}
 
 -- ---- texts end with nothing to follow

@@ -4,7 +4,7 @@ use Rattle.zic_source.specs.declared.reader.Reader.{Reader}
 use Rattle.zic_source.specs.Source.{zone_lines_of}
 use Rattle.zic_source.specs.code.Lines.{source_lines}
 use Rattle.zic_source.specs.code.Sets.{IndexesSets}
-use Rattle.zic_source.specs.code.Names.{IndexesNames}
+use Rattle.zic_source.specs.code.Owners.{IndexesNames}
 
 -- the sets, the names and the count are those of the lines
 pub record Tracks (reader : Reader) : Type 0 where

@@ -1,6 +1,6 @@
 -- What holds of the source that the code keeps; no public contract cites it.
 use Rattle.std.specs.Prelude.{ℕ, List}
-use Rattle.zic_source.specs.declared.lines.Lines.{Lines}
+use Rattle.zic_source.specs.declared.entries.Entries.{Entries}
 use Rattle.zic_source.specs.declared.sets.Sets.{Sets}
 use Rattle.zic_source.specs.Grammar.{IsSource}
 use Rattle.zic_source.specs.Sound.{IsSoundSource}
@@ -9,7 +9,7 @@ use Rattle.zic_source.specs.code.Sets.{IndexesSets}
 use Rattle.zic_source.specs.code.Chains.{AreLinkZones}
 
 -- Some texts are this source, and what is found by name is right.
-pub record IsRight (lines : Lines) (sets : Sets) (link_zones : List ℕ) : Type 0 where
+pub record IsRight (lines : Entries) (sets : Sets) (link_zones : List ℕ) : Type 0 where
   pub says : (texts : List (List ℕ)) × IsSource texts (source_lines lines)
   pub sound : IsSoundSource (source_lines lines)
   pub sets_right : IndexesSets sets lines.rules.items

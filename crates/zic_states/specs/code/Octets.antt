@@ -1,7 +1,7 @@
 -- How an abbreviation is kept in 16 octets.
 use Rattle.std.specs.Prelude.{◌≡◌, ℕ, ◌-◌, true, List, ◌++◌, length, replicate, take}
 use Rattle.zic_base.specs.declared.limit.TheConstants.{LONGEST_ABBREVIATION}
-use Rattle.zic_states.specs.Abbreviation.{is_abbreviation}
+use Rattle.zic_words.specs.Limits.{is_abbreviation}
 
 -- a name, and zeros after it
 abbrev pub padded : List ℕ → List ℕ

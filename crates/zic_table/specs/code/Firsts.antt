@@ -2,7 +2,7 @@
 use Rattle.std.specs.Prelude.{◌≡◌, ℕ, Bool, if◌then◌else◌, List, [], ◌∷◌, ◌++◌, length}
 use Rattle.std.specs.List.{list_any}
 use Rattle.zic_base.specs.State.{Shown}
-use Rattle.zic_table.specs.Image.{before, same_state}
+use Rattle.zic_table.specs.ContentOf.{before, same_state}
 
 -- the list with this at its end, unless it has it
 abbrev pub with_new : {A : Type 0} → (A → A → Bool) → List A → A → List A

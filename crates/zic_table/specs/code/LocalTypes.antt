@@ -3,21 +3,21 @@ use Rattle.std.specs.Prelude.{◌≡◌, ◌<◌, ◌≤◌, ℕ, Some, false, L
 use Rattle.std.specs.List.{list_any}
 use Rattle.std.specs.Str.{bytes_eq}
 use Rattle.zic_base.specs.State.{Shown}
-use Rattle.zic_table.specs.Image.{names_of, ended, local_type}
-use Rattle.zic_table.specs.declared.content.LocalType.{LocalType}
-use Rattle.zic_table.specs.declared.limit.TheConstants.{MOST_CHARACTERS}
+use Rattle.zic_table.specs.ContentOf.{names_of, ended, local_type}
+use Rattle.zic_content.specs.declared.content.LocalType.{LocalType}
+use Rattle.zic_content.specs.declared.limit.TheConstants.{MAX_CHARACTERS}
 
--- the local time types of these states, and the octets of their designations
+-- the local time types of these states, and the bytes of their designations
 pub record AreLocalTypes (states : List Shown) (types : List LocalType) (names : List ℕ) : Type 0 where
   pub are_types : types ≡ map (local_type (names_of states)) states
   pub are_names : names ≡ ended (names_of states)
-  pub fit : length names ≤ MOST_CHARACTERS
+  pub fit : length names ≤ MAX_CHARACTERS
 
--- the designations of these states have more octets than those of a table
+-- the designations of these states have more bytes than those of a table
 abbrev pub HasManyCharacters : List Shown → Type 0
-HasManyCharacters states = MOST_CHARACTERS < length (ended (names_of states))
+HasManyCharacters states = MAX_CHARACTERS < length (ended (names_of states))
 
--- none of the first so many states has the name
+-- none of the first states, of this number, has the name
 abbrev pub HasNoName : List Shown → ℕ → List ℕ → Type 0
 HasNoName states count name = list_any (λ s. bytes_eq s.name name) (take count states) ≡ false
 

@@ -5,17 +5,13 @@ use Rattle.std.specs.List.{list_any}
 use Rattle.std.specs.Ordering.{int_eq}
 use Rattle.std.specs.Str.{bytes_eq}
 use Rattle.std.specs.HashMap.{HashMap, get}
-use Rattle.zic_base.specs.State.{Shown}
-use Rattle.zic_table.specs.Image.{before, same_state}
-use Rattle.zic_table.specs.declared.limit.TheConstants.{MOST_TYPES}
-use Rattle.zic_table.specs.declared.numbering.Key.{Key}
+use Rattle.zic_base.specs.State.{Shown, shown}
+use Rattle.zic_base.specs.declared.state.State.{State}
+use Rattle.zic_table.specs.ContentOf.{before, same_state}
+use Rattle.zic_content.specs.declared.limit.TheConstants.{MAX_TYPES}
 
--- the state of a key
-abbrev pub state_of : Key → Shown
-state_of key = record { offset = key.offset; daylight = key.daylight; name = key.name.now }
-
--- the two keys are one
-abbrev pub same_key : Key → Key → Bool
+-- the two states are one, as keys are compared
+abbrev pub same_key : State → State → Bool
 same_key a b = int_eq a.offset b.offset && (beq a.daylight b.daylight && bytes_eq a.name.now b.name.now)
 
 -- the number of a state, if it is one of these
@@ -23,6 +19,6 @@ abbrev pub number_of : List Shown → Shown → Option ℕ
 number_of states state = if list_any (λ s. same_state s state) states then Some (length (before same_state states state)) else None
 
 -- each of the states has its number
-pub record AreNumbers {S : Type 0} (states : List Shown) (numbers : HashMap Key ℕ S) : Type 0 where
-  pub fit : length states ≤ MOST_TYPES
-  pub each : (key : Key) → get same_key numbers key ≡ number_of states (state_of key)
+pub record AreNumbers {S : Type 0} (states : List Shown) (numbers : HashMap State ℕ S) : Type 0 where
+  pub fit : length states ≤ MAX_TYPES
+  pub each : (key : State) → get same_key numbers key ≡ number_of states (shown key)

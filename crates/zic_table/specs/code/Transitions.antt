@@ -4,11 +4,11 @@ use Rattle.std.specs.Int.{w64}
 use Rattle.zic_base.specs.State.{Shown}
 use Rattle.zic_states.specs.Change as of_zone
 use Rattle.zic_states.specs.Zone.{Zone}
-use Rattle.zic_table.specs.Image.{states_of, transition}
-use Rattle.zic_table.specs.declared.content.Change.{Change}
-use Rattle.zic_table.specs.declared.limit.TheConstants.{MOST_TYPES}
+use Rattle.zic_table.specs.ContentOf.{states_of, transition}
+use Rattle.zic_content.specs.declared.content.Change.{Change}
+use Rattle.zic_content.specs.declared.limit.TheConstants.{MAX_TYPES}
 
--- the states up to so many changes, and the transitions of these changes
+-- the states up to this number of changes, and the transitions of these changes
 pub record AreTransitionsTo (zone : Zone) (count : ℕ) (states : List Shown) (transitions : List Change) : Type 0 where
   pub first : Shown
   pub changes : List of_zone.Change
@@ -34,4 +34,4 @@ pub record HasManyTypes (zone : Zone) : Type 0 where
   pub changes : List of_zone.Change
   pub are_changes : of_zone.AreChanges zone changes
   pub is_first : of_zone.IsFirstState zone first
-  pub many : MOST_TYPES < length (states_of first changes)
+  pub many : MAX_TYPES < length (states_of first changes)

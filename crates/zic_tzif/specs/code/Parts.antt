@@ -1,16 +1,16 @@
--- What a reader finds in octets that pass a group of checks.
+-- What a reader finds in bytes that pass a group of checks.
 use Rattle.std.specs.Prelude.{◌≡◌, ℕ, ◌+◌, ◌-◌, ◌≤◌, ◌⊎◌, nat_lt, nat_le, ℤ, List, [], ◌∷◌, map, slice_index, length, Some, None, Result, Ok, Err}
 use Rattle.std.specs.List.{list_all}
 use Rattle.zic_base.specs.Check.{Check, check, first_failed}
 use Rattle.zic_base.specs.State.{Shown}
 use Rattle.zic_posix.specs.Footer.{TzString}
 use Rattle.zic_posix.specs.Meaning.{Means}
-use Rattle.zic_table.specs.declared.content.Change.{Change}
-use Rattle.zic_table.specs.Content.{Content, IsLastTransition, IsStateOfType}
-use Rattle.zic_table.specs.Designation.{is_designated}
+use Rattle.zic_content.specs.declared.content.Change.{Change}
+use Rattle.zic_content.specs.Content.{Content, IsLastTransition, IsStateOfType}
+use Rattle.zic_content.specs.Designation.{is_designated}
 use Rattle.zic_tzif.specs.declared.data_block.DataBlock.{DataBlock}
-use Rattle.zic_tzif.specs.declared.reading.FirstPart.{FirstPart}
-use Rattle.zic_tzif.specs.declared.reading.Parts.{Parts}
+use Rattle.zic_tzif.specs.declared.reader.FirstPart.{FirstPart}
+use Rattle.zic_tzif.specs.declared.reader.Parts.{Parts}
 use Rattle.zic_tzif.specs.declared.reason.Reason.{Reason}
 use Rattle.zic_tzif.specs.declared.reason.Reason.TheVariants as reason
 use Rattle.zic_tzif.specs.Header.{second_header, second_counts, footer_place}
@@ -28,7 +28,7 @@ pub record IsFirstPart (octets : List ℕ) (s : FirstPart) : Type 0 where
   pub second_header : s.second_header ≡ second_header octets
   pub inside : s.second_header + 44 ≤ length octets
 
--- the times of a block's transitions, and the octets of its types
+-- the times of a block's transitions, and the bytes of its types
 abbrev pub times_of : DataBlock → List ℤ
 times_of b = map time_in (pieces 8 b.transitions b.times.now)
 

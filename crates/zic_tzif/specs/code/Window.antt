@@ -14,7 +14,7 @@ pub record IsSplit (times : List ℤ) (t : ℤ) (count : ℕ) : Type 0 where
   pub not_after : (place : ℕ) → place < count → IsNotAfter times t place
   pub after : (place : ℕ) → count ≤ place → place < length times → IsAfter times t place
 
--- so many levels halve a list of this length, and all places behind it, down to one place
+-- halving a list of this length, with the place after its end, this number of times leaves one place
 pub record AreLevels (levels length : ℕ) : Type 0 where
   pub fits : levels < 63
   pub within : 2 ^ levels ≤ length + 1

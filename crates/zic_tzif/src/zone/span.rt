@@ -1,11 +1,11 @@
-//! What a file says at an instant, and how long it says so.
+//! A file's answer at an instant, and the instants round it at which it is the same.
 
 use super::{Answer, Zone};
 use zic_posix::Instants;
 
-/// What a file says of some instants, of all of them the same.
+/// The answer of a file at some instants, at all of them the same.
 #[derive(Clone, Copy, Debug, PartialEq, Eq)]
-pub struct Span<'a> {
+pub struct AnswerSpan<'a> {
     pub answer: Answer<'a>,
     pub instants: Instants,
 }
@@ -14,10 +14,11 @@ impl Zone {
     ghost use Rattle.zic_posix.specs.Instants.{Includes, AreBetween};
     ghost use Rattle.zic_tzif.specs.Answer.{AnswersThroughout, MayChangeAt, answered};
 
-    /// Local time at an instant, as `at` has it, and the instants round it at which it is the same: from the last transition
-    /// that isn't after it to just before the next. From the last transition of all on they end at edges of the footer too;
-    /// where there is none, they have no end. Takes a binary search.
-    pub fn span(&self, t: i64) -> Span<'_>
+    /// Returns local time at an instant, as `at` has it, and the instants round it at which it is
+    /// the same: from the last transition that isn't after it to just before the next. From the
+    /// last transition of all on they end at edges of the footer too; where there is none, they
+    /// have no end. Takes a binary search.
+    pub fn span(&self, t: i64) -> AnswerSpan<'_>
         ensures asked { Includes result.instants t }
         ensures answers { AnswersThroughout self.now result.instants (answered result.answer) }
         ensures changes { AreBetween (MayChangeAt self.now) result.instants }
@@ -25,7 +26,7 @@ impl Zone {
         let gap = self.times.gap_at(t);
         let instants = gap.instants;
         if gap.count < self.numbers.len() {
-            return Span {
+            return AnswerSpan {
                 answer: Answer::Known(self.state_after(gap.count)),
                 instants,
             };
@@ -35,16 +36,16 @@ impl Zone {
                 let span = footer.span(t);
                 let first = instants.first.max(span.instants.first);
                 let last = span.instants.last;
-                Span {
+                AnswerSpan {
                     answer: Answer::Known(span.state),
                     instants: Instants { first, last },
                 }
             }
-            None if gap.count == 0 => Span {
+            None if gap.count == 0 => AnswerSpan {
                 answer: Answer::Known(self.state_after(0)),
                 instants,
             },
-            None => Span {
+            None => AnswerSpan {
                 answer: Answer::Unspecified,
                 instants,
             },

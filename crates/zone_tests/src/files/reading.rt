@@ -33,8 +33,8 @@ const FAULTS: [(usize, u8, Reason); 22] = [
     (110, b' ', Reason::Short),
 ];
 
-/// The same of a file with transitions. The last octet of its types is that of the last transition, which the footer
-/// disagrees with then.
+/// The same of a file with transitions. The last octet of its types is that of the last transition,
+/// which the footer disagrees with then.
 const FAULTS_WITH_TRANSITIONS: [(usize, u8, Reason); 12] = [
     (0, b'X', Reason::Magic),
     (55, b'3', Reason::HeadersDiffer),
@@ -50,8 +50,9 @@ const FAULTS_WITH_TRANSITIONS: [(usize, u8, Reason); 12] = [
     (170, b',', Reason::Footer),
 ];
 
-/// How often each reason comes, by its number, where each octet of `NEW_YORK` is set to each of 256 values in turn. The
-/// first number is that of files. These are the numbers of another reader, `witness/reader.py`.
+/// How often each reason comes, by its number, where each octet of `NEW_YORK` is set to each of 256
+/// values in turn. The first number is that of files. These are the numbers of another reader,
+/// `witness/reader.py`.
 const REASONS: [u32; 15] = [
     15099, 8040, 1020, 254, 1607, 2040, 2040, 6553, 1527, 1887, 1526, 2, 7811, 2, 0,
 ];

@@ -1,11 +1,11 @@
-//! What RULES keep, and the letter before all occurrences.
+//! Observances, and the letter before all occurrences.
 
 use std::alloc::Global;
 use std::test::Fail;
 use zic_source::{Source, Stop, read_source};
-use zic_states::kept_by;
+use zic_states::observance_by;
 
-/// A source of this text.
+/// Returns the source of this text.
 fn read(alloc: Global, text: &[u8]) -> Result<Source, Fail> {
     let mut texts = Vec::new(alloc);
     texts.push(Vec::from_slice(alloc, text)?)?;
@@ -50,7 +50,7 @@ Zone Z 0 A A%sA",
         if source.zones() == 0 {
             return Err(Fail::from("a zone"));
         }
-        let keeping = kept_by(&source, source.line(0, 0), None);
+        let keeping = observance_by(&source, source.line(0, 0), None);
         assert_eq!(rt; keeping.saving, 0);
         assert!(rt; !keeping.daylight);
         assert_eq!(rt; keeping.letter.map(|letter| letter.octets()), letter);

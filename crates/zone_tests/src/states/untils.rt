@@ -16,7 +16,7 @@ use zic_states::*;
 const RULES: &[u8] =
     b"Rule US 2007 max - Mar Sun>=8 2:00 1:00 D\nRule US 2007 max - Nov Sun>=1 2:00 0 S\nZone A -5:00 ";
 
-/// The occurrences of the line's set.
+/// Returns the occurrences of the line's set.
 fn occurrences_for(
     alloc: Global,
     source: &Source,
@@ -39,7 +39,7 @@ fn occurrences_for(
     }
 }
 
-/// What a source of these rules and a zone says, whose first line goes on so.
+/// Returns the source of these rules and a zone whose first line goes on so.
 fn read(alloc: Global, line: &[u8]) -> Result<Source, Fail> {
     let mut text = Vec::from_slice(alloc, RULES)?;
     text.extend_from_slice(line)?;

@@ -1,5 +1,6 @@
-//! How long footers mean the same. The edges are those of glibc 2.36 under such a TZ, and before 1970 and after 2370 those of the
-//! same years of its calendar, whole cycles of 400 years away; those at ties and of edges in a neighbouring year are reckoned by hand.
+//! How long footers mean the same. The edges are those of glibc 2.36 under such a TZ, and before
+//! 1970 and after 2370 those of the same years of its calendar, whole cycles of 400 years away;
+//! those at ties and of edges in a neighbouring year are reckoned by hand.
 
 use std::process::Abort;
 use std::test::Fail;
@@ -60,7 +61,8 @@ fn spans_reach_from_edge_to_edge(rt: HostRuntime) -> Result<(), Fail> {
 
 #[test]
 fn spans_at_odd_edges(rt: HostRuntime) -> Result<(), Fail> {
-    // Both edges fall on one instant, so daylight saving time goes on, and its spans are whole years.
+    // Both edges fall on one instant, so daylight saving time goes on, and its spans are whole
+    // years.
     static TIE: [Row; 1] = [(951_876_000, 951_876_000, 983_411_999, true)];
     check(&rt, "AAA0BBB,J60,J60/3", &TIE)?;
     // Both edges of a year come in January of the next, the stop first.

@@ -1,5 +1,6 @@
-//! What footers mean. The rows are what glibc 2.36 shows under such a TZ; those at ties, before 1970, past the year 9999, and of
-//! edges in a neighbouring year, which glibc doesn't look at, are reckoned by hand.
+//! What footers mean. The rows are what glibc 2.36 shows under such a TZ; those at ties, before
+//! 1970, past the year 9999, and of edges in a neighbouring year, which glibc doesn't look at, are
+//! reckoned by hand.
 
 use std::process::Abort;
 use std::test::Fail;
@@ -162,8 +163,8 @@ fn numbered_days(rt: HostRuntime) -> Result<(), Fail> {
 
 #[test]
 fn edges_in_a_neighbouring_year(rt: HostRuntime) -> Result<(), Fail> {
-    // It starts on January 6 at 23:00, and stops on January 5 at 22:00, in UT: on January 3 of 2024 both edges of 2023 are
-    // still to come.
+    // It starts on January 6 at 23:00, and stops on January 5 at 22:00, in UT: on January 3 of 2024
+    // both edges of 2023 are still to come.
     static LATE: [Row; 5] = [
         (1_704_240_000, BBB),
         (1_704_491_999, BBB),

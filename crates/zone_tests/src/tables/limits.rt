@@ -45,7 +45,8 @@ fn months(alloc: Global, last: u16) -> Result<Vec<u8>, Fail> {
     Ok(text)
 }
 
-/// How many transitions, types and octets of designations the table of a source's only zone has, or why it has none.
+/// How many transitions, types and octets of designations the table of a source's only zone has, or
+/// why it has none.
 fn counts(alloc: Global, text: &[u8]) -> Result<Result<(usize, usize, usize), Stop>, Fail> {
     match made(alloc, &[text])? {
         Ok(table) => Ok(Ok((

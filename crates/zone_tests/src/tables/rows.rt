@@ -55,7 +55,8 @@ const ROWS: [Row; 4] = [
         names: b"IST\0GMT\0",
         text: b"IST-1GMT0,M10.5.0,M3.5.0/1",
     },
-    // Two types of one designation, and a time of 26 hours in the footer. The instants are those of `zic -b fat` (zic 2.36).
+    // Two types of one designation, and a time of 26 hours in the footer. The instants are those of
+    // `zic -b fat` (zic 2.36).
     Row {
         rules: b"Rule Zion 2013 max - Mar Fri>=23 2:00 1:00 D\nRule Zion 2013 max - Oct lastSun 2:00 0 S\n",
         zone: b"Zone Z/K 2:00 Zion IST\n",

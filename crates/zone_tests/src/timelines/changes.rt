@@ -1,5 +1,5 @@
-//! First states, changes and explicit ends. The changes are those of `zic -b fat` (zic 2.36), the first states those of
-//! `zdump -i` from its files.
+//! First states, changes and explicit ends. The changes are those of `zic -b fat` (zic 2.36), the
+//! first states those of `zdump -i` from its files.
 
 use super::*;
 
@@ -40,7 +40,8 @@ const ROWS: [Row; 19] = [
         changes: NEW_YORK,
         end: 1_262_304_000,
     },
-    // Summer time from the start of a line on: it began within its window, by the clock of the line before.
+    // Summer time from the start of a line on: it began within its window, by the clock of the line
+    // before.
     Row {
         rules: MENOMINEE,
         zone: b"Zone Z/M -5:00 - EST 1973 Apr 29 2:00\n -6:00 US C%sT\n",
@@ -111,7 +112,8 @@ const ROWS: [Row; 19] = [
         ],
         end: 1_451_606_400,
     },
-    // A rule at the very instant of UNTIL is the next line's; one without a set knows nothing of it.
+    // A rule at the very instant of UNTIL is the next line's; one without a set knows nothing of
+    // it.
     Row {
         rules: UNITED_STATES,
         zone: b"Zone Z/U -5:00 US E%sT 2007 Mar 11 2:00\n -5:00 US E%sT\n",
@@ -213,7 +215,8 @@ const ROWS: [Row; 19] = [
         ],
         end: 978_307_200,
     },
-    // Before all occurrences the letter is that of the first of standard time, by time and not by line.
+    // Before all occurrences the letter is that of the first of standard time, by time and not by
+    // line.
     Row {
         rules: b"Rule P 1990 o - Oct 1 0:00 0 X\nRule P 1970 o - Apr 1 0:00 1:00 D\nRule P 1980 1981 - Oct 1 0:00 0 Y\nRule P 1980 1981 - Mar 1 0:00 0 Z\nRule P 1985 o - Apr 1 0:00 1:00 W\n",
         zone: b"Zone Z/P -5:00 P E%sT\n",
@@ -229,8 +232,8 @@ const ROWS: [Row; 19] = [
         ],
         end: 725_846_400,
     },
-    // A rule whose occurrences come in the year after their own. zic, which takes occurrences year by year, says this where the
-    // rule is written as of 12 January, 12:00, from 2001 to 2006.
+    // A rule whose occurrences come in the year after their own. zic, which takes occurrences year
+    // by year, says this where the rule is written as of 12 January, 12:00, from 2001 to 2006.
     Row {
         rules: b"Rule R 2000 max - Jan 1 0:00 0 -\nRule R 2000 2005 - Dec 31 300:00 1:00 -\n",
         zone: b"Zone Z/R 0 R RST/RDT\n",
@@ -280,9 +283,9 @@ fn zones(rt: HostRuntime) -> Result<(), Fail> {
         let mut earlier = row.first;
         for (number, (instant, offset, daylight, name)) in row.changes.iter().enumerate() {
             let state = (*offset, *daylight, *name);
-            let change = change_at(&found, number).ok_or("a change")?;
-            assert_eq!(rt; change.instant, *instant, "{:?}", row.zone);
-            assert_eq!(rt; told(change.state), state, "{:?}", row.zone);
+            let (found_at, shown) = change_at(&found, number).ok_or("a change")?;
+            assert_eq!(rt; found_at, *instant, "{:?}", row.zone);
+            assert_eq!(rt; told(shown), state, "{:?}", row.zone);
             let before = state_at(&found, instant.saturating_sub(1)).ok_or("a state")?;
             assert_eq!(rt; told(before), earlier, "{:?}", row.zone);
             let from = state_at(&found, *instant).ok_or("a state")?;

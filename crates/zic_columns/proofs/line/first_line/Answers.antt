@@ -2,7 +2,7 @@ use Rattle.std.proofs.Common.{◌+◌, take, length, sym, ◌∙◌, subst, arit
 use Rattle.std.proofs.lemmas.Bool.{eqb-false, eqb-true}
 use Rattle.std.proofs.lemmas.List.{nil_from_length, take_rest}
 use Rattle.zic_columns.specs.code.Line.{IsFirstLine}
-use Rattle.zic_columns.proofs.CutFacts.{line_found, no_line, only_line}
+use Rattle.zic_columns.proofs.LineCuts.{line_found, no_line, only_line}
 use Rattle.zic_columns.proofs.line.first_line.Goals as goal
 
 pub returns-then-is_empty : goal.returns-then-is_empty

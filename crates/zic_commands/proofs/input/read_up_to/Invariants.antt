@@ -5,6 +5,6 @@ use Rattle.zic_commands.proofs.input.read_up_to.Given as goal
 
 abbrev pub invariant-loop : goal.invariant-loop
 invariant-loop g l =
-    (l.counter ≤ length l.octets.items) × (length l.octets.items ≤ l.limit)
-    × ((l.reader.failures ≡ l.fn.reader.failures) × (min l.reader.taken greatest ≡ risen l.fn.reader.taken (length l.octets.items)))
-    × Consumes (g.R.Read.remaining l.fn.reader.inner) (g.R.Read.remaining l.reader.inner) l.octets.items
+    (l.counter ≤ length l.bytes.items) × (length l.bytes.items ≤ l.limit)
+    × ((l.reader.failures ≡ l.fn.reader.failures) × (min l.reader.taken greatest ≡ risen l.fn.reader.taken (length l.bytes.items)))
+    × Consumes (g.R.Read.remaining l.fn.reader.inner) (g.R.Read.remaining l.reader.inner) l.bytes.items

@@ -1,30 +1,24 @@
-use Rattle.std.proofs.Common.{ℕ, List, length, arith, ap, sym, subst, ◌∙◌, take, drop}
-use Rattle.std.proofs.KnownBytes.{Appends-trans}
-use Rattle.std.proofs.Math.Seq.{take-add}
-use Rattle.std.proofs.lemmas.List.{length-drop, take_rest}
-use Rattle.std.specs.Io.KnownBytes.{Appends}
+use Rattle.std.proofs.Common.{ℕ, List, [], ◌++◌, subst, ◌∙◌, append-nil}
+use Rattle.std.proofs.lemmas.Result.{err_from_is_err_and}
+use Rattle.zic_counted.specs.Written.{FailsWithin, Writes}
+use Rattle.zic_counted.proofs.Bytes.{fails_after, writes_both}
 use Rattle.zic_commands.proofs.output.write_output.Goals as goal
-use Rattle.zic_commands.proofs.output.write_output.Goals.{then-written-octets+in_ok-written, else-written-octets}
 
-pub loop-preserved : goal.loop-preserved
-loop-preserved g c =
-    let inv = c.loop.invariant in
-    elim c.if-written-octets.branch [
-      | then-written-octets+in_ok-written w ↦
-          let e = w.in_ok-written.ensures in
-          let more = w.in_ok-written.field-0 in
-          let octets = c.args.octets.now in
-          let known = g.W.Write.contents c.args.writer.now.inner in
-          let rest = take_rest octets c.loop.written in
-          let now = g.W.Write.contents w.write_once.new.writer.inner in
-          let appends = subst (λ (l : List ℕ). Appends (g.W.Write.contents c.loop.writer.inner) now (take more l)) rest e.appends in
-          rw (w.writer-is, w.written-is) (
-            omega (arith, inv.0, e.some.0),
-            omega (arith, e.some.1, ap length rest, length-drop c.loop.written octets, w.if-written-octets.true),
-            record { failures = e.counts.failures ∙ inv.2.failures; taken = e.counts.taken ∙ inv.2.taken },
-            subst (Appends known now) (sym (take-add c.loop.written more octets))
-                (Appends-trans _ _ _ (take c.loop.written octets) (take more (drop c.loop.written octets)) inv.3 appends),
-          )
-      | else-written-octets w ↦
-          rw (w.writer-is, w.written-is) (omega (arith, c.loop-test.true, w.if-written-octets.false, inv.1), inv.1, inv.2, inv.3)
-    ]
+pub returns-in_err-flush-clause-fails : goal.returns-in_err-flush-clause-fails
+returns-in_err-flush-clause-fails g c =
+    let contents = g.W.Write.contents in
+    let bytes = c.args.bytes.now in
+    let old = c.args.writer.now in
+    let new = c.flush.new.writer in
+    let all = fails_after contents old c.write_all.new.writer new bytes [] [] c.in_ok-write_all.ensures.ok c.in_err-flush.ensures.err in
+    let p = err_from_is_err_and c.from_residual-in_err-flush.result c.from_residual-in_err-flush.ensures.1 in
+    rw p.1 (subst (λ (l : List ℕ). FailsWithin contents old new l) (append-nil (bytes ++ []) ∙ append-nil bytes) all)
+
+pub returns-clause-ok : goal.returns-clause-ok
+returns-clause-ok g c =
+    let contents = g.W.Write.contents in
+    let bytes = c.args.bytes.now in
+    let old = c.args.writer.now in
+    let new = c.flush.new.writer in
+    subst (λ (l : List ℕ). Writes contents old new l) (append-nil bytes)
+    (writes_both contents old c.write_all.new.writer new bytes [] c.in_ok-write_all.ensures.ok c.in_ok-flush.ensures.ok)

@@ -1,7 +1,7 @@
 use Rattle.std.proofs.Common.{◌≡◌, ◌++◌, ◌+◌, ℕ, List, [], Option, None, Some, drop, refl, sym, ap, subst, ◌∙◌, arith, rules}
 use Rattle.std.proofs.lemmas.List.{append-nil}
 use Rattle.std.proofs.lemmas.Result.{err_from_is_err_and}
-use Rattle.zic_bulk.specs.declared.stop.RowKind.{RowKind}
+use Rattle.zic_plan.specs.declared.stop.RowKind.{RowKind}
 use Rattle.zic_convert.specs.code.Row.{RowsOf}
 use Rattle.zic_convert.specs.code.Written.{FailsWithin, Wrote}
 use Rattle.zic_convert.specs.code.Pieces.{joined}

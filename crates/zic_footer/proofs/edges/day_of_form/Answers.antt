@@ -1,10 +1,9 @@
-use Rattle.std.proofs.Common.{subst, arith, pos}
+use Rattle.std.proofs.Common.{subst, arith, pos, true, false}
 use Rattle.std.proofs.lemmas.Int.{ints}
 use Rattle.zic_calendar.specs.declared.day_form.On.{On}
 use Rattle.zic_calendar.specs.DayForm.{FormFits}
 use Rattle.zic_calendar.proofs.FormLemmas.{month_length_bounds}
 use Rattle.zic_footer.proofs.edges.day_of_form.Goals as goal
-use Rattle.std.proofs.Common.{true, false}
 
 pub number_in_year-requires-clause-fits : goal.number_in_year-requires-clause-fits
 number_in_year-requires-clause-fits c = subst (λ (f : On). FormFits (pos 1) c.args.month f) c.in-Day.is (c.requires.fits (pos 1))

@@ -1,4 +1,4 @@
-use Rattle.std.proofs.Common.{◌≡◌, ℕ, ⊎_elim, ap, subst, arith, ℤ, pos, negsuc, ◌+ℤ◌, ◌<ℤ◌, ◌≤ℤ◌}
+use Rattle.std.proofs.Common.{◌≡◌, ℕ, ◌+◌, ⊎_elim, ap, subst, arith, ℤ, pos, negsuc, ◌+ℤ◌, ◌<ℤ◌, ◌≤ℤ◌}
 use Rattle.std.proofs.lemmas.Bool.{cases_lt}
 use Rattle.std.proofs.lemmas.Int.{ints}
 use Rattle.zic_occurrences.specs.Occurrence.{nominal_second}
@@ -10,6 +10,15 @@ use Rattle.zic_footer.proofs.turns.lies_between.Goals.{else-from-second-via-then
 as_number : (z : ℤ) → pos 1 ≤ℤ z → (k : ℕ) × (z ≡ pos k)
 as_number (pos k) h = (k, λ i. pos k)
 as_number (negsuc k) h = absurd (omega (arith, ints))
+
+pub nominal_second-from-requires-clause-fits : goal.nominal_second-from-requires-clause-fits
+nominal_second-from-requires-clause-fits c = c.requires.a.fits (pos c.args.year)
+
+pub nominal_second-to-requires-clause-fits : goal.nominal_second-to-requires-clause-fits
+nominal_second-to-requires-clause-fits c = c.requires.a.fits (pos (c.args.year + 1))
+
+pub nominal_second-second-requires-clause-fits : goal.nominal_second-second-requires-clause-fits
+nominal_second-second-requires-clause-fits c = c.requires.b.fits (pos c.loop-other.other)
 
 pub loop-other-init : goal.loop-other-init
 loop-other-init c = λ k from to after before. omega arith

@@ -9,4 +9,4 @@ returns c =
     let y = unsigned_abs (to_z w64 (of_z w64 date.year)) in
     let year : date.year ≡ pos y = omega (arith, ints, c.civil-date.ensures.year) in
     let octets = kept_date-octets c.args.day _ date y c.requires (omega (arith, ints)) c.civil-date.ensures.date c.civil-date.ensures.year year in
-    rw (c.tens.ensures, c.ones.ensures, c.tens-2.ensures, c.ones-2.ensures, c.tens-3.ensures, c.ones-3.ensures, c.tens-4.ensures, c.ones-4.ensures) (sym octets)
+    rw (c.two_digits.ensures, c.two_digits-2.ensures, c.two_digits-3.ensures, c.two_digits-4.ensures) (sym octets)

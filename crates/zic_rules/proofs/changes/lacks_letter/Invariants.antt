@@ -1,7 +1,7 @@
--- Up to this stretch the zone shows some state at each instant.
-use Rattle.zic_stretches.specs.Stretch.{zone_of}
+-- Up to this period the zone shows some state at each instant.
+use Rattle.zic_rules.specs.Period.{the_zone}
 use Rattle.zic_rules.specs.code.Shown.{ShowsSomeTo}
 use Rattle.zic_rules.proofs.changes.lacks_letter.Given as goal
 
-abbrev pub invariant-loop-stretch : goal.invariant-loop-stretch
-invariant-loop-stretch l = ShowsSomeTo (zone_of l.source l.zone) l.all l.stretch-index
+abbrev pub invariant-loop-period : goal.invariant-loop-period
+invariant-loop-period l = ShowsSomeTo (the_zone l.zone) l.all l.period-index

@@ -1,21 +1,21 @@
 use Rattle.std.proofs.Common.{refl}
 use Rattle.zic_base.specs.Fault.{fault_at}
 use Rattle.zic_base.specs.declared.fault.Kind.TheVariants as kind
-use Rattle.zic_stretches.specs.Stretch.{zone_of}
+use Rattle.zic_rules.specs.Period.{the_zone}
 use Rattle.zic_rules.proofs.TimelineFaults.{stop_tells, fault_of_letter, fault_of_unnamed}
 use Rattle.zic_rules.proofs.changes.refusal.Goals as goal
 
 pub returns-then-lacks_letter : goal.returns-then-lacks_letter
 returns-then-lacks_letter c =
-    let zone = zone_of c.args.source.now c.args.zone in
-    let fault = fault_at c.place_of-place.result kind.NoLetter in
+    let zone = the_zone c.args.zone in
+    let fault = fault_at c.place-place.result kind.NoLetter in
     stop_tells zone c.at.result fault c.at.ensures
-    (fault_of_letter zone fault c.place_of-place.ensures c.args.all.now c.requires.stretches refl (c.lacks_letter.ensures.lacks c.if-lacks_letter.true))
+    (fault_of_letter zone fault c.place-place.ensures c.args.all.now c.requires.periods refl (c.lacks_letter.ensures.lacks c.if-lacks_letter.true))
 
 pub returns-else-lacks_letter : goal.returns-else-lacks_letter
 returns-else-lacks_letter c =
-    let zone = zone_of c.args.source.now c.args.zone in
-    let fault = fault_at c.place_of-place.result c.args.kind in
+    let zone = the_zone c.args.zone in
+    let fault = fault_at c.place-place.result c.args.kind in
     stop_tells zone c.at-else-lacks_letter.result fault c.at-else-lacks_letter.ensures
-    (fault_of_unnamed zone fault c.place_of-place.ensures c.args.all.now c.requires.stretches c.args.kind refl
+    (fault_of_unnamed zone fault c.place-place.ensures c.args.all.now c.requires.periods c.args.kind refl
     (c.lacks_letter.ensures.has c.if-lacks_letter.false) c.requires.unnamed)

@@ -1,6 +1,6 @@
 use Rattle.std.proofs.Common.{◌≡◌, ◌∙◌, true, slice_index_or}
 use Rattle.std.specs.Prelude.{is_some, is_none}
-use Rattle.zic_stretches.specs.Stretch.{zone_of}
+use Rattle.zic_rules.specs.Period.{the_zone}
 use Rattle.zic_rules.proofs.TailHeld.{offset_within, unnamed_for_ever}
 use Rattle.zic_rules.proofs.TailRules.{number_within, of_set, never_ends, none_is, kept_more, kept_same}
 use Rattle.zic_rules.proofs.tail_rules.tail_rules.Goals as goal
@@ -8,38 +8,38 @@ use Rattle.zic_rules.proofs.tail_rules.tail_rules.Goals.{then-is_none+in-Ok+in_o
 
 pub rule-rule-requires : goal.rule-rule-requires
 rule-rule-requires c =
-    number_within c.args.source.now.rules c.last_line-line.result.now.rules c.rule_numbers-number-items.result.now c.loop-number.number-index
+    number_within c.args.zone.source.now.rules c.last_line-line.result.now.rules c.rule_numbers-number-items.result.now c.loop-number.number-index
     c.rule_numbers-number-items.ensures c.loop-number-test.true
 
 pub tail_rule-requires : goal.tail_rule-requires
 tail_rule-requires c =
-    let zone = zone_of c.args.source.now c.args.zone in
-    let known = c.requires.stretches in
+    let zone = the_zone c.args.zone in
+    let known = c.requires.periods in
     let numbers = c.rule_numbers-number-items.result.now in
     let i = c.loop-number.number-index in
     let line = c.last_line-line.result.now in
     let rule = c.rule-rule.result.now in
     let (number, last) = c.last_line-line.ensures.last in
-    let (name, has_set, member) = of_set c.args.source.now.rules line.rules numbers i rule c.rule_numbers-number-items.ensures c.loop-number-test.true c.rule-rule.ensures.rule in
+    let (name, has_set, member) = of_set c.args.zone.source.now.rules line.rules numbers i rule c.rule_numbers-number-items.ensures c.loop-number-test.true c.rule-rule.ensures.rule in
     offset_within zone known.orderly number line last c.args.all.now.end known.is_end name has_set (slice_index_or numbers i 0) rule member known.in_range
 
 pub refusal-requires-clause-unnamed : goal.refusal-requires-clause-unnamed
 refusal-requires-clause-unnamed c =
-    let zone = zone_of c.args.source.now c.args.zone in
-    let known = c.requires.stretches in
+    let zone = the_zone c.args.zone in
+    let known = c.requires.periods in
     let numbers = c.rule_numbers-number-items.result.now in
     let i = c.loop-number.number-index in
     let line = c.last_line-line.result.now in
     let rule = c.rule-rule.result.now in
     let (number, last) = c.last_line-line.ensures.last in
-    let (name, has_set, member) = of_set c.args.source.now.rules line.rules numbers i rule c.rule_numbers-number-items.ensures c.loop-number-test.true c.rule-rule.ensures.rule in
+    let (name, has_set, member) = of_set c.args.zone.source.now.rules line.rules numbers i rule c.rule_numbers-number-items.ensures c.loop-number-test.true c.rule-rule.ensures.rule in
     let none : is_none rule.last ≡ true = none_is (is_some rule.last) c.is_none.result c.is_none.ensures ∙ c.if-is_none.true in
     unnamed_for_ever zone known.orderly number line last c.args.all.now.end known.is_end name has_set (slice_index_or numbers i 0) rule member
     (never_ends rule none) c.in-Err.kind c.in-Err.ensures.err
 
 pub loop-number-preserved : goal.loop-number-preserved
 loop-number-preserved c =
-    let rules_of = c.args.source.now.rules in
+    let rules_of = c.args.zone.source.now.rules in
     let numbers = c.rule_numbers-number-items.result.now in
     let i = c.loop-number.number-index in
     let line = c.last_line-line.result.now in

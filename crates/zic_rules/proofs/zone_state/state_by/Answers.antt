@@ -1,13 +1,13 @@
 use Rattle.std.proofs.Common.{rules}
-use Rattle.zic_states.specs.Keeping.{kept}
+use Rattle.zic_states.specs.Observance.{kept}
 use Rattle.zic_rules.specs.code.Shown.{IsRefusedBy}
 use Rattle.zic_rules.proofs.zone_state.state_by.Goals as goal
 
 pub returns-in_err-name-clause-err : goal.returns-in_err-name-clause-err
 returns-in_err-name-clause-err c =
     let by : IsRefusedBy c.args.source.now.rules c.args.line.now c.args.rule c.in_err-name.field-0.0 = record {
-      kept = kept c.kept_by-kept.result;
-      is_kept = c.kept_by-kept.ensures;
+      kept = kept c.observance_by-kept.result;
+      is_kept = c.observance_by-kept.ensures;
       offset = _;
       total = search rules;
       refused = c.in_err-name.ensures.err;

@@ -18,7 +18,7 @@ returns-then-instant-occurrence c =
     let until = c.args.until in
     let second = c.nominal_second-second in
     let read : c.instant_by-instant.result ≡ until_by line.offset until (to_z w32 c.loop-occurrence.saved-bits) =
-    c.instant_by-instant.ensures ∙ same_reading until.moment.at.form _ _ _ _ c.requires.line.offset second.ensures.range second.ensures.value
+    c.instant_by-instant.ensures ∙ same_reading until.moment.at.form _ _ _ _ c.requires.line.offset second.ensures.near second.ensures.value
     in
     let fits : FitsSigned w64 (get_or xs k none).instant = search rules in
     let found = (get_or xs k none).instant in
@@ -46,7 +46,7 @@ loop-occurrence-preserved c =
     let second = c.nominal_second-second in
     let rule = c.rule.result.now in
     let read : c.instant_by-instant.result ≡ until_by line.offset until (to_z w32 c.loop-occurrence.saved-bits) =
-    c.instant_by-instant.ensures ∙ same_reading until.moment.at.form _ _ _ _ c.requires.line.offset second.ensures.range second.ensures.value
+    c.instant_by-instant.ensures ∙ same_reading until.moment.at.form _ _ _ _ c.requires.line.offset second.ensures.near second.ensures.value
     in
     let fits : FitsSigned w64 (get_or xs k none).instant = search rules in
     let found = (get_or xs k none).instant in

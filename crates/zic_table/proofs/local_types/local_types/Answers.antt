@@ -10,7 +10,7 @@ use Rattle.zic_base.specs.declared.fault.Kind.TheVariants.{TooManyChars}
 use Rattle.zic_base.specs.declared.state.State.{State}
 use Rattle.zic_table.specs.code.LocalTypes.{HasManyCharacters}
 use Rattle.zic_footer.proofs.Outcomes.{if_refusal}
-use Rattle.zic_table.specs.declared.limit.TheConstants.{MOST_CHARACTERS}
+use Rattle.zic_content.specs.declared.limit.TheConstants.{MAX_CHARACTERS}
 use Rattle.zic_table.proofs.Designated.{known_step, new_step, too_many}
 use Rattle.zic_table.proofs.local_types.local_types.Goals as goal
 use Rattle.zic_table.proofs.local_types.local_types.Goals.{in-Some, in-None+in_ok-place-in-None}
@@ -37,7 +37,7 @@ returns-in_err-place-in-None-clause-err c =
     let many = too_many all k (shown state) (at_place c.args.states.now k nothing (omega arith)) c.loop-state.types.items c.loop-state.names.items c.loop-state.invariant none in
     rw (p.1, p.2)
     (if_refusal {X = ℕ}
-    (λ fault. (fault ≡ fault_at c.args.zone_place TooManyChars) × (MOST_CHARACTERS < length c.loop-state.names.items + (length state.name.now + 1)))
+    (λ fault. (fault ≡ fault_at c.args.zone_place TooManyChars) × (MAX_CHARACTERS < length c.loop-state.names.items + (length state.name.now + 1)))
     (λ fault. (fault ≡ fault_at c.args.zone_place TooManyChars) × HasManyCharacters all)
     (λ fault h. (h.0, many h.1)) (Err c.in_err-place-in-None.field-0.0) c.in_err-place-in-None.ensures.err)
 

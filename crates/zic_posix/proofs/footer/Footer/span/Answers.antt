@@ -1,9 +1,11 @@
-use Rattle.std.proofs.Common.{◌≡◌, refl, ℤ, pos, ◌+ℤ◌, ◌-ℤ◌, ap, ◌∙◌, to_z, of_z, to_z-of_z, w32, w64, FitsSigned, arith, rules}
+use Rattle.std.proofs.Common.{◌≡◌, refl, sym, subst, ℤ, pos, ◌+ℤ◌, ◌-ℤ◌, ap, ◌∙◌, to_z, of_z, to_z-of_z, w32, w64, FitsSigned, arith, rules}
 use Rattle.std.specs.Int.{int_rem_euclid, saturate_signed}
 use Rattle.std.proofs.lemmas.Int.{ints}
 use Rattle.zic_base.specs.State.{shown}
 use Rattle.zic_posix.specs.declared.instants.Instants.{Instants}
-use Rattle.zic_posix.specs.Meaning.{Means}
+use Rattle.zic_posix.specs.Footer.{TzString}
+use Rattle.zic_posix.specs.Instants.{Includes, AreBetween}
+use Rattle.zic_posix.specs.Meaning.{standard_state, HasEdgeAt, Means, MeansThroughout}
 use Rattle.zic_posix.specs.code.Span.{IsNear}
 use Rattle.zic_posix.specs.code.State.{IsInCycle}
 use Rattle.zic_posix.proofs.Cycles.{by_daylight, by_standard}
@@ -50,12 +52,13 @@ overflow_sub-phase-2 c =
 
 pub returns : goal.returns
 returns c =
-    let f = c.args.self.now in
-    let dst = c.in-Some.dst.now in
+    let g = c.self.inside in
+    let f : TzString = record { std = g.std; offset = g.offset; dst = g.dst } in
+    let dst = c.in-Some.dst in
     let t = c.args.t in
     let r = c.rem_euclid-in_cycle.result in
     let phase = c.phase_at-phase.result in
-    let offset_fits : FitsSigned w32 c.offset.result = search rules in
+    let offset_fits : FitsSigned w32 g.offset = search rules in
     let r_fits : FitsSigned w64 r = search rules in
     let from_fits : FitsSigned w64 phase.from = search rules in
     let until_fits : FitsSigned w64 phase.until = search rules in
@@ -63,16 +66,19 @@ returns c =
     let last_fits : FitsSigned w64 c.saturating_add.result = search rules in
     let here : IsInCycle r = (omega (arith, ints, c.rem_euclid-in_cycle.ensures.lower_bound), omega (arith, ints, c.rem_euclid-in_cycle.ensures.upper_bound)) in
     let remainder : r ≡ in_cycle t = c.rem_euclid-in_cycle.ensures.value ∙ ap in_cycle (to_z-of_z c.ranges.t) in
-    let is = rw (to_z-of_z offset_fits, to_z-of_z r_fits, c.offset.ensures.value) at c.phase_at-phase.ensures in
+    let is = rw (to_z-of_z offset_fits, to_z-of_z r_fits) at c.phase_at-phase.ensures in
     let first = c.saturating_sub.ensures ∙ first_kept t r phase.from c.ranges.t r_fits from_fits here is.from_near in
     let last = c.saturating_add.ensures ∙ last_kept t r phase.until c.ranges.t r_fits until_fits here is.until_near in
     let instants : Instants = record { first = c.saturating_sub.result; last = c.saturating_add.result } in
-    let round = asked f dst t r phase instants c.in-Some.ensures c.ranges.t remainder is first last in
-    let edges = between_edges f dst t r phase instants c.in-Some.ensures c.ranges.t remainder is first last in
+    let round = asked f dst t r phase instants (sym c.in-Some.is) c.ranges.t remainder is first last in
+    let edges = between_edges f dst t r phase instants (sym c.in-Some.is) c.ranges.t remainder is first last in
     let state = shown c.if-phase.state in
     let in_force = rw remainder at is.in_force in
     let means : Means f t state = elim c.if-phase.branch [
-      | then-phase w ↦ by_daylight f dst t state c.in-Some.ensures (rw w.if-phase.true at in_force) (rw w.state-is w.daylight_state-state.ensures)
-      | else-phase w ↦ by_standard f dst t state c.in-Some.ensures (rw w.if-phase.false at in_force) (rw w.state-is w.standard_state-state.ensures)
+      | then-phase w ↦ by_daylight f dst t state (sym c.in-Some.is) (rw w.if-phase.true at in_force) (rw w.state-is w.daylight_state-state.ensures)
+      | else-phase w ↦ by_standard f dst t state (sym c.in-Some.is) (rw w.if-phase.false at in_force)
+          (rw w.state-is (w.standard_state-state.ensures ∙ ap standard_state (sym c.self.view_is)))
     ] in
-    rw (to_z-of_z first_fits, to_z-of_z last_fits) (record { asked = round; means = means_throughout f instants edges t state round means; edges = edges })
+    let all = (λ (said : TzString). Includes instants t × MeansThroughout said instants state × AreBetween (HasEdgeAt said) instants) in
+    let said = subst all c.self.view_is (round, means_throughout f instants edges t state round means, edges) in
+    rw (to_z-of_z first_fits, to_z-of_z last_fits) (record { asked = said.0; means = said.1; edges = said.2 })

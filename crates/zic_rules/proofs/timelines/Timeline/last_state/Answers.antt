@@ -3,7 +3,7 @@ use Rattle.std.specs.Prelude.{slice_get, Some, None}
 use Rattle.zic_states.specs.End.{IsEnd}
 use Rattle.zic_states.specs.Zone.{Zone, Shows}
 use Rattle.zic_states.proofs.Ends.{one_end}
-use Rattle.zic_stretches.specs.Stretch.{zone_of}
+use Rattle.zic_rules.specs.Period.{the_zone}
 use Rattle.zic_rules.specs.declared.changes.DatedState.{DatedState}
 use Rattle.zic_rules.specs.code.Shown.{shown_by}
 use Rattle.zic_rules.proofs.TimelineKept.{after_last, without_changes}
@@ -12,7 +12,7 @@ use Rattle.zic_rules.proofs.timelines.Timeline.last_state.Goals as goal
 pub returns-in-Some : goal.returns-in-Some
 returns-in-Some c end is_end =
     let t = c.self.inside in
-    let zone = zone_of t.source.now t.zone in
+    let zone = the_zone t.zone in
     let kept = c.self.invariant.before_end in
     let x = c.in-Some.change.now in
     let at : slice_get t.changes.items (length t.changes.items - 1) ≡ Some x =
@@ -26,7 +26,7 @@ returns-in-Some c end is_end =
 pub returns-in-None : goal.returns-in-None
 returns-in-None c end is_end =
     let t = c.self.inside in
-    let zone = zone_of t.source.now t.zone in
+    let zone = the_zone t.zone in
     let kept = c.self.invariant.before_end in
     let none : slice_get t.changes.items (length t.changes.items - 1) ≡ None =
     subst (λ (xs : List DatedState). slice_get xs (length xs - 1) ≡ None) c.deref.ensures.value (sym c.in-None.ensures.value)

@@ -5,7 +5,7 @@ use Rattle.std.proofs.lemmas.Option.{slice_get_read}
 use Rattle.zic_states.specs.End.{IsEnd}
 use Rattle.zic_base.specs.State.{Shown}
 use Rattle.zic_states.specs.Zone.{Zone, Shows}
-use Rattle.zic_stretches.specs.Stretch.{zone_of}
+use Rattle.zic_rules.specs.Period.{the_zone}
 use Rattle.zic_rules.specs.code.Shown.{IsTimeline, shown_by, dated}
 use Rattle.zic_rules.specs.declared.changes.DatedState.{DatedState}
 use Rattle.zic_rules.proofs.TimelineKept.{are_changes, parted_dated, state_first, state_nth}
@@ -14,7 +14,7 @@ use Rattle.zic_rules.proofs.timelines.Timeline.state.Goals as goal
 pub returns-then-count-eq0 : goal.returns-then-count-eq0
 returns-then-count-eq0 c =
     let t = c.self.inside in
-    let zone = zone_of t.source.now t.zone in
+    let zone = the_zone t.zone in
     let first = shown_by t.first in
     let ys = c.deref.result.now in
     let kept = subst (λ (zs : List DatedState). IsTimeline zone t.end first (map dated zs)) (sym c.deref.ensures.value) c.self.invariant.before_end in
@@ -27,7 +27,7 @@ returns-then-count-eq0 c =
 pub returns : goal.returns
 returns c =
     let t = c.self.inside in
-    let zone = zone_of t.source.now t.zone in
+    let zone = the_zone t.zone in
     let first = shown_by t.first in
     let xs = t.changes.items in
     let ys = c.deref.result.now in

@@ -1,7 +1,7 @@
 use Rattle.std.proofs.Common.{length, sym, ap, subst, arith}
 use Rattle.zic_source.specs.Source.{SourceLines, zone_lines_of}
 use Rattle.zic_source.specs.code.Lines.{source_lines}
-use Rattle.zic_source.specs.code.Names.{IndexesNames}
+use Rattle.zic_source.specs.code.Owners.{IndexesNames}
 use Rattle.zic_source.specs.code.Sets.{IndexesSets}
 use Rattle.zic_source.proofs.lookups.Named.{continuation_kept}
 use Rattle.zic_source.proofs.events.Passes.{continuation_counted}

@@ -2,9 +2,9 @@ use Rattle.std.proofs.Common.{◌≡◌, ℕ, false, cond, List, Some, None, len
 use Rattle.std.specs.Prelude.{bytes_eq}
 use Rattle.std.proofs.lemmas.Result.{err_from_is_err_and}
 use Rattle.zic_lines.specs.declared.link.Link.{Link}
-use Rattle.zic_source.specs.declared.names.Named.TheVariants as named
+use Rattle.zic_source.specs.declared.owners.Owner.TheVariants as named
 use Rattle.zic_source.specs.code.Lines.{source_lines}
-use Rattle.zic_source.specs.code.Names.{who, IndexesNames}
+use Rattle.zic_source.specs.code.Owners.{who, IndexesNames}
 use Rattle.zic_source.proofs.lookups.Named.{looked_up, nobody_found, link_kept}
 use Rattle.zic_source.proofs.events.Passes.{link_passes}
 use Rattle.zic_source.proofs.reader.Reader.add_link.Goals as goal

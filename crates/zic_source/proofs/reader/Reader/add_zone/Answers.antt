@@ -2,10 +2,10 @@ use Rattle.std.proofs.Common.{◌≡◌, ◌∷◌, [], ◌++◌, ℕ, false, co
 use Rattle.std.specs.Prelude.{flat_map, bytes_eq}
 use Rattle.std.proofs.lemmas.Result.{err_from_is_err_and}
 use Rattle.zic_lines.specs.declared.zone_line.ZoneLine.{ZoneLine}
-use Rattle.zic_source.specs.declared.names.Named.TheVariants as named
+use Rattle.zic_source.specs.declared.owners.Owner.TheVariants as named
 use Rattle.zic_source.specs.Source.{ZoneLines, lines_of_zone}
 use Rattle.zic_source.specs.code.Lines.{source_lines}
-use Rattle.zic_source.specs.code.Names.{who, IndexesNames}
+use Rattle.zic_source.specs.code.Owners.{who, IndexesNames}
 use Rattle.zic_source.proofs.lookups.Named.{looked_up, nobody_found, zone_kept}
 use Rattle.zic_source.proofs.events.Passes.{zone_passes, zone_counted}
 use Rattle.zic_source.proofs.reader.Reader.add_zone.Goals as goal

@@ -2,7 +2,7 @@ use Rattle.std.proofs.Common.{◌<◌, length, ap, subst, refl, arith}
 use Rattle.std.proofs.lemmas.Option.{slice_get_read}
 use Rattle.zic_source.specs.Source.{SourceLines, lines_of_zone}
 use Rattle.zic_source.specs.Sound.{IsSoundZone, IsSoundLine}
-use Rattle.zic_source.proofs.Elements.{all_got}
+use Rattle.zic_base.proofs.Elements.{all_got}
 use Rattle.zic_source.proofs.source.Source.line.Goals as goal
 
 pub returns-clause-sound : goal.returns-clause-sound

@@ -3,7 +3,7 @@ use Rattle.std.proofs.lemmas.Option.{slice_get_read}
 use Rattle.zic_source.specs.Source.{SourceLines}
 use Rattle.zic_source.specs.Sound.{IsSoundLink}
 use Rattle.zic_source.specs.code.Lines.{source_lines}
-use Rattle.zic_source.proofs.Elements.{all_got}
+use Rattle.zic_base.proofs.Elements.{all_got}
 use Rattle.zic_source.proofs.source.Source.link.Goals as goal
 
 pub returns-clause-sound : goal.returns-clause-sound

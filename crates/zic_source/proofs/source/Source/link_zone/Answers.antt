@@ -2,7 +2,7 @@ use Rattle.std.proofs.Common.{◌<◌, length, ap, refl, arith}
 use Rattle.std.proofs.lemmas.Option.{slice_get_read}
 use Rattle.zic_source.specs.Source.{SourceLines}
 use Rattle.zic_source.specs.code.Lines.{source_lines}
-use Rattle.zic_source.proofs.Elements.{got}
+use Rattle.zic_base.proofs.Elements.{got}
 use Rattle.zic_source.proofs.links.Ways.{ends_within}
 use Rattle.zic_source.proofs.source.Source.link_zone.Goals as goal
 

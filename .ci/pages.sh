@@ -1,0 +1,257 @@
+#!/usr/bin/env bash
+# Compares the pages for users with the program:
+# - runs each command in the `console` blocks of README.md, docs/USING.md and docs/ZIC.md as it is
+#   printed, and compares the output with the lines below it. A block after a comment
+#   `<!-- needs: COMMAND.. -->` is left out if one of the commands is missing;
+# - tries each example of docs/errors.txt, and compares docs/ERRORS.md with what is made of it;
+# - looks for each command and option of docs/help in the manual page and in the completions, and
+#   tries the completions in bash;
+# - checks links, the length of README.md, and the names in docs/PROOF.md.
+set -euo pipefail
+cd "$(dirname "${BASH_SOURCE[0]}")/.."
+. .ci/release.sh
+build zic_main check -
+unset -f install
+repository=$PWD
+work=${work:?}
+log=$work/differences
+: >"$log"
+export LC_ALL=C TZ=UTC0
+page='' name=''
+
+differ() {
+    echo "$1" >&2
+    echo "${1//$'\n'/ }" >>"$log"
+}
+
+# Enters a home directory of its own for what runs next, and installs the program there.
+enter_home() {
+    export HOME=$work/home/$1
+    export PATH=$HOME/.local/bin:$PATH
+    install -D "$repository/crates/zic_main/out/zic_main" "$HOME/.local/bin/pzic"
+    printed=$HOME/printed
+    mkdir -p "$HOME/run" && cd "$HOME/run"
+}
+
+has_commands() {
+    local word
+    for word in "$@"; do command -v "$word" >"$work/found" || return 1; done
+}
+
+# Starts a PostgreSQL server with data of its own, for the blocks that need `psql`.
+start_postgres() {
+    local bin user
+    bin=$(pg_config --bindir) && [ -x "$bin/initdb" ] || return 1
+    server=$work/server
+    mkdir -p "$server" && chmod 777 "$server"
+    run=()
+    if [ "$(id -u)" = 0 ]; then
+        user=$(id -u postgres) || return 1
+        run=(setpriv --reuid "$user" --regid "$user" --clear-groups)
+        chmod 711 "$work" "$work/home" "$HOME" "$HOME"/.local "$HOME"/.local/bin
+    fi
+    postgres=("${run[@]}" "$bin/pg_ctl" -D "$server/data" -w)
+    {
+        "${run[@]}" "$bin/initdb" -D "$server/data" -U postgres -A trust --no-sync &&
+            "${postgres[@]}" -l "$server/log" -o "-k $server -h '' -F" start
+    } >"$work/postgres.log" 2>&1 || return 1
+    stop_postgres=("${postgres[@]}" -m immediate stop)
+    export PGHOST=$server PGUSER=postgres PGDATABASE=postgres
+}
+
+# ------------------------------------------------------------------ commands as they are printed
+
+# Runs the current command, and compares its output with the wanted one.
+answer() {
+    [ "$command" ] || return 0
+    (exit "$status")
+    eval "$command" >"$printed" 2>&1 </dev/null
+    status=$?
+    commands=$((commands + 1))
+    printf '%s' "$wanted" | cmp -s "$printed" - ||
+        differ "$page: '$command' prints '$(head -c 300 "$printed")', and not '$(printf '%s' "$wanted" | head -c 300)'"
+    command='' wanted=''
+}
+
+# Tells whether a block that needs these commands can be run.
+is_wanted() {
+    has_commands "$@" || return 1
+    if [[ " $* " == *' psql '* ]] && [ ! "${PGHOST:-}" ]; then start_postgres || return 1; fi
+}
+
+# Makes files named as in IANA's releases from the system's release.
+make_tzdata() {
+    mkdir tzdata
+    touch tzdata/{africa,antarctica,asia,australasia,europe,northamerica,southamerica}
+    touch tzdata/{etcetera,factory,backward}
+    grep '^L' "$release" >tzdata/backward
+    grep -v '^[L#]' "$release" >tzdata/africa
+}
+
+# run_page PAGE: runs the blocks of a page, in a folder that has what a checkout installs.
+run_page() (
+    set +eu
+    page=$1 state=text needs='' command='' wanted='' status=0 commands=0 left_out=0 stop_postgres=()
+    trap '[ "${#stop_postgres[@]}" = 0 ] || "${stop_postgres[@]}" >>"$work/postgres.log" 2>&1' EXIT
+    enter_home "${page##*/}" || exit
+    ln -s "$repository"/{crates,man,completions,docs,witness} .
+    ln -s crates/zic_main/out/zic_main pzic
+    make_tzdata
+    while IFS= read -r line || [ "$line" ]; do
+        case $state:$line in
+        'text:<!-- needs: '*' -->') needs=${line#<!-- needs: } needs=${needs% -->} ;;
+        'text:```console')
+            # shellcheck disable=SC2086
+            if is_wanted $needs; then state=block; else state=other left_out=$((left_out + 1)); fi
+            ;;
+        'text:```'*) state=other ;;
+        'block:```')
+            answer
+            state=text needs=
+            ;;
+        'other:```') state=text needs= ;;
+        block:'$ '*)
+            answer
+            command=${line#'$ '}
+            ;;
+        block:'> '*)
+            # a continued command, or a line of output that begins so
+            if [ "$wanted" ]; then wanted+=$line$'\n'; else command+=$'\n'${line#'> '}; fi
+            ;;
+        block:*) wanted+=$line$'\n' ;;
+        esac
+    done <"$repository/$page"
+    echo "pages: $commands commands of $page are run, $left_out blocks are left out"
+)
+
+# ------------------------------------------------------------------ examples of errors
+
+# Prints the commands of an example; for a source, writes it and prints the command to check it.
+commands_of() {
+    case $1 in
+    '$ '*) sed 's/^[$>] //' <<<"$1" ;;
+    *)
+        printf '%s\n' "$1" >example.zi
+        echo 'pzic check example.zi'
+        ;;
+    esac
+}
+
+# Tries the current entry.
+try_entry() {
+    [ ! "$setup" ] || eval "$(commands_of "$setup")" || differ "the commands for $name fail"
+    if [ "$wrong" ]; then
+        eval "$(commands_of "$wrong")" >"$printed" 2>&1
+        [ "$(tail -n 1 "$printed")" = "$prints" ] ||
+            differ "$name: the wrong example prints '$(tail -n 1 "$printed")', and not '$prints'"
+        [[ $prints = *"${name% PATH}"* || $name = usage ]] || differ "$name isn't in '$prints'"
+    fi
+    if [ "$right" ]; then
+        eval "$(commands_of "$right")" >"$printed" 2>"$printed.err" || echo "status $?" >>"$printed.err"
+        [ ! -s "$printed.err" ] ||
+            differ "$name: the right example is refused by '$(cat "$printed.err")'"
+    fi
+    examples=$((examples + 1)) setup='' wrong='' prints='' right=''
+}
+
+try_errors() (
+    set +eu
+    word='' name='' setup='' wrong='' prints='' right='' examples=0
+    enter_home errors || exit
+    while IFS= read -r line; do
+        case $line in
+        ';'* | '') ;;
+        '# '* | '## '*)
+            try_entry
+            name=${line#'#'} name=${name#'#'} name=${name#' '} word=
+            ;;
+        '  '*)
+            case $word in
+            setup | wrong | prints | right) printf -v "$word" '%s' "${!word}${!word:+$'\n'}${line#  }" ;;
+            esac
+            ;;
+        *:) word=${line%:} ;;
+        *) differ "errors.txt: $line" ;;
+        esac
+    done <"$repository/docs/errors.txt"
+    try_entry
+    echo "pages: the examples of $examples entries of errors.txt are tried"
+)
+
+# All at the same time, since USING.md waits for a database server.
+parts=()
+for page in README.md docs/USING.md docs/ZIC.md; do
+    run_page "$page" &
+    parts+=($!)
+done
+try_errors &
+for part in "${parts[@]}" $!; do wait "$part" || differ 'a page or the examples were not run to their end'; done
+cmp -s <(docs/make-errors.sh) docs/ERRORS.md ||
+    differ 'docs/ERRORS.md is not what docs/make-errors.sh makes'
+awk 'length > 79 { print; bad = 1 } END { exit bad }' docs/errors.txt >&2 ||
+    differ 'docs/errors.txt has lines of more than 79 characters'
+# Each name of an error in the sources of the program has an entry.
+kinds=(crates/zic_base/src/fault.rt crates/zic_plan/src/stop.rt crates/zic_tzif/src/reason.rt)
+for kind in $(sed -n 's/^    \([A-Z][A-Za-z]*\) = [0-9]*,$/\1/p' "${kinds[@]}"); do
+    grep -qx "## $kind" docs/errors.txt || differ "docs/errors.txt doesn't have $kind"
+done
+
+# ------------------------------------------------------------------ manual page and completions
+
+options_of() {
+    grep -oE -- '--[a-z][a-z-]*' "docs/help/$1.txt" | sort -u
+}
+
+sed 's/\\-/-/g' man/pzic.1 >"$work/manual"
+for page in docs/help/*.txt; do
+    name=$(basename "$page" .txt)
+    for file in "$work/manual" completions/pzic.bash completions/_pzic; do
+        [ "$name" = pzic ] || grep -qw -- "$name" "$file" ||
+            differ "${file##*/} doesn't have the command $name"
+        for option in $(options_of "$name"); do
+            grep -qE -- "$option([^a-z-]|$)" "$file" ||
+                differ "${file##*/} doesn't have $option of $name"
+        done
+    done
+done
+if has_commands man; then
+    man --warnings -l man/pzic.1 >"$work/page" 2>"$work/warnings" ||
+        differ 'man can not show man/pzic.1'
+    [ ! -s "$work/warnings" ] || differ "man/pzic.1: $(head -n 3 "$work/warnings")"
+fi
+# Prints the completions of bash for these words.
+completed() {
+    bash -c '
+        . completions/pzic.bash
+        COMP_WORDS=("$@") COMP_CWORD=$(($# - 1))
+        _pzic
+        printf "%s\n" "${COMPREPLY[@]}"' bash "$@" | sort
+}
+for name in check build convert show; do
+    words=$(completed pzic "$name" --)
+    [ "$words" = "$(options_of "$name")" ] || differ "bash completes 'pzic $name --' by '$words'"
+done
+words=$(completed pzic '')
+[ "$words" = $'build\ncheck\nconvert\nshow' ] || differ "bash completes 'pzic' by '$words'"
+! has_commands zsh || zsh -n completions/_pzic || differ 'zsh can not read completions/_pzic'
+
+# ------------------------------------------------------------------ the pages themselves
+
+[ "$(wc -l <README.md)" -le 180 ] || differ "README.md has $(wc -l <README.md) lines"
+for page in README.md docs/*.md; do
+    for link in $(grep -oE '\]\([^)#: ]+' "$page" | cut -c 3-); do
+        [ -e "$(dirname "$page")/$link" ] || differ "$page links to $link, which isn't there"
+    done
+done
+# PROOF.md names only definitions that exist, and tells of every crate.
+find crates/*/specs -name '*.antt' -exec cat {} + | grep -oE '[A-Z][A-Za-z]+' | sort -u >"$work/definitions"
+verbs='Is|Are|Writes|Converts|Answers|Reads|Goes|Gives|Shows|Means|Spells|Counts|Takes|Yields|Columns|Reports'
+grep -oE "\`($verbs)[A-Za-z]*\`" docs/PROOF.md | tr -d '`' | sort -u |
+    comm -23 - "$work/definitions" >"$work/unknown"
+[ ! -s "$work/unknown" ] || differ "docs/PROOF.md names what no definition is: $(tr '\n' ' ' <"$work/unknown")"
+for crate in $(sed -n 's/^\(zic_[a-z_]*\).*:.*/\1/p' crates.txt); do
+    grep -q "^\*\*$crate\*\*" docs/PROOF.md || differ "docs/PROOF.md tells nothing of $crate"
+done
+
+echo "pages: $(wc -l <"$log") differences"
+[ ! -s "$log" ]

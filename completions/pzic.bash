@@ -1,0 +1,34 @@
+# Completes the command line of pzic in bash. Source it, or install it as
+# ~/.local/share/bash-completion/completions/pzic.
+_pzic() {
+    local current=${COMP_WORDS[COMP_CWORD]} previous=${COMP_WORDS[COMP_CWORD - 1]}
+    local options='--help'
+    COMPREPLY=()
+    if [ "$COMP_CWORD" -eq 1 ]; then
+        # shellcheck disable=SC2207
+        COMPREPLY=($(compgen -W "$([[ $current = -* ]] && echo --help --version || echo check build convert show)" -- "$current"))
+        return
+    fi
+    case ${COMP_WORDS[1]} in
+    check | build) options='--workers --zone-piece --help' ;;
+    convert) options='--workers --zone-piece --row-piece --max-rows --max-bytes --progress --help' ;;
+    show) ;;
+    *) return ;;
+    esac
+    case $previous in
+    --workers)
+        # shellcheck disable=SC2207
+        COMPREPLY=($(compgen -W '1 2 4 8 16 32 64' -- "$current"))
+        return
+        ;;
+    --zone-piece | --row-piece | --max-rows | --max-bytes) return ;;
+    esac
+    if [[ $current = -* ]]; then
+        # shellcheck disable=SC2207
+        COMPREPLY=($(compgen -W "$options" -- "$current"))
+    else
+        # shellcheck disable=SC2207
+        COMPREPLY=($(compgen -f -- "$current"))
+    fi
+}
+complete -o filenames -F _pzic pzic

@@ -1,0 +1,54 @@
+//! Sums `civil` and `weekday` over ten million days and prints the sums, for `bench/civil.sh` to
+//! time. The word `civil` or `weekday` asks for one of the two.
+
+use std::rt::Env;
+use std::{env, io};
+use zic_calendar::{civil, weekday};
+
+/// The day number of 0001-01-01.
+const FIRST_DAY: i64 = -719_162;
+
+/// The days from 0001-01-01 to 9999-12-31.
+const DAYS: u32 = 3_652_059;
+
+const CALLS: u32 = 10_000_000;
+
+/// Prints the sums that the word asks for.
+pub fn run<R: Env + Print + AllocGlobal>(rt: &R) -> io::Result<()> {
+    let word = env::args(rt)?.nth(2);
+    let word = word.as_ref().map(|w| w.as_str());
+    if word != Some("weekday") {
+        let total = civil_sum();
+        println!(rt; "civil {total}")?;
+    }
+    if word != Some("civil") {
+        let total = weekday_sum();
+        println!(rt; "weekday {total}")?;
+    }
+    Ok(())
+}
+
+fn civil_sum() -> u64 {
+    let mut total = 0u64;
+    for call in 0..CALLS {
+        total = total.wrapping_add(digits(call));
+    }
+    total
+}
+
+fn weekday_sum() -> u64 {
+    let mut total = 0u64;
+    for call in 0..CALLS {
+        total = total.wrapping_add(weekday(FIRST_DAY + (call % DAYS) as i64) as u64);
+    }
+    total
+}
+
+/// Returns the digits of the date of one day, as YYYYMMDD, plus those of one time of day, as
+/// HHMMSS.
+fn digits(call: u32) -> u64 {
+    let civil = civil(FIRST_DAY + (call % DAYS) as i64, call % 86_400);
+    let date = civil.year as u64 * 10_000 + civil.month as u64 * 100 + civil.day as u64;
+    let time = civil.hour as u64 * 10_000 + civil.minute as u64 * 100 + civil.second as u64;
+    date + time
+}

@@ -1,0 +1,107 @@
+//! Reads and writes the files of the source text of standard input, for `bench/files.sh` to time:
+//! `read` reads all files and counts the octets of their footers, and `write` writes the files of
+//! all zones and counts their octets. A number after the word says how many times, once if there
+//! is none. Without a word both are done.
+
+ghost use Rattle.std.specs.Prelude.{◌<◌, length};
+
+use std::alloc::{AllocError, Global};
+use std::env;
+use std::io::{self, ErrorKind, Read};
+use std::rt::Env;
+use zic_bulk::{Files, compile};
+use zic_footer::make;
+use zic_rules::timeline;
+use zic_source::{Source, Stop, read_source};
+use zic_table::{Table, table};
+use zic_tzif::{read, write};
+
+/// Prints the bytes that the words ask for.
+pub fn run<R: Env + Input + Print + AllocGlobal>(rt: &R) -> io::Result<()> {
+    let alloc = rt.alloc();
+    let mut words = env::args(rt)?.skip(2);
+    let word = words.next();
+    let word = word.as_ref().map(|w| w.as_str());
+    let times = match words.next() {
+        Some(times) => times.parse::<u32>().unwrap_or(1),
+        None => 1,
+    };
+    let mut text = Vec::new(alloc);
+    rt.reader().read_to_end(&mut text)?;
+    let texts = [text];
+    let Ok(source) = read_source(alloc, &texts) else {
+        return Err(io::Error::from(ErrorKind::InvalidData));
+    };
+    if word != Some("write") {
+        let Ok(octets) = octets_read(alloc, &source, times) else {
+            return Err(io::Error::from(ErrorKind::InvalidData));
+        };
+        println!(rt; "read {octets}")?;
+    }
+    if word != Some("read") {
+        let Ok(octets) = octets_written(alloc, &source, times) else {
+            return Err(io::Error::from(ErrorKind::InvalidData));
+        };
+        println!(rt; "written {octets}")?;
+    }
+    Ok(())
+}
+
+/// Returns the bytes of the footers of all files, which are read this number of times.
+fn octets_read(alloc: Global, source: &Source, times: u32) -> Result<usize, Stop> {
+    let files = compile(alloc, source)?;
+    let mut octets = 0usize;
+    for _ in 0..times {
+        octets = octets.saturating_add(read_all(alloc, &files)?);
+    }
+    Ok(octets)
+}
+
+fn read_all(alloc: Global, files: &Files) -> Result<usize, AllocError> {
+    let mut octets = 0usize;
+    for i in 0..files.len() {
+        let Ok(zone) = read(alloc, files.bytes(i)) else {
+            return Err(AllocError);
+        };
+        octets = octets.saturating_add(zone.footer_text().len());
+    }
+    Ok(octets)
+}
+
+/// Returns the bytes of the files of all zones, which are written this number of times.
+fn octets_written(alloc: Global, source: &Source, times: u32) -> Result<usize, Stop> {
+    let tables = tables_of(alloc, source)?;
+    let mut octets = 0usize;
+    for _ in 0..times {
+        octets = octets.saturating_add(write_all(alloc, &tables)?);
+    }
+    Ok(octets)
+}
+
+fn write_all(alloc: Global, tables: &[Table]) -> Result<usize, AllocError> {
+    let mut octets = 0usize;
+    for table in tables {
+        octets = octets.saturating_add(write(alloc, table)?.len());
+    }
+    Ok(octets)
+}
+
+/// Returns the tables of all zones.
+fn tables_of(alloc: Global, source: &Source) -> Result<Vec<Table>, Stop> {
+    let mut tables = Vec::new(alloc);
+    for zone in 0..source.zones() {
+        tables.push(table_of(alloc, source, zone)?)?;
+    }
+    Ok(tables)
+}
+
+fn table_of(alloc: Global, source: &Source, zone: usize) -> Result<Table, Stop>
+    requires { zone < length source.now.zones }
+{
+    // `zones` also tells that the source is sound.
+    prove!(zone < source.zones());
+    let place = source.line(zone, 0).place;
+    let states = timeline(alloc, source, zone)?;
+    let footer = make(alloc, place, &states)?;
+    table(alloc, place, &states, &footer)
+}

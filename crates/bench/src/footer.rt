@@ -1,0 +1,126 @@
+//! Sums what a footer shows over ten million instants and prints the sums, for `bench/footer.sh`
+//! to time: near, over ten years round 2050, and far, over all instants; and the same by spans:
+//! kept, near, where a new one is asked for only past the last, and spans, far, where one is asked
+//! for at each instant. The word `near`, `far`, `kept` or `spans` asks for one of the four.
+
+ghost use Rattle.std.specs.Int.{IsInRange};
+ghost use Rattle.zic_posix.specs.Grammar.{IsEdge};
+
+use std::alloc::{AllocError, Global};
+use std::rt::Env;
+use std::{env, io};
+use zic_base::State;
+use zic_posix::{Abbr, DayRule, Dst, Edge, Footer};
+
+/// 2045-01-01 00:00 UT.
+const FIRST_NEAR: i64 = 2_366_841_600;
+
+/// Ten million of these are ten years.
+const NEAR_STEP: i64 = 31;
+
+/// Ten million of these wrap round all instants once.
+const FAR_STEP: i64 = 1_844_674_407_371;
+
+const CALLS: u32 = 10_000_000;
+
+/// Prints the sums that the word asks for.
+pub fn run<R: Env + Print + AllocGlobal>(rt: &R) -> io::Result<()> {
+    let word = env::args(rt)?.nth(2);
+    let word = word.as_ref().map(|w| w.as_str());
+    let footer = eastern(rt.alloc())?;
+    if word.unwrap_or("near") == "near" {
+        let total = near_sum(&footer);
+        println!(rt; "near {total}")?;
+    }
+    if word.unwrap_or("far") == "far" {
+        let total = far_sum(&footer);
+        println!(rt; "far {total}")?;
+    }
+    if word.unwrap_or("kept") == "kept" {
+        let total = kept_sum(&footer);
+        println!(rt; "kept {total}")?;
+    }
+    if word.unwrap_or("spans") == "spans" {
+        let total = spans_sum(&footer);
+        println!(rt; "spans {total}")?;
+    }
+    Ok(())
+}
+
+/// Returns the footer `EST5EDT,M3.2.0,M11.1.0`.
+fn eastern(alloc: Global) -> Result<Footer, AllocError> {
+    let dst = Dst {
+        name: Abbr::new(alloc, b"EDT")?,
+        offset: -14_400,
+        start: sunday(3, 2),
+        stop: sunday(11, 1),
+    };
+    Ok(Footer {
+        std: Abbr::new(alloc, b"EST")?,
+        offset: -18_000,
+        dst: Some(dst),
+    })
+}
+
+/// Returns an edge at 02:00 on the Sunday of a week of a month.
+fn sunday(month: u8, week: u8) -> Edge
+    requires month { IsInRange 1 12 month }
+    requires week { IsInRange 1 5 week }
+    ensures { IsEdge result }
+{
+    Edge {
+        day: DayRule::M {
+            month,
+            week,
+            weekday: 0,
+        },
+        time: 7200,
+    }
+}
+
+fn near_sum(footer: &Footer) -> i64 {
+    let mut total = 0i64;
+    for call in 0..CALLS {
+        let state = footer.state(FIRST_NEAR + NEAR_STEP * call as i64);
+        total = total.wrapping_add(number(state));
+    }
+    total
+}
+
+fn far_sum(footer: &Footer) -> i64 {
+    let mut total = 0i64;
+    for call in 0..CALLS {
+        let state = footer.state(FAR_STEP.wrapping_mul(call as i64));
+        total = total.wrapping_add(number(state));
+    }
+    total
+}
+
+fn kept_sum(footer: &Footer) -> i64 {
+    let mut total = 0i64;
+    let mut span = footer.span(FIRST_NEAR);
+    for call in 0..CALLS {
+        let t = FIRST_NEAR + NEAR_STEP * call as i64;
+        if !span.instants.contains(t) {
+            span = footer.span(t);
+        }
+        total = total.wrapping_add(number(span.state));
+    }
+    total
+}
+
+fn spans_sum(footer: &Footer) -> i64 {
+    let mut total = 0i64;
+    for call in 0..CALLS {
+        let span = footer.span(FAR_STEP.wrapping_mul(call as i64));
+        let width = span.instants.last.wrapping_sub(span.instants.first);
+        total = total.wrapping_add(number(span.state)).wrapping_add(width);
+    }
+    total
+}
+
+/// Returns what the footer shows, as one number.
+fn number(state: State<'_>) -> i64 {
+    let letter = state.name.first().copied().unwrap_or(0);
+    state.offset as i64 + letter as i64 + state.daylight as i64
+}

@@ -1,0 +1,76 @@
+//! Writes ten million rows and reads ten million instants, and prints octets and sums, for
+//! `bench/rows.sh` to time. The word `near` asks for rows a second apart, whose date mostly stays,
+//! `far` for rows days apart, and `read` for instants.
+
+ghost use Rattle.zic_rows.specs.Instant.{IsRowInstant};
+
+use std::alloc::{AllocError, Global};
+use std::rt::Env;
+use std::{env, io};
+use zic_base::State;
+use zic_rows::{RowWriter, parse_instant};
+
+/// 2001-09-09 01:46:40 UT, the first instant of ten digits.
+const FIRST: i64 = 1_000_000_000;
+
+/// A day and some seconds.
+const FAR_STEP: u32 = 86_500;
+
+const CALLS: u32 = 10_000_000;
+
+/// The number of bytes of text that are kept before they are dropped.
+const MOST: usize = 60_000;
+
+/// Prints the numbers that the word asks for.
+pub fn run<R: Env + Print + AllocGlobal>(rt: &R) -> io::Result<()> {
+    let word = env::args(rt)?.nth(2);
+    let word = word.as_ref().map(|w| w.as_str());
+    if word.is_none() || word == Some("near") {
+        let total = octets(rt.alloc(), 1)?;
+        println!(rt; "near {total}")?;
+    }
+    if word.is_none() || word == Some("far") {
+        let total = octets(rt.alloc(), FAR_STEP)?;
+        println!(rt; "far {total}")?;
+    }
+    if word.is_none() || word == Some("read") {
+        let total = read_sum();
+        println!(rt; "read {total}")?;
+    }
+    Ok(())
+}
+
+/// Returns the bytes of rows that lie this number of seconds apart, round again after 136 years.
+fn octets(alloc: Global, step: u32) -> Result<u64, AllocError> {
+    let state = State {
+        offset: -18_000,
+        daylight: false,
+        name: b"EST",
+    };
+    let mut writer = RowWriter::new(state);
+    let mut text = Vec::new(alloc);
+    let mut total = 0u64;
+    for call in 0..CALLS {
+        if text.len() > MOST {
+            total = total.wrapping_add(text.len() as u64);
+            text.clear();
+        }
+        text.extend_from_slice(b"America/New_York,1000000000")?;
+        let instant = FIRST + i64::from(call.wrapping_mul(step));
+        writer.push_rest(&mut text, instant)?;
+    }
+    Ok(total.wrapping_add(text.len() as u64))
+}
+
+/// Returns the sum of the instants of ten digits at each place of some digits in turn.
+fn read_sum() -> u64 {
+    let digits = b"1234567890123456789012345678901234567890123456789012345678901234567890";
+    let mut total = 0u64;
+    for call in 0..CALLS {
+        let first = call as usize % 50;
+        if let Some(instant) = parse_instant(&digits[first..first + 10]) {
+            total = total.wrapping_add(instant.unsigned_abs());
+        }
+    }
+    total
+}

@@ -1,0 +1,67 @@
+//! Sums what a TZif file on standard input says at ten million instants from 1901 to 2037, in
+//! rising or random order, and prints the sums, for `bench/zone.sh` to time. The word `rising` or
+//! `random` asks for one of the two.
+
+use std::env;
+use std::io::{self, Read};
+use std::rt::Env;
+use zic_tzif::{Answer, Zone, read};
+
+/// 1901-01-01 00:00 UT.
+const FIRST: i64 = -2_177_452_800;
+
+/// Ten million of these reach to 2037.
+const STEP: i64 = 429;
+
+const CALLS: u32 = 10_000_000;
+
+/// Prints the sums that the word asks for.
+pub fn run<R: Env + Input + Print + AllocGlobal>(rt: &R) -> io::Result<()> {
+    let word = env::args(rt)?.nth(2);
+    let word = word.as_ref().map(|w| w.as_str());
+    let mut octets = Vec::new(rt.alloc());
+    rt.reader().read_to_end(&mut octets)?;
+    match read(rt.alloc(), &octets) {
+        Ok(zone) => {
+            if word != Some("random") {
+                let total = rising_sum(&zone);
+                println!(rt; "rising {total}")?;
+            }
+            if word != Some("rising") {
+                let total = random_sum(&zone);
+                println!(rt; "random {total}")?;
+            }
+        }
+        Err(_) => println!(rt; "no file")?,
+    }
+    Ok(())
+}
+
+fn rising_sum(zone: &Zone) -> i64 {
+    let mut total = 0i64;
+    for call in 0..CALLS {
+        total = total.wrapping_add(number(zone, FIRST + STEP * call as i64));
+    }
+    total
+}
+
+fn random_sum(zone: &Zone) -> i64 {
+    let mut total = 0i64;
+    let mut seed = 1u32;
+    for _ in 0..CALLS {
+        seed = seed.wrapping_mul(1_664_525).wrapping_add(1_013_904_223);
+        total = total.wrapping_add(number(zone, FIRST + seed as i64));
+    }
+    total
+}
+
+/// Returns what the file says, as one number.
+fn number(zone: &Zone, t: i64) -> i64 {
+    match zone.at(t) {
+        Answer::Known(state) => {
+            let letter = state.name.get(1).copied().unwrap_or(0);
+            state.offset as i64 + letter as i64 + state.daylight as i64
+        }
+        Answer::Unspecified => 0,
+    }
+}

@@ -1,0 +1,27 @@
+//! Answers what the first word names, for the scripts of .ci/ and bench/; the words that follow
+//! are its own.
+#![tactic(auto)]
+
+mod by_jiff;
+mod changes;
+mod counts;
+mod files;
+mod footers;
+mod stop;
+
+use std::env;
+use std::io::{self, ErrorKind};
+use std::process::ExitCode;
+
+fn main(rt: HostRuntime) -> io::Result<ExitCode> {
+    let word = env::args(&rt)?.nth(1);
+    match word.as_ref().map(|w| w.as_str()) {
+        Some("counts") => return counts::run(&rt),
+        Some("changes") => return changes::run(&rt),
+        Some("footers") => footers::run(&rt)?,
+        Some("files") => files::run(&rt)?,
+        Some("jiff") => by_jiff::run(&rt)?,
+        _ => return Err(io::Error::from(ErrorKind::InvalidInput)),
+    }
+    Ok(ExitCode::SUCCESS)
+}

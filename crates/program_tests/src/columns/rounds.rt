@@ -1,0 +1,182 @@
+//! Columns of many rows, in rounds of pieces.
+
+use super::{THREE_ROWS, UTC, converted, files_of};
+use std::alloc::Global;
+use std::io::{self, Read, Write};
+use std::sync::atomic::{AtomicU64, Ordering};
+use std::test::Fail;
+use zic_bulk::{Plan, RowKind, RunStop};
+use zic_pieces::Open;
+
+/// How many rows a column has: more than fit into one read.
+const ROWS: usize = 7_000;
+
+const LINE: &[u8; 10] = b"Etc/UTC,0\n";
+
+/// A column of equal rows, with another line in place of that of this index.
+fn column_with(alloc: Global, index: usize, line: &[u8]) -> Result<Vec<u8>, Fail> {
+    let mut column = Vec::new(alloc);
+    for i in 0..ROWS {
+        column.extend_from_slice(if i == index { line } else { LINE })?;
+    }
+    Ok(column)
+}
+
+/// The text of so many rows.
+fn rows_of(alloc: Global, count: usize) -> Result<Vec<u8>, Fail> {
+    let mut text = Vec::new(alloc);
+    for _ in 0..count {
+        text.extend_from_slice(&THREE_ROWS[..46])?;
+    }
+    Ok(text)
+}
+
+/// Numbers of workers, each with how many records a piece has.
+const PLANS: [(u64, u64); 3] = [(1, 100), (2, 3), (8, 100)];
+
+#[test]
+fn quotes_anywhere_change_no_row(rt: HostRuntime) -> Result<(), Fail> {
+    let alloc = rt.alloc();
+    let files = files_of(alloc, UTC)?;
+    let text = rows_of(alloc, ROWS)?;
+    let lines: [&[u8]; 3] = [LINE, b"\"Etc/UTC\",\"0\"\n", b"Etc/UTC,\"0\"\r\n\r\n"];
+    for line in lines {
+        for index in [0, 6_554] {
+            let column = column_with(alloc, index, line)?;
+            for (workers, row_piece) in PLANS {
+                let plan = Plan::new(workers, 1, row_piece, 10_000, 1_000_000).ok_or("no plan")?;
+                let writer = Vec::new(alloc);
+                let made = converted(
+                    &rt,
+                    alloc,
+                    &files,
+                    (&plan, &Open),
+                    column.as_slice(),
+                    writer,
+                );
+                assert_eq!(rt;
+                    made.answer,
+                    Ok(ROWS as u64),
+                    "{line:?} at {index} by {workers}"
+                );
+                let written = made.writer.into_inner();
+                assert!(rt;
+                    written == text,
+                    "{line:?} at {index} by {workers} and {row_piece}"
+                );
+            }
+        }
+    }
+    Ok(())
+}
+
+#[test]
+fn a_fault_anywhere_ends_the_rows(rt: HostRuntime) -> Result<(), Fail> {
+    let alloc = rt.alloc();
+    let files = files_of(alloc, UTC)?;
+    let lines: [(&[u8], RowKind); 3] = [
+        (b"Etc/UTC,x\n", RowKind::RowInstant),
+        (b"\"No/Where\",0\nEtc/UTC\n", RowKind::RowZone),
+        (b"\"Etc/UTC\n\",0\n", RowKind::RowZone),
+    ];
+    for (line, kind) in lines {
+        for index in [0, 4_000, ROWS.saturating_sub(1)] {
+            let column = column_with(alloc, index, line)?;
+            let text = rows_of(alloc, index)?;
+            for (workers, row_piece) in PLANS {
+                let plan = Plan::new(workers, 1, row_piece, 10_000, 1_000_000).ok_or("no plan")?;
+                let writer = Vec::new(alloc);
+                let made = converted(
+                    &rt,
+                    alloc,
+                    &files,
+                    (&plan, &Open),
+                    column.as_slice(),
+                    writer,
+                );
+                let row = (index as u64).wrapping_add(1);
+                assert_eq!(rt;
+                    made.answer,
+                    Err(RunStop::Row { row, kind }),
+                    "by {workers}"
+                );
+                let written = made.writer.into_inner();
+                assert!(rt;
+                    written == text,
+                    "{line:?} at {index} by {workers} and {row_piece}"
+                );
+            }
+        }
+    }
+    Ok(())
+}
+
+/// A reader that gives a line at a time, and counts the lines that it gives before the row of each before was passed on.
+#[derive(Drop)]
+struct Feeder<'a> {
+    given: u64,
+    rows: &'a AtomicU64,
+    early: &'a AtomicU64,
+}
+
+impl Read for Feeder<'_> {
+    fn read(&mut self, buf: &mut [u8]) -> io::Result<usize> {
+        if self.rows.load(Ordering::SeqCst) != self.given {
+            self.early.fetch_add(1, Ordering::SeqCst);
+        }
+        if self.given == 9 || buf.len() < LINE.len() {
+            return Ok(0);
+        }
+        self.given = self.given.wrapping_add(1);
+        buf[..LINE.len()].copy_from_slice(LINE);
+        Ok(LINE.len())
+    }
+}
+
+/// A writer that counts the lines that it passed on.
+#[derive(Drop)]
+struct Tap<'a> {
+    held: u64,
+    rows: &'a AtomicU64,
+}
+
+impl Write for Tap<'_> {
+    fn write(&mut self, buf: &[u8]) -> io::Result<usize> {
+        let lines = buf.iter().filter(|byte| **byte == b'\n').count();
+        self.held = self.held.wrapping_add(lines as u64);
+        Ok(buf.len())
+    }
+
+    fn flush(&mut self) -> io::Result<()> {
+        self.rows.store(self.held, Ordering::SeqCst);
+        Ok(())
+    }
+}
+
+#[test]
+fn each_row_comes_out_before_the_next_line_goes_in(rt: HostRuntime) -> Result<(), Fail> {
+    let alloc = rt.alloc();
+    let files = files_of(alloc, UTC)?;
+    for (workers, row_piece) in PLANS {
+        let rows = AtomicU64::new(0);
+        let early = AtomicU64::new(0);
+        let plan = Plan::new(workers, 1, row_piece, 100, 1000).ok_or("no plan")?;
+        let reader = Feeder {
+            given: 0,
+            rows: &rows,
+            early: &early,
+        };
+        let writer = Tap {
+            held: 0,
+            rows: &rows,
+        };
+        let made = converted(&rt, alloc, &files, (&plan, &Open), reader, writer);
+        assert_eq!(rt; made.answer, Ok(9), "by {workers} and {row_piece}");
+        assert_eq!(rt;
+            early.load(Ordering::SeqCst),
+            0,
+            "by {workers} and {row_piece}"
+        );
+    }
+    Ok(())
+}

@@ -1,0 +1,46 @@
+-- A column, taken in rounds of pieces.
+use Rattle.std.specs.Prelude.{◌≡◌, ℕ, List, [], ◌∷◌, ◌++◌, length, Option, None, Some, IfSome}
+use Rattle.std.specs.Int.{IsInRange}
+use Rattle.std.specs.List.{flat_map}
+use Rattle.std.specs.Io.KnownBytes.{prepend_known}
+use Rattle.zic_columns.specs.Column.{column_records}
+
+-- the byte that was one too many, if there was one, and then the known bytes
+abbrev pub with_past : Option ℕ → Option (List ℕ) → Option (List ℕ)
+with_past None known = known
+with_past (Some byte) known = prepend_known (byte ∷ []) known
+
+-- A column, as far as it was taken: the pieces of the round that was taken last, the bytes in hand that no round had, the byte that was
+-- one too many, if there was one, and the reader.
+pub record ColumnOf (R : Type 0) : Type 0 where
+  pub round : List (List ℕ)
+  pub held : List ℕ
+  pub past : Option ℕ
+  pub reader : R
+
+-- the bytes that no round had, where those of the reader are known
+abbrev pub unread : {R : Type 0} → (R → Option (List ℕ)) → ColumnOf R → Option (List ℕ)
+unread remaining column = prepend_known column.held (with_past column.past (remaining column.reader))
+
+-- the records of pieces, one piece after another
+abbrev pub records_of : List (List ℕ) → List (List (List ℕ))
+records_of pieces = flat_map column_records pieces
+
+-- The records of some bytes are those of the pieces, and then those of the rest.
+abbrev pub TakesPieces : List ℕ → List ℕ → List (List ℕ) → Type 0
+TakesPieces bytes rest pieces = column_records bytes ≡ records_of pieces ++ column_records rest
+
+-- The records of a round were taken, where the bytes are known.
+abbrev pub TakesRound : {R : Type 0} → (R → Option (List ℕ)) → ColumnOf R → ColumnOf R → Type 0
+TakesRound remaining old new =
+    IfSome (unread remaining old) (λ bytes. (rest : List ℕ) × (unread remaining new ≡ Some rest) × TakesPieces bytes rest new.round)
+
+-- No record is left, where the bytes are known.
+abbrev pub HasNoRecord : Option (List ℕ) → Type 0
+HasNoRecord known = IfSome known (λ bytes. column_records bytes ≡ [])
+
+-- each piece has so many records, and the last, which has one at least, no more
+abbrev pub ArePiecesOf : ℕ → List (List ℕ) → Type 0
+ArePiecesOf size [] = Unit {0}
+ArePiecesOf size (piece ∷ []) = IsInRange 1 size (length (column_records piece))
+ArePiecesOf size (piece ∷ next ∷ pieces) = (length (column_records piece) ≡ size) × ArePiecesOf size (next ∷ pieces)

@@ -1,0 +1,47 @@
+-- How a CSV reader's machine reads the bytes of one record.
+use Rattle.std.specs.Prelude.{◌≡◌, ◌<◌, ◌≤◌, ℕ, true, false, List, ◌++◌, length, slice_index, take, Some}
+use Rattle.csv.specs.Machine.{ends_at_end, is_end, next_record, step}
+use Rattle.csv.specs.Reading.{default_config}
+use Rattle.csv.specs.declared.parser.State.{State}
+use Rattle.csv.specs.declared.parser.State.TheVariants as st
+use Rattle.zic_columns.specs.Column.{column_records, ends_line}
+use Rattle.zic_columns.specs.declared.machine.Place.{Place}
+use Rattle.zic_columns.specs.declared.machine.Place.TheVariants as place
+
+-- the state of the machine at a place in a record
+abbrev pub state_at : Place → State
+state_at place.Start = st.StartField
+state_at place.Plain = st.InField
+state_at place.Quoted = st.InQuoted
+state_at place.QuoteSeen = st.AfterQuote
+
+-- the byte ends the record
+abbrev pub EndsRecord : State → ℕ → Type 0
+EndsRecord s byte = is_end (step default_config s byte).1 ≡ true
+
+-- the byte is one of the record, and the machine goes on in another state
+abbrev pub GoesOn : State → ℕ → State → Type 0
+GoesOn s byte t = (is_end (step default_config s byte).1 ≡ false) × ((step default_config s byte).0 ≡ t)
+
+-- Whatever it has read of a record before, the machine reads these bytes of the record, and goes on in another state.
+abbrev pub ReadsTo : State → List ℕ → State → Type 0
+ReadsTo s bytes t =
+    (fields : List (List ℕ)) (field : List ℕ) → (others : List (List ℕ)) × (other : List ℕ)
+    × ((more : List ℕ) → next_record default_config s fields field (bytes ++ more) ≡ next_record default_config t others other more)
+
+-- Whatever it has read of a record before, with the last of these bytes the machine has read the record.
+abbrev pub EndsWith : State → List ℕ → Type 0
+EndsWith s bytes =
+    (fields : List (List ℕ)) (field : List ℕ) → (all : List (List ℕ)) × (t : State) × (ends_at_end t ≡ false)
+    × ((more : List ℕ) → next_record default_config s fields field (bytes ++ more) ≡ Some (all, t, more))
+
+-- there is a byte, and the first ends no line
+pub record BeginsRecord (bytes : List ℕ) : Type 0 where
+  pub some : 0 < length bytes
+  pub begins : ends_line (slice_index bytes 0) ≡ false
+
+-- the record ends with the last of so many bytes
+pub record IsEndOfRecord (s : State) (bytes : List ℕ) (len : ℕ) : Type 0 where
+  pub some : 0 < len
+  pub within : len ≤ length bytes
+  pub ends : EndsWith s (take len bytes)

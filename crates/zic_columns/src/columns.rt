@@ -1,0 +1,209 @@
+//! A column that is read in rounds.
+
+ghost use Rattle.std.specs.Prelude.{◌≡◌, ◌↔◌, ◌+◌, ◌<◌, ◌≤◌, [], Some, false, length, take, drop, IfOk, IfSome, IsTrue};
+ghost use Rattle.std.specs.Io.KnownBytes.{IsAtEnd, Keeps};
+ghost use Rattle.csv.specs.Reading.{strip_bom};
+ghost use Rattle.zic_columns.specs.Round.{ArePiecesOf, HasNoRecord, TakesRound, unread};
+ghost use Rattle.zic_columns.specs.declared.pieces.TheConstants.{MAX_PIECES};
+ghost use Rattle.zic_columns.specs.code.Range.{AreWithin, pieces_at};
+ghost use Rattle.zic_columns.specs.code.Hand.{CanBeCut, Takes, to_come};
+
+use crate::buffer::Window;
+use crate::first::first_record;
+use crate::hand::{Scan, scan_on, scan_rest};
+use crate::limit::Bounded;
+use crate::mark::without_mark;
+use crate::pieces::{PieceRange, cut_pieces};
+use crate::rounds::Round;
+use std::alloc::{AllocError, Global};
+use std::io::{self, Read};
+use std::marker::Model;
+
+/// A read that gives fewer bytes ends a round: the reader has no more at once.
+const FULL_READ: usize = 65_536;
+
+/// How many bytes show whether a column begins with a byte order mark.
+const MARK_LEN: usize = 3;
+
+/// A column could not be read on: the reader failed, or gave too many bytes, or memory was refused.
+#[derive(Debug, Drop)]
+pub struct Unread;
+
+impl From<AllocError> for Unread {
+    fn from(_e: AllocError) -> Unread {
+        Unread
+    }
+}
+
+impl From<io::Error> for Unread {
+    fn from(_e: io::Error) -> Unread {
+        Unread
+    }
+}
+
+/// A column that is read in rounds. Clauses see it as the round that was taken last, the bytes in hand that no round had, and the reader
+/// that gives the others.
+#[derive(Drop)]
+pub struct Column<R: Read> {
+    reader: Bounded<R>,
+    window: Window,
+    /// Which of the bytes in hand are whole records.
+    scan: Scan,
+    /// Whether the last read gave fewer bytes than a full one.
+    is_short: bool,
+    /// Where the pieces of the round stand in the bytes that were taken last.
+    ranges: Vec<PieceRange>,
+}
+
+impl<R: Read> Model for Column<R> {
+    ghost use Rattle.std.specs.Prelude.{length};
+    ghost use Rattle.zic_columns.specs.Round.{ColumnOf};
+
+    ghost Value = { ColumnOf R };
+
+    ghost use Rattle.zic_columns.specs.code.Window.{held_bytes, taken_bytes};
+    ghost use Rattle.zic_columns.specs.code.Range.{AreWithin, pieces_at};
+    ghost use Rattle.zic_columns.specs.code.Hand.{IsScanned};
+
+    ghost view = { λ column. record {
+      round = pieces_at (taken_bytes column.window) column.ranges.items;
+      held = held_bytes column.window;
+      past = column.reader.past;
+      reader = column.reader.inner;
+    } };
+
+    ghost invariant = { λ column. AreWithin column.ranges.items (length (taken_bytes column.window))
+        × IsScanned (held_bytes column.window) column.scan };
+}
+
+impl<R: Read + Drop> Column<R> {
+    /// The column that the reader gives, of so many bytes at most. Reads its first bytes.
+    pub fn new(alloc: Global, reader: R, most: u64) -> Result<Column<R>, Unread>
+        ensures { IfOk result (λ column. IfSome (R.remaining reader) (λ bytes. unread R.remaining column ≡ Some (strip_bom bytes))) }
+    {
+        let mut column = Column {
+            reader: Bounded::new(reader, most),
+            window: Window::new(alloc),
+            scan: Scan {
+                whole: 0,
+                begun: None,
+            },
+            is_short: false,
+            ranges: Vec::new(alloc),
+        };
+        column.read_mark()?;
+        let held = column.window.held();
+        let mark = held.len() - without_mark(held).len();
+        column.pass(mark, Vec::new(alloc));
+        Ok(column)
+    }
+}
+
+impl<R: Read> Column<R> {
+    /// Takes the next round, in pieces of so many records each, and of fewer at the end. Whether there is one: there is none at the end of
+    /// the column.
+    ///
+    /// A round has all whole records in hand. Reads until so many bytes are in hand, but never again once a read gave fewer than 64 KiB,
+    /// unless no whole record is in hand.
+    pub fn turn(&mut self, alloc: Global, wanted: usize, size: usize) -> Result<bool, Unread>
+        requires { 0 < size }
+        ensures takes { IfOk result (λ _. TakesRound R.remaining self.old self.new) }
+        ensures some { IfOk result (λ some. IsTrue some ↔ (0 < length self.new.round)) }
+        ensures end { IfOk result (λ some. some ≡ false → HasNoRecord (unread R.remaining self.new)) }
+        ensures few { IfOk result (λ _. length self.new.round ≤ MAX_PIECES) }
+        ensures cut { IfOk result (λ _. ArePiecesOf size self.new.round) }
+    {
+        let count = self.gather(alloc, wanted)?;
+        let cut = cut_pieces(alloc, &self.window.held()[..count], size)?;
+        let some = !cut.ranges.is_empty();
+        self.pass(cut.len, cut.ranges);
+        Ok(some)
+    }
+
+    /// The round that was taken last.
+    pub fn round(&self) -> Round<'_>
+        ensures { result ≡ self.now.round }
+    {
+        Round {
+            bytes: self.window.taken(),
+            ranges: &self.ranges,
+        }
+    }
+
+    /// Reads until the bytes in hand show whether the column begins with a byte order mark.
+    fn read_mark(&mut self) -> Result<(), Unread>
+        ensures keeps { IfOk result (λ _. Keeps (unread R.remaining self.old) (unread R.remaining self.new)) }
+        ensures shows { IfOk result (λ _. length self.new.held < MARK_LEN → IsAtEnd (to_come R.remaining self.new)) }
+    {
+        for _ in 0..MARK_LEN {
+            let count = self.read_on(MARK_LEN)?;
+            if count == 0 || MARK_LEN <= self.window.held().len() {
+                return Ok(());
+            }
+        }
+        Ok(())
+    }
+
+    /// Reads on until a round is in hand, or the column ends. How many bytes can be cut.
+    fn gather(&mut self, alloc: Global, wanted: usize) -> Result<usize, Unread>
+        ensures takes { IfOk result (λ _. Takes (unread R.remaining self.old) (unread R.remaining self.new) []) }
+        ensures cut { IfOk result (CanBeCut self.new.held (to_come R.remaining self.new)) }
+    {
+        for _ in 0..u64::MAX {
+            if self.is_short || wanted <= self.window.held().len() {
+                if let Some(count) = self.records_at_hand(alloc) {
+                    return Ok(count);
+                }
+            }
+            if self.read_on(wanted)? == 0 {
+                return Ok(self.window.held().len());
+            }
+        }
+        Err(Unread)
+    }
+
+    /// How many bytes are whole records, where there is one. Drops lines without a byte, which make no record.
+    fn records_at_hand(&mut self, alloc: Global) -> Option<usize>
+        ensures takes { Takes (unread R.remaining self.old) (unread R.remaining self.new) [] }
+        ensures cut { IfSome result (CanBeCut self.new.held (to_come R.remaining self.new)) }
+    {
+        let whole = self.scan.whole;
+        if first_record(&self.window.held()[..whole]).is_some() {
+            return Some(whole);
+        }
+        self.pass(whole, Vec::new(alloc));
+        None
+    }
+
+    /// Reads once, and lets the round go. How many bytes came: none at the end.
+    fn read_on(&mut self, wanted: usize) -> Result<usize, Unread>
+        ensures keeps { IfOk result (λ _. Keeps (unread R.remaining self.old) (unread R.remaining self.new)) }
+        ensures grows { IfOk result (λ n. length self.new.held ≡ length self.old.held + n) }
+        ensures end { IfOk result (λ n. n ≡ 0 → IsAtEnd (to_come R.remaining self.new)) }
+    {
+        self.ranges.clear();
+        self.window.make_room(wanted)?;
+        let before = self.window.held().len();
+        let count = self.window.read_from(&mut self.reader)?;
+        self.scan = scan_on(self.window.held(), before, self.scan);
+        self.is_short = count < FULL_READ;
+        Ok(count)
+    }
+
+    /// Passes over so many bytes, in which these pieces stand.
+    fn pass(&mut self, count: usize, ranges: Vec<PieceRange>)
+        requires within { count ≤ length self.old.held }
+        requires ranges { AreWithin ranges.items count }
+        ensures { self.new ≡ record {
+          round = pieces_at (take count self.old.held) ranges.items;
+          held = drop count self.old.held;
+          past = self.old.past;
+          reader = self.old.reader;
+        } }
+    {
+        let scan = scan_rest(self.window.held(), count, self.scan);
+        self.window.take(count);
+        self.scan = scan;
+        self.ranges = ranges;
+    }
+}

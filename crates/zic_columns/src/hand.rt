@@ -1,0 +1,97 @@
+//! Whole records among the bytes in hand.
+
+ghost use Rattle.std.specs.Prelude.{◌≤◌, length, take, drop};
+ghost use Rattle.zic_columns.specs.Column.{AreWholeRecords};
+ghost use Rattle.zic_columns.specs.Cut.{AreCutAfterLines};
+ghost use Rattle.zic_columns.specs.code.Hand.{BeginWithLines, IsScanned};
+
+use crate::machine::{Place, record_end};
+use crate::quote::first_quote;
+use memchr::memrchr2;
+
+/// How many bytes are whole records, and where a CSV reader stands in the record of the others, if there are any.
+#[derive(Clone, Copy, Drop)]
+pub(crate) struct Scan {
+    pub(crate) whole: usize,
+    pub(crate) begun: Option<Place>,
+}
+
+/// The bytes up to the last line end and with it, and the bytes of the line that has yet to end.
+fn split_lines(bytes: &[u8]) -> (&[u8], &[u8])
+    ensures { AreCutAfterLines bytes.now result.0.now result.1.now }
+{
+    match memrchr2(b'\r', b'\n', bytes) {
+        Some(last) => bytes.split_at(last + 1),
+        None => (&[], bytes),
+    }
+}
+
+/// How many bytes are whole lines before that of the first double quote.
+fn lines_before_quote(bytes: &[u8]) -> usize
+    ensures { BeginWithLines bytes.now result }
+{
+    match first_quote(bytes) {
+        Some(at) => split_lines(&bytes[..at]).0.len(),
+        None => split_lines(bytes).0.len(),
+    }
+}
+
+/// Looks for whole records from an index on at which a CSV reader stands before a record.
+///
+/// Lines are passed over at once. From the line of a double quote on the bytes are looked at one by one, up to the end of its record.
+pub(crate) fn scan_from(bytes: &[u8], start: usize) -> Scan
+    requires within { start ≤ length bytes.now }
+    requires whole { AreWholeRecords (take start bytes.now) }
+    ensures { IsScanned bytes.now result }
+{
+    let mut whole = start;
+    while whole < bytes.len() {
+        whole += lines_before_quote(&bytes[whole..]);
+        if whole == bytes.len() {
+            break;
+        }
+        match record_end(Place::Start, &bytes[whole..]) {
+            Ok(len) => whole += len,
+            Err(place) => {
+                return Scan {
+                    whole,
+                    begun: Some(place),
+                };
+            }
+        }
+    }
+    Scan { whole, begun: None }
+}
+
+/// Looks on once more bytes came after so many that were scanned.
+pub(crate) fn scan_on(bytes: &[u8], before: usize, scan: Scan) -> Scan
+    requires within { before ≤ length bytes.now }
+    requires scanned { IsScanned (take before bytes.now) scan }
+    ensures { IsScanned bytes.now result }
+{
+    let Some(place) = scan.begun else {
+        return scan_from(bytes, before);
+    };
+    match record_end(place, &bytes[before..]) {
+        Ok(len) => scan_from(bytes, before + len),
+        Err(place) => Scan {
+            whole: scan.whole,
+            begun: Some(place),
+        },
+    }
+}
+
+/// The scan of the bytes after so many.
+pub(crate) fn scan_rest(bytes: &[u8], count: usize, scan: Scan) -> Scan
+    requires within { count ≤ length bytes.now }
+    requires scanned { IsScanned bytes.now scan }
+    ensures { IsScanned (drop count bytes.now) result }
+{
+    if count == scan.whole {
+        return Scan {
+            whole: 0,
+            begun: scan.begun,
+        };
+    }
+    scan_from(&bytes[count..], 0)
+}

@@ -1,0 +1,84 @@
+//! A reader with a limit.
+
+ghost use Rattle.std.specs.Prelude.{◌≡◌, [], None, IsTrue, false};
+ghost use Rattle.std.specs.Option.{ForSome};
+
+use std::io::{self, ErrorKind, Read};
+
+/// A reader that gives so many bytes at most. The read that would give one more fails, and so does each after it. Once the reader under it
+/// ended, it is not read again: a terminal would ask for more.
+///
+/// Every error is one at which no caller tries again, also where the reader under it was interrupted.
+#[derive(Drop)]
+pub(crate) struct Bounded<R: Read> {
+    pub(crate) inner: R,
+    /// How many bytes it may still give.
+    left: u64,
+    /// The byte that was one too many.
+    pub(crate) past: Option<u8>,
+    /// Whether a read gave none of the bytes that there was room for.
+    pub(crate) ended: bool,
+    ghost at_end: { IsTrue ended → ForSome (R.remaining inner) (λ bytes. bytes ≡ []) },
+}
+
+impl<R: Read> Bounded<R> {
+    ghost use Rattle.zic_columns.specs.code.Bounded.{bytes_left, ReadsNone};
+
+    /// A reader of so many bytes at most.
+    pub(crate) fn new(inner: R, most: u64) -> Bounded<R>
+        ensures inner { result.inner ≡ inner }
+        ensures none { result.past ≡ None }
+    {
+        Bounded {
+            inner,
+            left: most,
+            past: None,
+            ended: false,
+        }
+    }
+
+    /// Reads on where no byte may be given: there is none, or the one that is there is kept.
+    fn read_past(&mut self) -> io::Result<usize>
+        requires none { self.old.past ≡ None }
+        requires goes_on { self.old.ended ≡ false }
+        ensures { ReadsNone (bytes_left R.remaining self.old) (bytes_left R.remaining self.new) result }
+    {
+        let mut one = [0u8];
+        match self.inner.read(&mut one) {
+            Ok(0) => {
+                self.ended = true;
+                return Ok(0);
+            }
+            Ok(_) => self.past = Some(one[0]),
+            Err(_) => {}
+        }
+        Err(io::Error::from(ErrorKind::Other))
+    }
+}
+
+impl<R: Read> Read for Bounded<R> {
+    ghost use Rattle.zic_columns.specs.code.Bounded.{bytes_left};
+
+    ghost remaining = { bytes_left R.remaining };
+
+    fn read(&mut self, buf: &mut [u8]) -> io::Result<usize> {
+        if self.past.is_some() {
+            return Err(io::Error::from(ErrorKind::Other));
+        }
+        if self.ended || buf.is_empty() {
+            return Ok(0);
+        }
+        if self.left == 0 {
+            return self.read_past();
+        }
+        let most = self.left.min(buf.len() as u64) as usize;
+        match self.inner.read(&mut buf[..most]) {
+            Ok(n) => {
+                self.left -= n as u64;
+                self.ended = n == 0;
+                Ok(n)
+            }
+            Err(_) => Err(io::Error::from(ErrorKind::Other)),
+        }
+    }
+}

@@ -1,0 +1,58 @@
+//! How a CSV reader reads a record.
+
+ghost use Rattle.std.specs.Prelude.{MatchOption, MatchResult};
+ghost use Rattle.zic_columns.specs.code.Machine.{EndsRecord, GoesOn, IsEndOfRecord, ReadsTo, state_at};
+
+use crate::line::ends_line;
+
+/// Where a CSV reader stands in a record.
+#[derive(Clone, Copy, Drop)]
+pub(crate) enum Place {
+    /// At the start of a field.
+    Start,
+    /// In a field, and not between double quotes.
+    Plain,
+    /// Between double quotes.
+    Quoted,
+    /// After a double quote that ends the quoted text, unless another follows.
+    QuoteSeen,
+}
+
+/// Where a CSV reader stands after a byte of a record, or none where the byte ends the record.
+fn place_after(place: Place, byte: u8) -> Option<Place>
+    ensures { MatchOption result (EndsRecord (state_at place) byte)
+        (λ next. GoesOn (state_at place) byte (state_at next)) }
+{
+    if byte == b'"' {
+        return Some(match place {
+            Place::Start | Place::QuoteSeen => Place::Quoted,
+            Place::Plain => Place::Plain,
+            Place::Quoted => Place::QuoteSeen,
+        });
+    }
+    if let Place::Quoted = place {
+        return Some(Place::Quoted);
+    }
+    if byte == b',' {
+        return Some(Place::Start);
+    }
+    if ends_line(byte) {
+        return None;
+    }
+    Some(Place::Plain)
+}
+
+/// How many of the bytes are left of a record, its line end among them, or where a CSV reader stands after all of them.
+pub(crate) fn record_end(place: Place, bytes: &[u8]) -> Result<usize, Place>
+    ensures { MatchResult result (IsEndOfRecord (state_at place) bytes.now)
+        (λ next. ReadsTo (state_at place) bytes.now (state_at next)) }
+{
+    let mut stands = place;
+    for (index, byte) in bytes.iter().enumerate() {
+        match place_after(stands, *byte) {
+            Some(next) => stands = next,
+            None => return Ok(index + 1),
+        }
+    }
+    Err(stands)
+}

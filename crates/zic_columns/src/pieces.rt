@@ -1,0 +1,49 @@
+//! Records, cut into pieces.
+
+ghost use Rattle.std.specs.Prelude.{◌<◌, IfOk};
+ghost use Rattle.zic_columns.specs.code.Cutting.{IsCut};
+
+use crate::first::{first_record, split_records};
+use std::alloc::{AllocError, Global};
+
+/// The most pieces of a round.
+pub const MAX_PIECES: usize = 4_294_967_296;
+
+/// Where a piece stands: from its start up to its end.
+#[derive(Clone, Copy, Drop)]
+pub(crate) struct PieceRange {
+    pub(crate) start: usize,
+    pub(crate) end: usize,
+}
+
+/// Where pieces stand, and how many bytes were cut.
+#[derive(Drop)]
+pub(crate) struct Cut {
+    pub(crate) ranges: Vec<PieceRange>,
+    pub(crate) len: usize,
+}
+
+/// Cuts pieces of so many records each, and of fewer at the end. The bytes after the last piece make no record, unless there are more
+/// pieces than a round may have.
+pub(crate) fn cut_pieces(alloc: Global, bytes: &[u8], size: usize) -> Result<Cut, AllocError>
+    requires { 0 < size }
+    ensures { IfOk result (IsCut bytes.now size) }
+{
+    let mut ranges = Vec::new(alloc);
+    let mut rest = bytes;
+    for _ in 0..MAX_PIECES {
+        if first_record(rest).is_none() {
+            let len = bytes.len();
+            return Ok(Cut { ranges, len });
+        }
+        let (piece, after) = split_records(rest, size);
+        let start = bytes.len() - rest.len();
+        ranges.push(PieceRange {
+            start,
+            end: start + piece.len(),
+        })?;
+        rest = after;
+    }
+    let len = bytes.len() - rest.len();
+    Ok(Cut { ranges, len })
+}

@@ -1,0 +1,68 @@
+//! A round of a column.
+
+ghost use Rattle.std.specs.Prelude.{◌≡◌, ◌<◌, ◌≤◌, length, take, Some, IfOk, IfSome};
+ghost use Rattle.std.specs.List.{slice_get};
+ghost use Rattle.zic_columns.specs.Column.{column_records};
+
+use crate::pieces::PieceRange;
+use crate::splits::Split;
+use std::alloc::{AllocError, Global};
+use std::marker::Model;
+
+/// Whole records of a column, cut into pieces, which several threads may read. Clauses see the bytes of each piece.
+#[derive(Drop)]
+pub struct Round<'a> {
+    pub(crate) bytes: &'a [u8],
+    /// Where each piece stands.
+    pub(crate) ranges: &'a [PieceRange],
+}
+
+impl<'a> Model for Round<'a> {
+    ghost use Rattle.std.specs.Prelude.{ℕ, List, length};
+
+    ghost Value = { List (List ℕ) };
+
+    ghost use Rattle.zic_columns.specs.code.Range.{AreWithin, pieces_at};
+
+    ghost view = { λ round. pieces_at round.bytes.now round.ranges.now };
+
+    ghost invariant = { λ round. AreWithin round.ranges.now (length round.bytes.now) };
+}
+
+impl<'a> Round<'a> {
+    /// How many pieces there are.
+    pub fn len(&self) -> usize
+        ensures { result ≡ length self.now }
+    {
+        self.ranges.len()
+    }
+
+    /// The first pieces, so many.
+    pub fn front(&self, count: usize) -> Round<'_>
+        requires { count ≤ length self.now }
+        ensures { result ≡ take count self.now }
+    {
+        Round {
+            bytes: self.bytes,
+            ranges: &self.ranges[..count],
+        }
+    }
+
+    /// The bytes of the piece of this index.
+    pub fn piece(&self, index: usize) -> &'a [u8]
+        requires { index < length self.now }
+        ensures { slice_get self.now index ≡ Some result.now }
+    {
+        let ranges = self.ranges;
+        let range = ranges[index];
+        &self.bytes[range.start..range.end]
+    }
+
+    /// The piece of this index, split into records.
+    pub fn split(&self, alloc: Global, index: usize) -> Result<Split<'a>, AllocError>
+        requires { index < length self.now }
+        ensures { IfOk result (λ split. IfSome (slice_get self.now index) (λ piece. split ≡ column_records piece)) }
+    {
+        Split::new(alloc, self.piece(index))
+    }
+}

@@ -1,9 +1,0 @@
-use Rattle.std.proofs.Common.{◌≢◌, ◌<◌, [], map, take}
-use Rattle.zic_commands.specs.Tree.{Gains, in_folder}
-use Rattle.zic_commands.proofs.folder.place_files.Given as goal
-
-abbrev pub invariant-loop-file : goal.invariant-loop-file
-invariant-loop-file g l = record {
-  gained : Gains (g.D.Tree.placed l.fn.tree) (g.D.Tree.placed l.tree) (map (in_folder l.folder) (take l.file l.files));
-  named : 0 < l.file → l.folder ≢ [];
-}

@@ -1,0 +1,29 @@
+//! Compiles texts.
+
+ghost use Rattle.std.specs.Prelude.{IfOk, IfErr};
+ghost use Rattle.zic_source.specs.Texts.{texts_of};
+ghost use Rattle.zic_bulk.specs.Build.{AreFilesOfTexts};
+ghost use Rattle.zic_commands.specs.Failing.{IsFailureOfTexts};
+
+use crate::failure::{Failure, run_failure};
+use std::alloc::Global;
+use std::sync::Wait;
+use std::thread::Threads;
+use zic_bulk::{Files, Plan, build};
+use zic_pieces::Open;
+
+/// Returns the files of texts, by the plan's workers.
+pub(crate) fn files_of<T: Threads + Wait + Sync>(
+    rt: &T,
+    alloc: Global,
+    plan: &Plan,
+    texts: &[Vec<u8>],
+) -> Result<Files, Failure>
+    ensures ok { IfOk result (AreFilesOfTexts (texts_of texts.now)) }
+    ensures err { IfErr result (IsFailureOfTexts (texts_of texts.now)) }
+{
+    match build(rt, alloc, texts, plan, &Open) {
+        Ok(files) => Ok(files),
+        Err(stop) => Err(run_failure(stop, texts.len())),
+    }
+}

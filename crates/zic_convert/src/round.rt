@@ -1,0 +1,78 @@
+//! Converts a round, and writes its rows.
+
+ghost use Rattle.std.specs.Prelude.{◌≡◌, ◌≤◌, IfOk, IfErr, false, length};
+ghost use Rattle.zic_pieces.specs.Task.{AreValues};
+ghost use Rattle.zic_convert.specs.code.Pieces.{ArePieces, IsOutcomeOf};
+ghost use Rattle.zic_columns.specs.declared.pieces.TheConstants.{MAX_PIECES};
+ghost use Rattle.zic_convert.specs.code.Written.{EndsInRound, WritesRound};
+
+use crate::pieces::RowPieces;
+use crate::row::Rows;
+use crate::writing::write_rows;
+use std::alloc::Global;
+use std::io::Write;
+use std::sync::Wait;
+use std::thread::Threads;
+use zic_counted::Counted;
+use zic_pieces::{Gate, TaskStop, run_task};
+use zic_plan::{Plan, RunStop};
+
+/// Writes the rows of a round, by those of its pieces.
+fn write_round<W: Write>(
+    writer: &mut Counted<W>,
+    pieces: &RowPieces<'_>,
+    rows: &[Rows],
+) -> Result<u64, RunStop>
+    requires { AreValues (IsOutcomeOf pieces.now) (length pieces.now.pieces) rows.now }
+    ensures ok { IfOk result (WritesRound pieces.now W.contents writer.old writer.new) }
+    ensures stop { IfErr result (EndsInRound pieces.now W.contents writer.old writer.new) }
+{
+    write_rows(writer, pieces.first(), rows)
+}
+
+/// Converts the pieces up to the fault of the last of them, as a task of their own, and writes the rows before it.
+fn convert_again<T: Threads + Wait + Sync, W: Write, G: Gate + Sync>(
+    rt: &T,
+    alloc: Global,
+    pieces: &RowPieces<'_>,
+    writer: &mut Counted<W>,
+    plan: &Plan,
+    gate: &G,
+) -> Result<u64, RunStop>
+    requires goes_on { pieces.now.stops ≡ false }
+    requires few { length pieces.now.pieces ≤ MAX_PIECES }
+    ensures ok { IfOk result (WritesRound pieces.now W.contents writer.old writer.new) }
+    ensures stop { IfErr result (EndsInRound pieces.now W.contents writer.old writer.new) }
+{
+    match run_task(rt, alloc, pieces, plan.workers(), gate) {
+        Ok(rows) => write_round(writer, pieces, &rows),
+        Err(TaskStop::Memory(_)) => Err(RunStop::Memory),
+        Err(TaskStop::NoThread | TaskStop::Fault(_, ())) => unreachable!(),
+    }
+}
+
+/// Converts the pieces of a round by the plan's workers, and writes their rows. It answers how many rows there are.
+///
+/// The least piece with a fault ends the task, and later ones need not be converted. The rows before the fault are then converted once
+/// more.
+pub(crate) fn convert_round<T: Threads + Wait + Sync, W: Write, G: Gate + Sync>(
+    rt: &T,
+    alloc: Global,
+    pieces: &RowPieces<'_>,
+    writer: &mut Counted<W>,
+    plan: &Plan,
+    gate: &G,
+) -> Result<u64, RunStop>
+    requires { ArePieces pieces.now }
+    ensures ok { IfOk result (WritesRound pieces.now W.contents writer.old writer.new) }
+    ensures stop { IfErr result (EndsInRound pieces.now W.contents writer.old writer.new) }
+{
+    match run_task(rt, alloc, pieces, plan.workers(), gate) {
+        Ok(rows) => write_round(writer, pieces, &rows),
+        Err(TaskStop::Fault(i, ())) => {
+            convert_again(rt, alloc, &pieces.up_to(i), writer, plan, gate)
+        }
+        Err(TaskStop::Memory(_)) => Err(RunStop::Memory),
+        Err(TaskStop::NoThread) => unreachable!(),
+    }
+}

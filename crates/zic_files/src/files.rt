@@ -1,0 +1,113 @@
+//! Files by number and by name.
+
+ghost use Rattle.std.specs.Prelude.{◌≡◌, ◌≢◌, ◌<◌, true, length, slice_get, All, IfSome, IfNone, IfOk, IfErr, IsSomeAnd};
+ghost use Rattle.zic_words.specs.Name.{is_name};
+ghost use Rattle.zic_tzif.specs.Reading.{IsFile};
+ghost use Rattle.zic_files.specs.Sound.{IsAlwaysKnown, AreSoundFiles};
+
+use crate::entry::Entry;
+use crate::image::Image;
+use crate::name_index::NameIndex;
+use std::alloc::{AllocError, Global};
+use std::marker::Model;
+use zic_tzif::Zone;
+
+/// The files of all Zone and Link lines, in the order of the texts and their lines. A link shares
+/// the image of its zone. Their names differ.
+#[derive(Debug, Drop)]
+pub struct Files {
+    images: Vec<Image>,
+    entries: Vec<Entry>,
+    names: NameIndex,
+}
+
+impl Model for Files {
+    ghost use Rattle.std.specs.Prelude.{List, map};
+    ghost use Rattle.zic_files.specs.File.{File, file_of};
+    ghost use Rattle.zic_files.specs.code.Kept.{AreKept};
+
+    ghost Value = { List File };
+
+    ghost view = { λ f. map (file_of f.images.items) f.entries.items };
+
+    ghost invariant = { λ f. AreKept f.images.items f.entries.items f.names };
+}
+
+impl Files {
+    ghost use Rattle.std.specs.Prelude.{map};
+    ghost use Rattle.zic_files.specs.File.{file_of};
+
+    /// Returns the files of these entries, each with the image of its zone.
+    pub fn new(alloc: Global, images: Vec<Image>, entries: Vec<Entry>) -> Result<Files, AllocError>
+        requires images { All (λ entry. entry.zone < length images.items) entries.items }
+        requires sound { AreSoundFiles (map (file_of images.items) entries.items) }
+        ensures ok { IfOk result (λ files. files ≡ map (file_of images.items) entries.items) }
+        ensures memory { IfErr result (λ _. 0 < length entries.items) }
+    {
+        let names = NameIndex::of(alloc, &entries)?;
+        Ok(Files {
+            images,
+            entries,
+            names,
+        })
+    }
+
+    /// Returns the number of files.
+    pub fn len(&self) -> usize
+        ensures count { result ≡ length self.now }
+        ensures sound { AreSoundFiles self.now }
+    {
+        self.entries.len()
+    }
+
+    /// Returns the name of a file, by the file's number from 0.
+    pub fn name(&self, i: usize) -> &[u8]
+        requires { i < length self.now }
+        ensures name { IfSome (slice_get self.now i) (λ file. result.now ≡ file.name) }
+        ensures sound { is_name result.now ≡ true }
+    {
+        self.entries[i].name.octets()
+    }
+
+    /// Returns the bytes of a file, by the file's number from 0.
+    pub fn bytes(&self, i: usize) -> &[u8]
+        requires { i < length self.now }
+        ensures { IfSome (slice_get self.now i) (λ file. result.now ≡ file.image.octets) }
+    {
+        self.image(i).octets()
+    }
+
+    /// Returns the zone that a reader makes of the bytes of a file, by the file's number from 0.
+    /// It leaves local time open at no instant, and local time is always within 24:00:00 of UT,
+    /// under an abbreviation of 3 to 16 ASCII letters, digits, `+` and `-`.
+    pub fn zone(&self, i: usize) -> &Zone
+        requires { i < length self.now }
+        ensures zone { IfSome (slice_get self.now i) (λ file. result.now ≡ file.image.content) }
+        ensures read { IfSome (slice_get self.now i)
+            (λ file. IsFile file.image.octets file.image.content) }
+        ensures known { IsAlwaysKnown result.now }
+    {
+        // `len` also tells that the files are sound.
+        prove!(i < self.len());
+        self.image(i).zone()
+    }
+
+    /// Returns the number of the file of this name, or `None` where no file has it. Looks it up by
+    /// hash.
+    pub fn find(&self, name: &[u8]) -> Option<usize>
+        ensures found { IfSome result
+            (λ i. IsSomeAnd (slice_get self.now i) (λ file. file.name ≡ name.now)) }
+        ensures missing { IfNone result (All (λ file. file.name ≢ name.now) self.now) }
+    {
+        self.names.number(name)
+    }
+
+    /// Returns the image of a file.
+    fn image(&self, i: usize) -> &Image
+        requires { i < length self.now }
+        ensures { IfSome (slice_get self.now i) (λ file. result.now ≡ file.image) }
+    {
+        let entry = &self.entries[i];
+        &self.images[entry.zone]
+    }
+}

@@ -1,9 +1,0 @@
-pub mod Types
-pub mod Footers
-pub mod Instants
-pub mod ChangeBounds
-pub mod Files
-pub mod OneImage
-pub mod OneFault
-pub mod Images
-pub mod Faults

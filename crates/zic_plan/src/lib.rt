@@ -1,0 +1,11 @@
+//! What the words and numbers of a call say, how work is cut and shared, and why a run ends early.
+//! The tests stand in `program_tests`.
+#![tactic(auto)]
+
+mod plan;
+mod stop;
+mod word;
+
+pub use plan::{MAX_BYTES, MAX_OF_PIECE, MAX_ROWS, MAX_WORKERS, Plan};
+pub use stop::{RowKind, RunStop};
+pub use word::{STANDARD_INPUT, parse_instant_word};

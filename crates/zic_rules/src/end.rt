@@ -1,0 +1,47 @@
+//! The explicit end of a zone.
+
+ghost use Rattle.std.specs.Prelude.{◌≡◌, ◌≤◌, true, IfSome};
+ghost use Rattle.zic_source.specs.Source.{is_set};
+ghost use Rattle.zic_source.specs.Sound.{IsSoundSource, IsSoundLine};
+ghost use Rattle.zic_states.specs.Until.{set_of};
+ghost use Rattle.zic_rules.specs.Period.{the_zone};
+ghost use Rattle.zic_rules.specs.code.End.{IsStart, IsInYears, IsLastYearFrom, IsEndFrom};
+
+use crate::year::year_of;
+use crate::zone::Zone;
+use zic_occurrences::{last_named_year, year_second};
+use zic_source::{Rules, SetName, Source, ZoneLine};
+
+/// Returns the last year that a set names, or in which its line starts.
+fn last_year(source: &Source, set: &SetName, start: Option<i64>) -> u16
+    requires sound { IsSoundSource source.now }
+    requires set { is_set set.now source.now.rules ≡ true }
+    requires start { IfSome start (IsInYears 9002) }
+    ensures last { IsLastYearFrom (set_of source.now.rules set.now) start result }
+    ensures range { result ≤ 9001 }
+{
+    let named = last_named_year(source, set);
+    match start {
+        Some(start) => named.max(year_of(start)),
+        None => named,
+    }
+}
+
+/// Returns the explicit end of a zone, by the number of its last line and the instant at which that
+/// starts; the Zone line has no start.
+pub(crate) fn end_of(zone: Zone<'_>, number: usize, line: &ZoneLine, start: Option<i64>) -> i64
+    requires sound { IsSoundSource zone.source.now }
+    requires line { IsSoundLine zone.source.now.rules line.now }
+    requires start { IsStart (the_zone zone) number start }
+    requires in_years { IfSome start (IsInYears 9002) }
+    ensures { IsEndFrom (the_zone zone.entry) number start line.now result }
+{
+    match (&line.rules, start) {
+        (Rules::Set(set), _) => {
+            let year = last_year(zone.source, set, start);
+            year_second(year + 3)
+        }
+        (_, Some(start)) => start + 1,
+        (_, None) => 0,
+    }
+}

@@ -1,8 +1,0 @@
--- What is kept, as the code has it.
-use Rattle.std.specs.Option.{option_copied}
-use Rattle.zic_states.specs.declared.keeping.Keeping.{Keeping}
-use Rattle.zic_states.specs.Kept.{Kept}
-
--- what it says
-abbrev pub kept : Keeping → Kept
-kept keeping = record { saving = keeping.saving; daylight = keeping.daylight; letter = option_copied keeping.letter }

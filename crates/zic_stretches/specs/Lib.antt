@@ -1,3 +1,0 @@
-pub mod code
-pub mod Stretch
-pub use Rattle.zic_states.specs.Zone

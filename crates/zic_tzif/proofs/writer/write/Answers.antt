@@ -1,0 +1,34 @@
+use Rattle.std.proofs.Common.{ℕ, List, ◌++◌, replicate, length, map, sym, subst}
+use Rattle.std.specs.List.{flat_map}
+use Rattle.zic_content.specs.declared.content.Change.{Change}
+use Rattle.zic_tzif.specs.Reading.{IsFile}
+use Rattle.zic_tzif.specs.Writing.{header, time_octets, type_octets}
+use Rattle.zic_tzif.proofs.WriteLists.{line_behind}
+use Rattle.zic_tzif.proofs.WriteFile.{written_is_file}
+use Rattle.zic_tzif.proofs.writer.write.Goals as goal
+
+pub returns-clause-written : goal.returns-clause-written
+returns-clause-written c =
+    let t = c.args.t.now in
+    rw (
+      c.in_ok-push-2.ensures.items,
+      c.in_ok-extend_from_slice-3.ensures.items,
+      c.in_ok-push.ensures.items,
+      c.in_ok-extend_from_slice-2.ensures.items,
+      c.in_ok-put_types.ensures,
+      c.in_ok-put_numbers.ensures,
+      c.in_ok-put_times.ensures,
+      c.in_ok-put_header-2.ensures,
+      c.in_ok-extend_from_slice.ensures.items,
+      c.in_ok-put_header.ensures,
+      c.in_ok-out.ensures.items,
+      c.version-version.ensures.version,
+      c.changes-changes.ensures,
+      c.types-types.ensures,
+      c.names-names.ensures,
+      c.footer_text.ensures,
+    ) (line_behind (header t.version 0 1 1 ++ replicate 7 0 ++ header t.version (length t.changes) (length t.types) (length t.names) ++ flat_map time_octets t.changes ++ map (λ (a : Change). a.number) t.changes ++ flat_map type_octets t.types ++ t.names) t.text)
+
+pub returns-clause-read : goal.returns-clause-read
+returns-clause-read c =
+    subst (λ (octets : List ℕ). IsFile octets c.args.t.now) (sym (returns-clause-written c)) (written_is_file c.args.t.now c.version-version.ensures.writable)

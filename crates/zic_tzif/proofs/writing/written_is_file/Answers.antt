@@ -1,5 +1,0 @@
-use Rattle.zic_tzif.proofs.WriteFile.{written_is_file}
-use Rattle.zic_tzif.proofs.writing.written_is_file.Goals as goal
-
-pub returns : goal.returns
-returns c = written_is_file

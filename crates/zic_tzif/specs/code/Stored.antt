@@ -1,0 +1,14 @@
+-- The parts of a file that a zone keeps.
+use Rattle.zic_content.specs.Content.{Content}
+use Rattle.zic_tzif.specs.declared.stored.Stored.{Stored}
+use Rattle.zic_tzif.specs.Block.{changes_at}
+
+-- what they say
+abbrev pub stored_content : Stored → Content
+stored_content stored = record {
+  version = stored.version;
+  changes = changes_at stored.times.items stored.numbers.items;
+  types = stored.types.items;
+  names = stored.names.items;
+  text = stored.text.items;
+}

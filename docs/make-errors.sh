@@ -1,0 +1,58 @@
+#!/bin/sh
+# Writes the page docs/ERRORS.md, which is generated from docs/errors.txt, to standard output.
+set -eu
+cd "$(dirname "$0")"
+awk '
+    # the place of a heading, as Markdown has it
+    function place(name) {
+        name = tolower(name)
+        gsub(/ /, "-", name)
+        return name
+    }
+
+    # the first sentence of a text
+    function first(text, end) {
+        end = index(text, ". ")
+        return end ? substr(text, 1, end) : text
+    }
+
+    # a text of one or more lines, each with its end
+    function show(name, word, text) {
+        if (!((name, word) in texts)) return
+        printf "\n%s", text ? "**" text "** " : ""
+        printf "%s\n", texts[name, word]
+    }
+
+    function show_example(name, word, text) {
+        if (!((name, word) in texts)) return
+        printf "\n%s\n\n```%s\n%s\n```\n", text, texts[name, word] ~ /^[$] / ? "console" : "text", texts[name, word]
+    }
+
+    /^;/ || /^$/ { next }
+    /^# / { names[++count] = name = substr($0, 3); is_part[name] = 1; next }
+    /^## / { names[++count] = name = substr($0, 4); next }
+    /^[a-z]+:$/ { word = substr($0, 1, length($0) - 1); next }
+    { texts[name, word] = texts[name, word] ((name, word) in texts && texts[name, word] != "" ? "\n" : "") substr($0, 3) }
+
+    END {
+        print "# Errors\n"
+        print "Every error by name: what it means, an example that causes it, the correct form, what is expected, and the usual cause.\n"
+        print "This page is generated from [errors.txt](errors.txt) by `docs/make-errors.sh`. The gate runs every example.\n"
+        print "| Name | Meaning |\n|---|---|"
+        for (i = 1; i <= count; i++) {
+            if (names[i] in is_part) continue
+            text = texts[names[i], "says"]
+            gsub(/\n/, " ", text)
+            printf "| [%s](#%s) | %s |\n", names[i], place(names[i]), first(text)
+        }
+        for (i = 1; i <= count; i++) {
+            name = names[i]
+            printf "\n%s %s\n", name in is_part ? "##" : "###", name
+            show(name, "says", "")
+            show_example(name, "setup", "The examples use:")
+            if ((name, "prints") in texts) show_example(name, "wrong", "Wrong, gives `" texts[name, "prints"] "`:")
+            show_example(name, "right", "Correct:")
+            show(name, "expected", "Expected:")
+            show(name, "meant", "Usual cause:")
+        }
+    }' errors.txt
