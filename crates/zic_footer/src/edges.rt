@@ -9,12 +9,10 @@ ghost use Rattle.zic_source.specs.Sound.{IsWithinDay};
 ghost use Rattle.zic_footer.specs.Making as making;
 ghost use Rattle.zic_footer.specs.code.Turns.{IsYearly, IsSmall};
 
-use zic_calendar::{On, day_of, days_in_month};
+use zic_calendar::{On, SECONDS_OF_DAY, day_of, days_in_month};
 use zic_posix::{DayRule, Edge};
 use zic_rules::TailRule;
 use zic_source::{ClockForm, ClockTime};
-
-const SECONDS_OF_DAY: i32 = 86_400;
 
 /// A year without a February 29.
 const COMMON_YEAR: i64 = 1;
@@ -44,7 +42,7 @@ pub(crate) fn edge_of(standard: i32, rule: &TailRule, saved: i32) -> Edge
     let at = day_of_form(moment.month, moment.on);
     Edge {
         day: at.day,
-        time: wall_time(standard, moment.at, saved) + SECONDS_OF_DAY * at.shift,
+        time: wall_time(standard, moment.at, saved) + SECONDS_OF_DAY as i32 * at.shift,
     }
 }
 

@@ -13,9 +13,7 @@ ghost use Rattle.zic_posix.specs.code.State.{IsInCycle, IsLatestYear, IsYearOfCy
 
 use crate::footer::{DayRule, Dst, Edge, Footer};
 use zic_base::State;
-use zic_calendar::{On, civil, day_of};
-
-const SECONDS_OF_DAY: i64 = 86_400;
+use zic_calendar::{On, SECONDS_OF_DAY, civil, day_of};
 
 /// The seconds of 400 years, after which the calendar comes again.
 pub(crate) const CYCLE: i64 = 146_097 * SECONDS_OF_DAY;

@@ -1,5 +1,7 @@
 //! Limits of an instant.
 
+use zic_calendar::SECONDS_OF_DAY;
+
 /// The most digits of an instant.
 pub const MAX_DIGITS: usize = 18;
 
@@ -19,4 +21,4 @@ pub(crate) const DAYS_TO_1970: u32 = 719_162;
 pub(crate) const DAYS: u32 = 3_652_059;
 
 /// The seconds of a day.
-pub(crate) const DAY: u32 = 86_400;
+pub(crate) const DAY: u32 = SECONDS_OF_DAY as u32;

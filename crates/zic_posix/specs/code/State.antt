@@ -1,7 +1,8 @@
 -- What the code of states computes; no public contract cites it.
 use Rattle.std.specs.Prelude.{◌≡◌, ℤ, pos, ◌+ℤ◌, ◌-ℤ◌, ◌*ℤ◌, ◌<ℤ◌, ◌≤ℤ◌}
 use Rattle.zic_posix.specs.declared.footer.Edge.{Edge}
-use Rattle.zic_posix.specs.declared.state.TheConstants.{SECONDS_OF_DAY, CYCLE, FARTHEST_DAYS}
+use Rattle.zic_calendar.specs.declared.clock.TheConstants.{SECONDS_OF_DAY}
+use Rattle.zic_posix.specs.declared.state.TheConstants.{CYCLE, FARTHEST_DAYS}
 use Rattle.zic_posix.specs.Laws.{IsInYear, IsLastNotAfter}
 use Rattle.zic_posix.specs.Meaning.{local_second}
 
