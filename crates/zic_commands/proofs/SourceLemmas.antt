@@ -2,6 +2,7 @@
 use Rattle.std.proofs.Common.{◌≡◌, ◌≢◌, ◌⊎◌, ◌≤◌, ℕ, inl, inr, Bool, true, false, List, [], ◌∷◌, ◌++◌, length, Option, None, ◌∙◌, refl, sym}
 use Rattle.std.specs.Prelude.{All, IfSome, bytes_eq, if◌then◌else◌}
 use Rattle.std.proofs.lemmas.Bool.{cases_Bool, true≢false}
+use Rattle.std.proofs.lemmas.List.Elements.{All-cons, All-head, All-nil, All-tail}
 use Rattle.std.proofs.lemmas.Slice.Eq.{bytes_eq-Decides}
 use Rattle.zic_counted.specs.Counts.{Counts}
 use Rattle.zic_commands.specs.Failing.{IsFailureOfSources, IsFailureOfWord}
@@ -57,6 +58,14 @@ text_more (first ∷ words) input (of_first ∷ texts) word text are is = (are.0
 -- none of the words is that of standard input
 abbrev pub AreFiles : List (List ℕ) → Type 0
 AreFiles words = All (λ word. word ≢ STANDARD_INPUT.now) words
+
+-- none of the words is that of standard input: so it is of those before a word, and of the word
+pub files_parts : (before : List (List ℕ)) (word : List ℕ) (after : List (List ℕ)) → AreFiles (before ++ word ∷ after) → AreFiles before × (word ≢ STANDARD_INPUT.now)
+files_parts [] word after files = (All-nil (λ w. w ≢ STANDARD_INPUT.now), All-head (λ w. w ≢ STANDARD_INPUT.now) word after files)
+files_parts (first ∷ before) word after files =
+    let P = λ (w : List ℕ). w ≢ STANDARD_INPUT.now in
+    let rest = files_parts before word after (All-tail P first (before ++ word ∷ after) files) in
+    (All-cons P first before (All-head P first (before ++ word ∷ after) files) rest.0, rest.1)
 
 -- the word at which reading ends
 pub source_stop : {I : Type 0} (words before : List (List ℕ)) (word : List ℕ) (after : List (List ℕ)) (input : Option (List ℕ)) (texts : List (List ℕ)) (first old new : Counts I)

@@ -1,6 +1,6 @@
 //! The words for sources and files, and what is read by them.
 
-ghost use Rattle.std.specs.Prelude.{◌≡◌, ◌≢◌, ◌≤◌, length, map, string_bytes, IfOk, IfErr, IfSome};
+ghost use Rattle.std.specs.Prelude.{◌≡◌, ◌≢◌, ◌≤◌, length, map, string_bytes, All, IfOk, IfErr, IfSome};
 ghost use Rattle.zic_source.specs.Texts.{texts_of};
 ghost use Rattle.zic_commands.specs.Failing.{IsFailureOfPath, IsFailureOfSources, IsFailureOfWord};
 ghost use Rattle.zic_commands.specs.Sources.{known_of, AreTextsOf};
@@ -15,8 +15,8 @@ use zic_counted::Counted;
 use zic_plan::STANDARD_INPUT;
 
 /// Returns the texts that the words name, which are read from left to right: `-` is standard
-/// input, and any other word a path. Each file is closed before the next is opened, and before the
-/// call returns.
+/// input, and any other word a path. Standard input is read only where a word is `-`. Each file is
+/// closed before the next is opened, and before the call returns.
 ///
 /// # Errors
 ///
@@ -32,6 +32,8 @@ pub fn read_sources<F: FileSystem, I: Read>(
         (I.remaining input.old.inner) (texts_of texts.items)) }
     ensures err { IfErr result (IsFailureOfSources (map string_bytes words.now)
         (I.remaining input.old.inner) input.old input.new) }
+    ensures unasked { All (λ w. w ≢ STANDARD_INPUT.now) (map string_bytes words.now)
+        → input.new ≡ input.old }
 {
     let mut texts = Vec::new(alloc);
     for word in words {

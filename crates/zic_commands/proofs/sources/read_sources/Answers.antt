@@ -5,7 +5,7 @@ use Rattle.std.proofs.lemmas.Result.{err_from_is_err_and}
 use Rattle.zic_source.specs.Texts.{texts_of}
 use Rattle.zic_plan.specs.declared.word.TheConstants.{STANDARD_INPUT}
 use Rattle.zic_commands.proofs.ListLemmas.{taken, parts}
-use Rattle.zic_commands.proofs.SourceLemmas.{known_afters, known_more, known_on, source_stop, text_more, text_of}
+use Rattle.zic_commands.proofs.SourceLemmas.{files_parts, known_afters, known_more, known_on, source_stop, text_more, text_of}
 use Rattle.zic_commands.proofs.sources.read_sources.Goals as goal
 
 pub returns-in_err-source_text-clause-err : goal.returns-in_err-source_text-clause-err
@@ -19,6 +19,28 @@ returns-in_err-source_text-clause-err g c =
     rw (p.1, p.2) (source_stop (map string_bytes words) (map string_bytes (take l.word-index words)) (string_bytes word) (map string_bytes (drop (l.word-index + 1) words))
     (g.I.Read.remaining c.args.input.now.inner) (texts_of l.texts.items) c.args.input.now l.input c.source_text.new.input
     c.in_err-source_text.field-0.0 whole l.invariant.0 l.invariant.2 unread)
+
+pub returns-in_err-source_text-clause-unasked : goal.returns-in_err-source_text-clause-unasked
+returns-in_err-source_text-clause-unasked g c =
+    let l = c.loop-word in
+    let word = c.word-item.result in
+    let words = c.args.words.now in
+    let whole = ap (map string_bytes) (parts words l.word-index word (omega arith) (sym c.word-item.is)) ∙ map-append string_bytes (take l.word-index words) (word ∷ drop (l.word-index + 1) words) in
+    let unasked = rw c.as_str.ensures.value at c.source_text.ensures.unasked in
+    λ files.
+      let split = files_parts (map string_bytes (take l.word-index words)) (string_bytes word) (map string_bytes (drop (l.word-index + 1) words)) (rw whole at files) in
+      unasked split.1 ∙ l.invariant.2 split.0
+
+pub returns-in_err-push-clause-unasked : goal.returns-in_err-push-clause-unasked
+returns-in_err-push-clause-unasked g c =
+    let l = c.loop-word in
+    let word = c.word-item.result in
+    let words = c.args.words.now in
+    let whole = ap (map string_bytes) (parts words l.word-index word (omega arith) (sym c.word-item.is)) ∙ map-append string_bytes (take l.word-index words) (word ∷ drop (l.word-index + 1) words) in
+    let unasked = rw c.as_str.ensures.value at c.source_text.ensures.unasked in
+    λ files.
+      let split = files_parts (map string_bytes (take l.word-index words)) (string_bytes word) (map string_bytes (drop (l.word-index + 1) words)) (rw whole at files) in
+      unasked split.1 ∙ l.invariant.2 split.0
 
 pub loop-word-preserved : goal.loop-word-preserved
 loop-word-preserved g c =
