@@ -5,8 +5,9 @@ ghost use Rattle.std.specs.Prelude.{◌≤◌};
 use std::alloc::Global;
 use std::test::Fail;
 use zic_base::{Fault, Kind, Stop};
+use zic_calendar::On;
 use zic_occurrences::*;
-use zic_source::{Rules, Source, read_source};
+use zic_source::{ClockForm, ClockTime, Moment, Rules, Source, read_source};
 
 /// Returns the source of this text.
 fn source(alloc: Global, text: &[u8]) -> Result<Source, Fail> {
@@ -199,18 +200,20 @@ fn rules_and_years(rt: HostRuntime) -> Result<(), Fail> {
 
 #[test]
 fn seconds_of_moments(rt: HostRuntime) -> Result<(), Fail> {
-    let text = b"Rule US 2007 max - Mar Sun>=8 2:00 1:00 D\nZone A -5:00 US E%sT";
-    let source = source(rt.alloc(), text)?;
-    if source.rules() == 0 {
-        return Err(Fail::from("a rule"));
-    }
-    let rule = source.rule(0);
-    assert_eq!(rt; year_second(rule.first), 1_167_609_600);
-    // 2007-03-11 02:00 by the wall clock, five hours west of UT.
-    let second = nominal_second(rule.first, &rule.moment);
+    assert_eq!(rt; year_second(2007), 1_167_609_600);
+    // Mar Sun>=8 2:00: 2007-03-11 02:00 by the wall clock, five hours west of UT.
+    let moment = Moment {
+        month: 3,
+        on: On::After { weekday: 0, day: 8 },
+        at: ClockTime {
+            seconds: 7_200,
+            form: ClockForm::Wall,
+        },
+    };
+    let second = nominal_second(2007, &moment);
     assert_eq!(rt; second, 1_173_578_400);
     assert_eq!(rt;
-        instant_by(rule.moment.at.form, -18_000, 0, second),
+        instant_by(moment.at.form, -18_000, 0, second),
         1_173_596_400
     );
     Ok(())
