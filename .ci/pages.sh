@@ -94,7 +94,7 @@ run_page() (
     page=$1 state=text needs='' command='' wanted='' status=0 commands=0 left_out=0 stop_postgres=()
     trap '[ "${#stop_postgres[@]}" = 0 ] || "${stop_postgres[@]}" >>"$work/postgres.log" 2>&1' EXIT
     enter_home "${page##*/}" || exit
-    ln -s "$repository"/{crates,man,completions,docs,witness} .
+    ln -s "$repository"/{.ci,crates,man,completions,docs,witness} .
     ln -s crates/zic_main/out/zic_main pzic
     make_tzdata
     while IFS= read -r line || [ "$line" ]; do
