@@ -7,6 +7,7 @@
 set -euo pipefail
 cd "$(dirname "${BASH_SOURCE[0]}")/.."
 . .ci/release.sh
+build zic_main check -
 unset -f install
 work=${work:?} release=${release:?}
 root=$work/root

@@ -1,15 +1,16 @@
 #!/usr/bin/env bash
 # Makes a Debian package of the built program, and prints its path: `.ci/package.sh [FOLDER]`, by
-# default in the current folder. The package has the program as the gate ran it, the manual page, the
-# completions, the pages for users, and the notices of the kit's crates that are linked in. The same
-# tree gives the same bytes: each time is that of the newest entry of docs/CHANGELOG.md.
-# DEBFULLNAME and DEBEMAIL name the maintainer. It needs `dpkg-deb`, and no network.
+# default in the current folder. The package has the program, the manual page, the completions, the
+# pages, and the notices of the kit's libraries that are linked in. The same tree gives the same
+# bytes: each time is that of the newest entry of docs/CHANGELOG.md. DEBFULLNAME and DEBEMAIL name
+# the maintainer. It needs `dpkg-deb`, and no network.
 set -euo pipefail
 shopt -s inherit_errexit
 folder=$(realpath -e -- "${1:-.}")
 cd -P "$(dirname "${BASH_SOURCE[0]}")/.."
 . .ci/build.sh
-build zic_main check -
+# the launcher proves and builds the program where that is needed
+[ -e "$BUILT/zic_main" ] || ./pzic check - </dev/null
 program=crates/zic_main/out/zic_main
 kit=$(dirname "$(rt doc)")
 tree=${work:?}/tree
