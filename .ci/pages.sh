@@ -91,10 +91,10 @@ make_tzdata() {
 # run_page PAGE: runs the blocks of a page, in a folder that has what a checkout installs.
 run_page() (
     set +eu
-    page=$1 state=text needs='' command='' wanted='' status=0 commands=0 left_out=0 stop_postgres=()
+    page=$1 state=text needs='' command='' wanted='' status=0 commands=0 left_out='' stop_postgres=()
     trap '[ "${#stop_postgres[@]}" = 0 ] || "${stop_postgres[@]}" >>"$work/postgres.log" 2>&1' EXIT
     enter_home "${page##*/}" || exit
-    ln -s "$repository"/{crates,man,completions,docs,witness} .
+    ln -s "$repository"/{.ci,crates,man,completions,docs,witness} .
     ln -s crates/zic_main/out/zic_main pzic
     make_tzdata
     while IFS= read -r line || [ "$line" ]; do
@@ -102,7 +102,7 @@ run_page() (
         'text:<!-- needs: '*' -->') needs=${line#<!-- needs: } needs=${needs% -->} ;;
         'text:```console')
             # shellcheck disable=SC2086
-            if is_wanted $needs; then state=block; else state=other left_out=$((left_out + 1)); fi
+            if is_wanted $needs; then state=block; else state=other left_out+=" $needs"; fi
             ;;
         'text:```'*) state=other ;;
         'block:```')
@@ -121,7 +121,7 @@ run_page() (
         block:*) wanted+=$line$'\n' ;;
         esac
     done <"$repository/$page"
-    echo "pages: $commands commands of $page are run, $left_out blocks are left out"
+    echo "pages: $commands commands of $page are run${left_out:+; left out are blocks that need$left_out}"
 )
 
 # ------------------------------------------------------------------ examples of errors
@@ -237,10 +237,25 @@ words=$(completed pzic '')
 
 # ------------------------------------------------------------------ the pages themselves
 
+kit=$(rt version | head -n 1)
+for page in README.md docs/help/version.txt; do
+    grep -qF -- "$kit" "$page" || differ "$page doesn't name the kit, $kit"
+done
 [ "$(wc -l <README.md)" -le 180 ] || differ "README.md has $(wc -l <README.md) lines"
+# Prints the anchors of a page's headings.
+anchors_of() {
+    sed -n 's/^##* //p' "$1" | tr '[:upper:] ' '[:lower:]-' | tr -cd '[:lower:][:digit:]_\n-'
+}
 for page in README.md docs/*.md; do
-    for link in $(grep -oE '\]\([^)#: ]+' "$page" | cut -c 3-); do
-        [ -e "$(dirname "$page")/$link" ] || differ "$page links to $link, which isn't there"
+    for link in $(grep -oE '\]\([^): ]+' "$page" | cut -c 3-); do
+        file=${link%%#*}
+        file=${file:+$(dirname "$page")/}${file:-$page}
+        if [ ! -e "$file" ]; then
+            differ "$page links to $file, which isn't there"
+        elif [[ $link = *'#'* ]]; then
+            grep -qx -- "${link#*#}" <<<"$(anchors_of "$file")" ||
+                differ "$page links to $link, and $file has no such heading"
+        fi
     done
 done
 # PROOF.md names only definitions that exist, and tells of every crate.

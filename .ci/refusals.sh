@@ -13,7 +13,7 @@ cc -O2 -shared -fPIC -ftls-model=initial-exec -o "$work/refuse.so" .ci/refuse.c
 
 # ------------------------------------------------------------------ tasks of five pieces
 
-if [ ! -e "${BUILT:+$BUILT/zic_pieces_tests}" ] && ! (cd crates/zic_pieces && rt test) >"$work/log" 2>&1; then
+if [ ! -e "$BUILT/zic_pieces_tests" ] && ! (cd crates/zic_pieces && rt test) >"$work/log" 2>&1; then
     cat "$work/log" >&2
     exit 1
 fi

@@ -1,0 +1,112 @@
+#!/usr/bin/env bash
+# Makes the package of .ci/package.sh twice, with the same bytes, and installs it into a folder of its
+# own: as root by `dpkg --root`, over a list of packages that has libc6 alone, and removes it in the
+# end; else by `dpkg-deb -x`. Tries it there: each command, the manual page, the completions, the
+# notices, and the links of the pages. As root the program runs by `chroot`, where there is nothing
+# but the package and the files of libc6 that the program is linked with.
+set -euo pipefail
+cd "$(dirname "${BASH_SOURCE[0]}")/.."
+. .ci/release.sh
+build zic_main check -
+unset -f install
+work=${work:?} release=${release:?}
+root=$work/root
+differences=0
+
+differ() {
+    echo "$1" >&2
+    differences=$((differences + 1))
+}
+
+# expect OUTPUT COMMAND...: compares what a command prints with what it should.
+expect() {
+    local wanted=$1 got status=0
+    shift
+    got=$("$@" 2>&1) || status=$?
+    [ "$got" = "$wanted" ] ||
+        differ "'$*' prints '${got:0:300}' with status $status, and not '${wanted:0:300}'"
+}
+
+# ------------------------------------------------------------------ installing
+
+mkdir "$work/again" "$root"
+package=$(.ci/package.sh "$work")
+cmp "$package" "$(.ci/package.sh "$work/again")" >&2 || differ 'two packages of the same tree differ'
+# images of containers often tell dpkg to leave out documents
+in_root=(dpkg --root="$root" --log="$work/dpkg.log" --path-include='/*')
+if [ "$(id -u)" = 0 ]; then
+    how='dpkg --root, run by chroot'
+    mkdir -p "$root"/var/lib/dpkg/{info,updates}
+    dpkg-query -s libc6 >"$root/var/lib/dpkg/status"
+    "${in_root[@]}" -i "$package" >"$work/log" 2>&1 || differ "dpkg: $(tail -n 3 "$work/log")"
+    expect '' "${in_root[@]}" --verify pzic
+    libc=$(dpkg-query -L libc6)
+    for file in $(ldd "$root/usr/bin/pzic" | grep -o '/[^ ]*'); do
+        grep -qxF -- "$file" <<<"$libc" || differ "the program needs $file, which isn't of libc6"
+        install -D "$file" "$root$file"
+    done
+    pzic=(env -i "$(command -v chroot)" "$root" /usr/bin/pzic)
+else
+    how='dpkg-deb -x'
+    dpkg-deb -x "$package" "$root"
+    pzic=(env -i "$root/usr/bin/pzic")
+fi
+share=$root/usr/share
+cmp crates/zic_main/out/zic_main "$root/usr/bin/pzic" >&2 || differ 'the package has another program'
+
+# ------------------------------------------------------------------ the program
+
+cp "$release" "$root/release.zi"
+printf '%s\n' America/New_York,1173596399 America/New_York,1173596400 >"$work/column"
+rows='America/New_York,1173596399,2007-03-11T01:59:59,-05:00:00,0,EST
+America/New_York,1173596400,2007-03-11T03:00:00,-04:00:00,1,EDT'
+names=$(awk '/^Z/ { print $2 } /^L/ { print $3 }' "$release" | sort)
+
+names_of_check() { "${pzic[@]}" check release.zi | cut -d ' ' -f 1 | sort; }
+names_of_tree() { (cd "$root/tree" && find . -type f | cut -c 3- | sort); }
+
+expect "$(cat docs/help/version.txt)" "${pzic[@]}" --version
+cd "$root"
+expect "$names" names_of_check
+expect '' "${pzic[@]}" build tree release.zi
+expect "$names" names_of_tree
+expect '-04:00:00 1 EDT' "${pzic[@]}" show tree/America/New_York 1173596400
+expect "$rows" "${pzic[@]}" convert release.zi <"$work/column"
+expect '2007-03-11 03:00:00 EDT' \
+    env TZDIR="$root/tree" TZ=America/New_York date -d @1173596400 '+%F %T %Z'
+cd "$OLDPWD"
+
+# ------------------------------------------------------------------ what lies beside it
+
+manual_name() { LC_ALL=C man --warnings -l "$share/man/man1/pzic.1.gz" | sed -n '/^NAME/{n;s/ *- .*//p}'; }
+completed() {
+    bash -c '
+        . "$1" && complete -p pzic
+        COMP_WORDS=(pzic "$2") COMP_CWORD=1
+        _pzic
+        printf "%s\n" "${COMPREPLY[@]}"' bash "$share/bash-completion/completions/pzic" "$1"
+}
+
+if command -v man >"$work/log"; then expect '       pzic' manual_name; fi
+expect $'complete -o filenames -F _pzic pzic\nshow' completed sh
+! command -v zsh >"$work/log" || expect '' zsh -n "$share/zsh/vendor-completions/_pzic"
+# README.md names each library of which the package has a notice.
+named=$(sed -n '/^## .*licence/,$p' README.md)
+for crate in $(sed -n 's/^---- //p' "$share/doc/pzic/copyright"); do
+    grep -qw -- "$crate" <<<"$named" || differ "README.md doesn't name $crate, which has a notice"
+done
+for page in "$share"/doc/pzic/README.md "$share"/doc/pzic/docs/*.md; do
+    for link in $(grep -oE '\]\([^)#: ]+' "$page" | cut -c 3-); do
+        [ -e "${page%/*}/$link" ] || differ "${page##*/} links to $link, which isn't in the package"
+    done
+done
+
+# ------------------------------------------------------------------ removing
+
+if [ "$(id -u)" = 0 ]; then
+    "${in_root[@]}" -P pzic >"$work/log" 2>&1 || differ "dpkg: $(tail -n 3 "$work/log")"
+    [ ! -e "$root/usr" ] || differ "the package leaves $(find "$root/usr" | tail -n 1)"
+fi
+
+echo "installed: ${package##*/} by $how, $differences differences"
+[ "$differences" = 0 ]
