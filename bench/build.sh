@@ -56,7 +56,7 @@ for source in "$release" "$work/zones" "$work/lines"; do
     done
 done
 
-# once: the difference that so many times make
+# part NAME MANY COMMAND...: the time of a command that does its work once, of the difference between MANY times and none
 part() {
     name=$1 many=$2
     shift 2

@@ -1,9 +1,11 @@
-//! For `bench/convert.sh`: prints a column of so many rows, of the zones that standard input names, one a line.
+//! For `bench/convert.sh`: prints a column of ROWS rows, of the zones that standard input names, one
+//! a line.
 //!
 //! usage: column KIND ROWS
 //!
-//! `random`: zones by chance, instants by chance from 1970 to 2037. `rising`: the first zone, instants that rise evenly through the
-//! same years. `footer`: as `random`, from 2040 to 2400. Chance has a fixed seed.
+//! `random`: zones by chance, instants by chance from 1970 to 2037. `rising`: the first zone,
+//! instants that rise evenly through the same years. `footer`: as `random`, from 2040 to 2400.
+//! `quoted`: as `random`, both fields in double quotes. Chance has a fixed seed.
 
 use std::io::{BufWriter, Read, Write};
 

@@ -23,7 +23,7 @@ build() {
 
 # plain NAME: builds $work/NAME of bench/NAME.rs, in plain Rust
 plain() {
-    rustc --edition 2021 -O -o "$work/$1" "bench/$1.rs"
+    rustc --edition 2021 -C opt-level=3 -o "$work/$1" "bench/$1.rs"
 }
 
 # side_by_side NAME: builds $work/NAME and the program of the benchmarks, which by the word NAME has to print the same

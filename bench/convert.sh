@@ -1,26 +1,40 @@
 #!/bin/sh
-# Times `convert` over columns of ROWS rows (10,000,000): of all zones of the system's release of the tz database by chance, with instants
-# by chance from 1970 to 2037; of America/New_York, with rising instants; of all zones, from 2040 to 2400, the years of footers; and the
-# first with both fields in double quotes, by pzic alone. By
-# 1, 2 and 4 workers and pieces of 1,024 and 65,536 rows, with the rows written to a file in memory and to nowhere. In turn with it run
-# `convert.rs` by 1, 2 and 4 threads, and Debian's C++ date library (`convert.cpp`, not for the years of footers, which it doesn't
-# read); and once, over a tenth of the rows, Python's zoneinfo. All have to write the same rows. Prints million rows a second of
-# the best of RUNS runs (3), its processor time for each row, and the most memory of a run; then what is aimed at, and the time from
-# the start to the end of a column of one row. With the word `stream` it instead converts a column of ROWS rows (100,000,000, of just
-# under 4 GiB) through pipes. PZIC is the program, if it isn't to be built. It needs `rt`, `rustc`, `g++`, `python3`, GNU time, apt-get
-# or the library, and the release.
+# Times `pzic convert` beside two other converters, each by 1 and 4 workers, in one run: the plain
+# Rust of `convert.rs`, and Debian's C++ date library with a cache of spans (`convert.cpp`).
+#
+# usage: convert.sh [ROWS] | convert.sh stream [ROWS]
+#
+# The columns have ROWS rows (10,000,000): of all zones of the system's release of the tz database
+# by chance, with instants by chance from 1970 to 2037; of America/New_York, with instants that
+# rise through the same years; of all zones, from 2040 to 2400, the years of footers; and the first
+# with both fields in double quotes. Rows go to nowhere. The converters take turns, RUNS (3) times
+# each. The table has the best time of each in seconds and in million rows a second; of pzic how
+# many times as fast it is as with 1 worker, and the most memory of a run; and of the others how
+# fast pzic is beside them ("pzic is 80 %": it makes 80 rows where they make 100).
+#
+# Before that the rows of all are compared over columns of 1,000,000 rows (or ROWS, if fewer). They
+# are the same with 1 and 4 workers, but for the C++ library in years of footers, which it doesn't
+# read. At the end stands the time from start to end of a column of one row.
+#
+# With the word `stream` pzic alone converts a column of ROWS rows (100,000,000, of just under 4
+# GiB) through pipes.
+#
+# PZIC is the program, if it isn't to be built. It needs `rt`, `rustc`, `g++`, GNU time, apt-get or
+# the library, and the release.
 set -eu
 . "$(dirname "$0")/common.sh"
-rows=${ROWS:-10000000}
+mode=table
+if [ "${1:-}" = stream ]; then
+    mode=stream
+    shift
+fi
 runs=${RUNS:-3}
 program=${PZIC:-crates/zic_main/out/zic_main}
 [ "${PZIC:-}" ] || build zic_main check -
 plain column
-plain convert
 "$program" build "$work/tree" "$release"
 # the C++ library leaves out Factory
 (cd "$work/tree" && find . -type f) | sed 's,^\./,,' | grep -v '^Factory$' | LC_ALL=C sort >"$work/names"
-echo America/New_York >"$work/name"
 
 load() {
     echo "load $(cut -d ' ' -f 1 /proc/loadavg)"
@@ -28,8 +42,8 @@ load() {
 
 # ------------------------------------------------------------------ the stream
 
-if [ "${1:-}" = stream ]; then
-    rows=${ROWS:-100000000}
+if [ "$mode" = stream ]; then
+    rows=${1:-100000000}
     # names of 30 octets and more
     grep '.\{30\}' "$work/names" >"$work/long"
     octets=$("$work/column" random "$rows" <"$work/long" | wc -c)
@@ -44,127 +58,105 @@ if [ "${1:-}" = stream ]; then
     exit
 fi
 
-# ------------------------------------------------------------------ the library
+# ------------------------------------------------------------------ the converters
 
+rows=${1:-10000000}
+plain convert
 [ -f /usr/include/date/tz.h ] || {
     apt-get update -qq >&2
     DEBIAN_FRONTEND=noninteractive apt-get install -y -qq libhowardhinnant-date-dev >&2
 }
-g++ -std=c++17 -O2 -DUSE_OS_TZDB=1 -o "$work/library" bench/convert.cpp -ldate-tz
+g++ -std=c++17 -O2 -DUSE_OS_TZDB=1 -pthread -o "$work/library" bench/convert.cpp -ldate-tz
 
-# ------------------------------------------------------------------ runs
-
-# once NAME COMMAND...: runs a converter over the column, and keeps its nanoseconds, its seconds of processor time, and its memory
-once() {
-    name=$1 kept=$work/runs.$1
-    shift
-    case $name in *.file) out=$work/rows ;; *) out=/dev/null ;; esac
-    start=$(date +%s%N)
-    command time -f '%U %S %M' -o "$work/usage" "$@" <"$column" >"$out"
-    echo "$(($(date +%s%N) - start)) $(tail -n 1 "$work/usage")" >>"$kept"
-    case $name in *.file) same "$name" ;; esac
+# convert CONVERTER WORKERS: converts standard input, and keeps the most kilobytes of the run
+convert() {
+    case $1 in
+    pzic) set -- "$program" convert --workers "$2" "$release" ;;
+    convert.rs) set -- "$work/convert" "$work/tree" "$2" ;;
+    convert.cpp) set -- "$work/library" "$2" ;;
+    esac
+    command time -f %M -o "$work/kilobytes" "$@"
 }
 
-# the first rows of a column are kept, and have to be those of each other converter
-same() {
-    if [ ! -f "$work/wanted" ]; then
-        mv "$work/rows" "$work/wanted"
-    elif ! cmp "$work/rows" "$work/wanted" >&2; then
-        echo "$kind: the rows of $1 are others" >&2
-        exit 1
-    fi
-    rm -f "$work/rows"
+# column KIND ROWS
+column() {
+    if [ "$1" = rising ]; then echo America/New_York; else cat "$work/names"; fi >"$work/zones"
+    "$work/column" "$1" "$2" <"$work/zones" >"$work/column.csv"
 }
 
-# one round of all converters, with their rows to a file or to nowhere
-round() {
-    for workers in 1 2 4; do
-        [ "$kind" = quoted ] || once "convert.rs.$workers.$1" "$work/convert" "$work/tree" "$workers"
-        for piece in 1024 65536; do
-            once "pzic.$workers.$piece.$1" "$program" convert --workers "$workers" --row-piece "$piece" "$release"
-        done
-    done
-    case $kind in footer | quoted) ;; *) once "convert.cpp.1.$1" "$work/library" ;; esac
-}
+# ------------------------------------------------------------------ the rows compared
 
-# the nanoseconds of the best run of a name, and those of its processor time
-best_of() {
-    sort -n "$work/runs.$1" | awk 'NR == 1 { printf "%.0f %.0f\n", $1, ($2 + $3) * 1e9 }'
-}
-
-report() {
-    sort -n "$work/runs.$2" | awk -v name="$1" -v rows="$3" '
-        NR == 1 { speed = rows * 1e3 / $1; processor = ($2 + $3) * 1e9 / rows }
-        $4 > most { most = $4 }
-        END { printf "%s: %.2f million rows a second, %.0f ns of processor time a row, %.0f MB\n", name, speed, processor, most / 1000 }'
-}
-
-report_all() {
-    for where in file nowhere; do
-        for workers in 1 2 4; do
-            for piece in 1024 65536; do
-                report "$kind, pzic by $workers, pieces of $piece, to $where" "pzic.$workers.$piece.$where" "$rows"
-            done
-            [ "$kind" = quoted ] || report "$kind, convert.rs by $workers, to $where" "convert.rs.$workers.$where" "$rows"
-        done
-        case $kind in footer | quoted) ;; *) report "$kind, convert.cpp by 1, to $where" "convert.cpp.1.$where" "$rows" ;; esac
-    done
-}
-
-# by Python, over a tenth of the rows
-by_python() {
-    tenth=$((rows / 10))
-    head -n "$tenth" "$column" >"$work/column.tenth"
-    head -n "$tenth" "$work/wanted" >"$work/wanted.tenth"
-    mv "$work/wanted.tenth" "$work/wanted"
-    column=$work/column.tenth
-    once python.file env "PYTHONTZPATH=$work/tree" python3 witness/rows.py
-    report "$kind, Python's zoneinfo, a tenth of the rows, to file" python.file "$tenth"
-}
-
-# aim WORKERS RATE: the better of both pieces beside what is aimed at, in million rows a second, and beside convert.rs
-aim() {
-    pzic=$({ best_of "pzic.$1.1024.nowhere" && best_of "pzic.$1.65536.nowhere"; } | sort -n | head -n 1)
-    echo "$pzic $(best_of "convert.rs.$1.nowhere")" | awk -v what="$kind by $1" -v rows="$rows" -v wanted="$2" '{
-        printf "%s: %.1f million rows a second, and %d are aimed at; ", what, rows * 1e3 / $1, wanted
-        printf "%.0f %% of convert.rs, and 50 %% are aimed at (%.0f %% by processor time)\n", 100 * $3 / $1, 100 * $4 / $2
-    }'
-}
-
-# gain: the better of both pieces by 4 workers beside that by 1
-gain() {
-    by_one=$({ best_of pzic.1.1024.nowhere && best_of pzic.1.65536.nowhere; } | sort -n | head -n 1)
-    by_four=$({ best_of pzic.4.1024.nowhere && best_of pzic.4.65536.nowhere; } | sort -n | head -n 1)
-    echo "$by_one $by_four" | awk -v what="$kind" '{ printf "%s: by 4 workers %.1f times what 1 makes, and 3 are aimed at\n", what, $1 / $3 }'
-}
-
-# compare KIND NAMES AIM AIM: all converters on a column, with what is aimed at by 1 and by 4 workers
+# compare KIND CONVERTER WORKERS: its rows beside the kept ones of pzic by 1 worker
 compare() {
-    kind=$1 column=$work/column.$1
-    rm -f "$work"/runs.* "$work"/column.* "$work/wanted"
-    "$work/column" "$kind" "$rows" <"$work/$2" >"$column"
-    echo "$kind: $(load)"
+    convert "$2" "$3" <"$work/column.csv" >"$work/rows"
+    cmp -s "$work/wanted" "$work/rows" && return
+    others=$(paste -d ';' "$work/wanted" "$work/rows" | awk -F ';' '$1 != $2 { n++ } END { print n + 0 }')
+    echo "$1: $others of $sample rows of $2 with $3 workers are others than those of pzic with 1"
+    [ "$1 $2" = 'footer convert.cpp' ]
+}
+
+sample=$((rows < 1000000 ? rows : 1000000))
+for kind in random rising footer quoted; do
+    column "$kind" "$sample"
+    convert pzic 1 <"$work/column.csv" >"$work/wanted"
+    count=$(wc -l <"$work/wanted")
+    [ "$count" -eq "$sample" ] || echo "$kind: pzic wrote $count rows of $sample" >&2
+    [ "$count" -eq "$sample" ]
+    compare "$kind" pzic 4
+    for workers in 1 4; do
+        compare "$kind" convert.rs "$workers"
+        compare "$kind" convert.cpp "$workers"
+    done
+done
+rm -f "$work/wanted" "$work/rows"
+echo "all other rows of columns of $sample rows are the same"
+
+# ------------------------------------------------------------------ the times
+
+# once CONVERTER WORKERS: keeps the nanoseconds of a run to nowhere, and its kilobytes
+once() {
+    start=$(date +%s%N)
+    convert "$1" "$2" <"$work/column.csv" >/dev/null
+    echo "$(($(date +%s%N) - start)) $(tail -n 1 "$work/kilobytes")" >>"$work/runs.$1.$2"
+}
+
+# best_of CONVERTER WORKERS: the nanoseconds of its best run
+best_of() {
+    sort -n "$work/runs.$1.$2" | head -n 1 | cut -d ' ' -f 1
+}
+
+# line KIND WORKERS: a line of the table
+line() {
+    most=$(cut -d ' ' -f 2 "$work/runs.pzic.$2" | sort -n | tail -n 1)
+    echo "$(best_of pzic "$2") $(best_of convert.rs "$2") $(best_of convert.cpp "$2") $(best_of pzic 1) $most" |
+        awk -v kind="$1" -v workers="$2" -v rows="$rows" '{
+            printf "%-6s %7d |", kind, workers
+            printf " %7.2f %8.2f %7.2f %4.0f |", $1 / 1e9, rows * 1e3 / $1, $4 / $1, $5 / 1e3
+            printf " %7.2f %8.2f %5.0f %% |", $2 / 1e9, rows * 1e3 / $2, 100 * $2 / $1
+            printf " %7.2f %8.2f %5.0f %%\n", $3 / 1e9, rows * 1e3 / $3, 100 * $3 / $1
+        }'
+}
+
+# time_all KIND: the lines of a column
+time_all() {
+    rm -f "$work"/runs.*
+    column "$1" "$rows"
     turn=0
     while [ "$turn" -lt "$runs" ]; do
-        round file
-        round nowhere
+        for workers in 1 4; do
+            for converter in pzic convert.rs convert.cpp; do once "$converter" "$workers"; done
+        done
         turn=$((turn + 1))
     done
-    report_all
-    gain
-    if [ "$kind" != quoted ]; then
-        aim 1 "$3"
-        aim 4 "$4"
-        by_python
-    fi
-    echo "$kind: $(load)"
+    for workers in 1 4; do line "$1" "$workers"; done
 }
 
-compare random names 5 18
-compare rising name 12 40
-compare footer names 7 26
-compare quoted names
+echo "columns of $rows rows, to nowhere, best of $runs: $(load)"
+echo '               | pzic                          | convert.rs               | convert.cpp'
+echo 'column workers | seconds M rows/s times 1   MB | seconds M rows/s pzic is | seconds M rows/s pzic is'
+for kind in random rising footer quoted; do time_all "$kind"; done
+load
 
 echo Etc/UTC,0 >"$work/one"
 input=$work/one
-show "a column of one row, $(load), 50 ms are aimed at" "$(best "$program" convert "$release")"
+show 'pzic, a column of one row' "$(best "$program" convert "$release")"

@@ -1,6 +1,6 @@
 #!/bin/sh
 # Times run_task by 1, 2 and 4 workers: over 1,000,000 pieces that add one, in nanoseconds a piece, and over 4 such pieces,
-# in microseconds a call. Beside each stands `pieces.rs` by `rustc -O`. The best of five runs. It needs `rt` and `rustc`.
+# in microseconds a call. Beside each stands `pieces.rs` in plain Rust. The best of five runs. It needs `rt` and `rustc`.
 set -eu
 . "$(dirname "$0")/common.sh"
 build bench pieces

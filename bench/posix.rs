@@ -1,4 +1,5 @@
-//! What a POSIX TZ string means, in plain Rust, for `footer.rs` and `convert.rs`: with the usual algorithm for dates.
+//! What a POSIX TZ string means, in plain Rust, for `footer.rs` and `convert.rs`, by the usual
+//! algorithm for dates.
 
 const SECONDS_OF_DAY: i64 = 86_400;
 const CYCLE: i64 = 146_097 * SECONDS_OF_DAY;
@@ -86,7 +87,8 @@ fn day_in(year: i64, day: DayRule) -> i64 {
     }
 }
 
-fn instant_in(year: i64, edge: &Edge, offset: i32) -> i64 {
+/// The instant of an edge of a year, where the offset before it is this one.
+pub fn instant_in(year: i64, edge: &Edge, offset: i32) -> i64 {
     SECONDS_OF_DAY * day_in(year, edge.day) + i64::from(edge.time) - i64::from(offset)
 }
 

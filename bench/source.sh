@@ -1,7 +1,7 @@
 #!/bin/sh
 # Times the reading of source text, and prints the milliseconds that one reading takes, the best of five runs of twenty:
 # of the system's release of the tz database, and of the largest sources of each kind beside comments of as many
-# octets. Beside each stands `fields.rs` by `rustc -O`, which only takes the lines apart and counts names. It needs `rt`
+# octets. Beside each stands `fields.rs` in plain Rust, which only takes the lines apart and counts names. It needs `rt`
 # and `rustc` on the PATH.
 set -eu
 . "$(dirname "$0")/common.sh"
