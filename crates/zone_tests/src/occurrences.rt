@@ -141,7 +141,7 @@ fn out_of_order(rt: HostRuntime) -> Result<(), Fail> {
             b"Rule E 2000 max - Mar 1 0:00 0 -\nRule E 2300 max - Mar Sun>=1 0:00 1:00 D\nZone A 0 E E%sT",
             3,
         ),
-        // By the wall clock, half a day before universal time, in each year.
+        // The third rule, by the wall clock, comes half a day before the second, in each year.
         (
             b"Rule R 2000 max - Dec 31 282:00u 24:00d -\nRule R 2000 max - Jan 12 0:00u 0 -\nRule R 2000 max - Dec 31 300:00 0 -\nZone A 24:00 R R%sT",
             4,
@@ -174,7 +174,7 @@ fn in_order(rt: HostRuntime) -> Result<(), Fail> {
 
 #[test]
 fn rules_and_years(rt: HostRuntime) -> Result<(), Fail> {
-    // In UT, the first day of 2405 begins for the rule in 2404.
+    // The occurrence of 2405 falls at 23:00 on the last day of 2404.
     let text = b"Rule B 2000 max - Jan 1 -1:00 0 -\nZone A 0 B B%sT";
     let listed = listed(rt.alloc(), text, 2405)?.ok().ok_or("occurrences")?;
     assert_eq!(rt; listed.len(), 406);
