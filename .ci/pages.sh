@@ -3,7 +3,7 @@
 # - runs each command in the `console` blocks of README.md, docs/USING.md and docs/ZIC.md as it is
 #   printed, and compares the output with the lines below it. A block after a comment
 #   `<!-- needs: COMMAND.. -->` is left out if one of the commands is missing;
-# - tries each example of docs/errors.txt, and compares docs/ERRORS.md with the page made from it;
+# - tries each example of docs/errors.txt, and compares docs/ERRORS.md with what is made of it;
 # - looks for each command and option of docs/help in the manual page and in the completions, and
 #   tries the completions in bash;
 # - checks links, the length of README.md, and the names in docs/PROOF.md.
@@ -190,7 +190,7 @@ cmp -s <(docs/make-errors.sh) docs/ERRORS.md ||
     differ 'docs/ERRORS.md is not what docs/make-errors.sh makes'
 awk 'length > 79 { print; bad = 1 } END { exit bad }' docs/errors.txt >&2 ||
     differ 'docs/errors.txt has lines of more than 79 characters'
-# Each name of an error in the program's sources has an entry.
+# Each name of an error in the sources of the program has an entry.
 kinds=(crates/zic_base/src/fault.rt crates/zic_plan/src/stop.rt crates/zic_tzif/src/reason.rt)
 for kind in $(sed -n 's/^    \([A-Z][A-Za-z]*\) = [0-9]*,$/\1/p' "${kinds[@]}"); do
     grep -qx "## $kind" docs/errors.txt || differ "docs/errors.txt doesn't have $kind"
