@@ -1,10 +1,10 @@
-# Sourced by the scripts that run built programs, at the top of the repository.
+# Sourced by the scripts that run built programs, from the top of the repository.
 work=$(mktemp -d)
 trap 'rm -rf "$work"' EXIT
-# has a file for each program that was built; the scripts of one gate share it
+# A folder with a file for each program that is built. All scripts of one gate share it.
 export BUILT=${BUILT:-$work}
 
-# builds a program once, by its run on no input with the words that follow
+# build NAME WORD...: proves and builds a program once, by running it with these words and no input.
 build() {
     local name=$1
     shift

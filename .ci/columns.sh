@@ -1,7 +1,7 @@
 #!/usr/bin/env bash
-# Has the program convert columns of 100,000 rows over all zones and links of the system's release of the tz database, and compares each
-# row with Python's zoneinfo, over our files and those of the system's zic, and with the reader of witness/reader.py. `python3` is 3.9
-# or later.
+# Converts columns of 100,000 rows over all zones and links of the system's release of the tz
+# database. Compares each row with Python's zoneinfo, over the program's files and over those of the
+# system's zic, and with witness/reader.py. Needs `python3` 3.9 or later.
 set -euo pipefail
 cd "$(dirname "${BASH_SOURCE[0]}")/.."
 . .ci/release.sh

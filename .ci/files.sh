@@ -1,6 +1,7 @@
 #!/usr/bin/env bash
-# Has the program build the files of the system's release of the tz database, and compares them and what is read of files with the
-# system's zic, with Python's zoneinfo and with the reader of witness/reader.py. `python3` is 3.9 or later.
+# Builds the files of the system's release of the tz database. Compares these files, and what the
+# program reads from files, with the system's zic, with Python's zoneinfo and with
+# witness/reader.py. Needs `python3` 3.9 or later.
 set -euo pipefail
 cd "$(dirname "${BASH_SOURCE[0]}")/.."
 . .ci/release.sh

@@ -1,9 +1,10 @@
 #!/usr/bin/env bash
-# Makes the package of .ci/package.sh twice, with the same bytes, and installs it into a folder of its
-# own: as root by `dpkg --root`, over a list of packages that has libc6 alone, and removes it in the
-# end; else by `dpkg-deb -x`. Tries it there: each command, the manual page, the completions, the
-# notices, and the links of the pages. As root the program runs by `chroot`, where there is nothing
-# but the package and the files of libc6 that the program is linked with.
+# Makes the package of .ci/package.sh twice, and checks that the bytes are the same. Installs it
+# into a folder of its own and removes it at the end: as root by `dpkg --root`, over a list of
+# packages that has only libc6, else by `dpkg-deb -x`. Tries what was installed: each command, the
+# manual page, the completions, the notices, and the links of the pages. As root the program runs by
+# `chroot`, with nothing there but the package and the files of libc6 that the program is linked
+# with.
 set -euo pipefail
 cd "$(dirname "${BASH_SOURCE[0]}")/.."
 . .ci/release.sh
@@ -18,7 +19,7 @@ differ() {
     differences=$((differences + 1))
 }
 
-# expect OUTPUT COMMAND...: compares what a command prints with what it should.
+# expect OUTPUT COMMAND...: compares the output of a command with the expected one.
 expect() {
     local wanted=$1 got status=0
     shift
@@ -32,7 +33,7 @@ expect() {
 mkdir "$work/again" "$root"
 package=$(.ci/package.sh "$work")
 cmp "$package" "$(.ci/package.sh "$work/again")" >&2 || differ 'two packages of the same tree differ'
-# images of containers often tell dpkg to leave out documents
+# Images of containers often configure dpkg to leave out documents.
 in_root=(dpkg --root="$root" --log="$work/dpkg.log" --path-include='/*')
 if [ "$(id -u)" = 0 ]; then
     how='dpkg --root, run by chroot'
@@ -90,7 +91,7 @@ completed() {
 if command -v man >"$work/log"; then expect '       pzic' manual_name; fi
 expect $'complete -o filenames -F _pzic pzic\nshow' completed sh
 ! command -v zsh >"$work/log" || expect '' zsh -n "$share/zsh/vendor-completions/_pzic"
-# README.md names each library of which the package has a notice.
+# README.md names each library whose notice is in the package.
 named=$(sed -n '/^## .*licence/,$p' README.md)
 for crate in $(sed -n 's/^---- //p' "$share/doc/pzic/copyright"); do
     grep -qw -- "$crate" <<<"$named" || differ "README.md doesn't name $crate, which has a notice"

@@ -1,15 +1,15 @@
 #!/usr/bin/env bash
-# Makes a Debian package of the built program, and prints its path: `.ci/package.sh [FOLDER]`, by
+# Makes a Debian package of the built program and prints its path: `.ci/package.sh [FOLDER]`, by
 # default in the current folder. The package has the program, the manual page, the completions, the
 # pages, and the notices of the kit's libraries that are linked in. The same tree gives the same
-# bytes: each time is that of the newest entry of docs/CHANGELOG.md. DEBFULLNAME and DEBEMAIL name
-# the maintainer. It needs `dpkg-deb`, and no network.
+# bytes: every time in the package is that of the newest entry of docs/CHANGELOG.md. The variables
+# DEBFULLNAME and DEBEMAIL name the maintainer. Needs `dpkg-deb`, and no network.
 set -euo pipefail
 shopt -s inherit_errexit
 folder=$(realpath -e -- "${1:-.}")
 cd -P "$(dirname "${BASH_SOURCE[0]}")/.."
 . .ci/build.sh
-# the launcher proves and builds the program where that is needed
+# The launcher proves and builds the program if necessary.
 [ -e "$BUILT/zic_main" ] || ./pzic check - </dev/null
 program=crates/zic_main/out/zic_main
 kit=$(dirname "$(rt doc)")
@@ -38,7 +38,7 @@ linked() {
     done
 }
 
-# Prints the paths of the licences of a library. Where one may choose Apache 2.0 or MIT, it is MIT.
+# Prints the paths of the licences of a library. If the library offers Apache 2.0 or MIT, it is MIT.
 licences_of() {
     local file
     for file in "$kit/rattle/$1"/LICENSE*; do
@@ -48,11 +48,11 @@ licences_of() {
         *) echo "$file" ;;
         esac
     done
-    # its tables of characters are Unicode's, whose licence lies in other folders
+    # The tables of characters are Unicode's. Their licence is in another folder.
     [ "$1" != core ] || echo "$kit/rattle/ucd_case/LICENSE-UNICODE"
 }
 
-# Prints the notices of these libraries, each text once.
+# Prints the notices of the libraries, and each text only once.
 notices() {
     local crate files file text texts=() without=()
     declare -A users
@@ -71,7 +71,7 @@ notices() {
     done
 }
 
-# Prints the package's file `copyright`.
+# Prints the file `copyright` of the package.
 copyright() {
     cat <<END
 pzic is the program of the repository Tugboreke. No licence has been chosen for
@@ -86,7 +86,7 @@ END
     notices $(linked | sort)
 }
 
-# Prints the package's file `control`.
+# Prints the file `control` of the package.
 control() {
     local libc
     libc=$(grep -aoE 'GLIBC_[0-9.]+' "$program" | cut -d _ -f 2 | sort -V | tail -n 1)

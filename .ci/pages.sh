@@ -24,7 +24,7 @@ differ() {
     echo "${1//$'\n'/ }" >>"$log"
 }
 
-# Enters a home directory of its own for what runs next, and installs the program there.
+# Creates a home directory for the commands that follow, and installs the program there.
 enter_home() {
     export HOME=$work/home/$1
     export PATH=$HOME/.local/bin:$PATH
@@ -38,7 +38,7 @@ has_commands() {
     for word in "$@"; do command -v "$word" >"$work/found" || return 1; done
 }
 
-# Starts a PostgreSQL server with data of its own, for the blocks that need `psql`.
+# Starts a PostgreSQL server with its own data, for the blocks that need `psql`.
 start_postgres() {
     local bin user
     bin=$(pg_config --bindir) && [ -x "$bin/initdb" ] || return 1
@@ -61,7 +61,7 @@ start_postgres() {
 
 # ------------------------------------------------------------------ commands as they are printed
 
-# Runs the current command, and compares its output with the wanted one.
+# Runs the current command, and compares its output with the expected one.
 answer() {
     [ "$command" ] || return 0
     (exit "$status")
@@ -73,13 +73,13 @@ answer() {
     command='' wanted=''
 }
 
-# Tells whether a block that needs these commands can be run.
+# Returns whether a block that needs these commands can be run.
 is_wanted() {
     has_commands "$@" || return 1
     if [[ " $* " == *' psql '* ]] && [ ! "${PGHOST:-}" ]; then start_postgres || return 1; fi
 }
 
-# Makes files named as in IANA's releases from the system's release.
+# Makes files with the names of IANA's releases from the system's release.
 make_tzdata() {
     mkdir tzdata
     touch tzdata/{africa,antarctica,asia,australasia,europe,northamerica,southamerica}
@@ -88,7 +88,7 @@ make_tzdata() {
     grep -v '^[L#]' "$release" >tzdata/africa
 }
 
-# run_page PAGE: runs the blocks of a page, in a folder that has what a checkout installs.
+# run_page PAGE: runs the blocks of a page, in a folder with the files that a checkout installs.
 run_page() (
     set +eu
     page=$1 state=text needs='' command='' wanted='' status=0 commands=0 left_out='' stop_postgres=()
@@ -115,7 +115,7 @@ run_page() (
             command=${line#'$ '}
             ;;
         block:'> '*)
-            # a continued command, or a line of output that begins so
+            # A continued command, or a line of output that begins with `> `.
             if [ "$wanted" ]; then wanted+=$line$'\n'; else command+=$'\n'${line#'> '}; fi
             ;;
         block:*) wanted+=$line$'\n' ;;
@@ -126,7 +126,7 @@ run_page() (
 
 # ------------------------------------------------------------------ examples of errors
 
-# Prints the commands of an example; for a source, writes it and prints the command to check it.
+# Prints the commands of an example. For a source, writes it and prints the command to check it.
 commands_of() {
     case $1 in
     '$ '*) sed 's/^[$>] //' <<<"$1" ;;
@@ -178,7 +178,7 @@ try_errors() (
     echo "pages: the examples of $examples entries of errors.txt are tried"
 )
 
-# All at the same time, since USING.md waits for a database server.
+# All pages run at the same time, since USING.md waits for a database server.
 parts=()
 for page in README.md docs/USING.md docs/ZIC.md; do
     run_page "$page" &
@@ -219,7 +219,7 @@ if has_commands man; then
         differ 'man can not show man/pzic.1'
     [ ! -s "$work/warnings" ] || differ "man/pzic.1: $(head -n 3 "$work/warnings")"
 fi
-# Prints the completions of bash for these words.
+# Prints the completions of bash for some words.
 completed() {
     bash -c '
         . completions/pzic.bash
@@ -258,7 +258,7 @@ for page in README.md docs/*.md; do
         fi
     done
 done
-# PROOF.md names only definitions that exist, and tells of every crate.
+# PROOF.md names only definitions that exist, and describes every crate.
 find crates/*/specs -name '*.antt' -exec cat {} + | grep -oE '[A-Z][A-Za-z]+' | sort -u >"$work/definitions"
 verbs='Is|Are|Writes|Converts|Answers|Reads|Goes|Gives|Shows|Means|Spells|Counts|Takes|Yields|Columns|Reports'
 grep -oE "\`($verbs)[A-Za-z]*\`" docs/PROOF.md | tr -d '`' | sort -u |

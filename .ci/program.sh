@@ -1,8 +1,9 @@
 #!/usr/bin/env bash
-# Holds the built program against the words, the statuses, the files and the rows that it owes: the sources of witness/checks.txt, usage,
-# paths that can't be read or written, outputs that fail, limits, columns, little memory, and builds that are killed. Where it runs as
-# root, a folder that may not be written is tried as nobody. Rows are also compared with Python's zoneinfo over the files of the system's
-# zic; `python3` is 3.9 or later.
+# Checks the messages, statuses, files and rows of the built program: the sources of
+# witness/checks.txt, usage, paths that can't be read or written, outputs that fail, limits,
+# columns, little memory, and builds that are killed. As root, it tries a read-only folder as the
+# user nobody. Compares rows also with Python's zoneinfo over the files of the system's zic. Needs
+# `python3` 3.9 or later.
 set -euo pipefail
 cd "$(dirname "${BASH_SOURCE[0]}")/.."
 . .ci/release.sh
@@ -18,7 +19,8 @@ calls=0
 differences=0
 input=/dev/null
 
-# holds a call, of which the files ../out and ../err and the status are left, against the status and the lines that are wanted
+# told CALL STATUS OUT ERR: compares the last call's status, its output (../out) and its messages
+# (../err) with the expected ones.
 told() {
     local call=$1 wanted=$2 out=$3 err=$4
     calls=$((calls + 1))
@@ -38,13 +40,13 @@ ask() {
     "$program" "$@" <"$input" >../out 2>../err || status=$?
 }
 
-# expect STATUS OUT ERR WORD...
+# expect STATUS OUT ERR WORD...: runs the program and compares its result with the expected one.
 expect() {
     ask "${@:4}"
     told "pzic ${*:4}" "$1" "$2" "$3"
 }
 
-# the text of a usage fault, on standard error, is open
+# expect_usage WORD...: expects status 2 and some text on standard error, which isn't compared.
 expect_usage() {
     ask "$@"
     calls=$((calls + 1))
@@ -52,7 +54,7 @@ expect_usage() {
         differ "pzic $*: status $status, '$(head -c 200 ../out)', '$(head -c 200 ../err)', and not 2 with usage on standard error"
 }
 
-# a call for help, answered by a page on standard error
+# expect_page FILE WORD...: expects status 2 and the page FILE on standard error.
 expect_page() {
     ask "${@:2}"
     calls=$((calls + 1))
@@ -60,7 +62,7 @@ expect_page() {
         differ "pzic ${*:2}: status $status, '$(head -c 200 ../err)', and not 2 with the page $1"
 }
 
-# the lines of `check` for the files of a tree, in the order of their names
+# listing FOLDER: prints for each file what `check` prints, in the order of the names.
 listing() {
     (cd "$1" 2>../../err && find . -type f | sort | while IFS= read -r file; do
         echo "${file#./} $(wc -c <"$file") $(tail -n 1 "$file")"
@@ -148,7 +150,7 @@ awk 'BEGIN { for (i = 0; i < 1001; i++) print "Rule A 2000 only - Jan 1 0 0 -" }
 expect 1 '' 'line 1001: TooMany' check many
 awk 'BEGIN { for (i = 0; i < 10001; i++) printf "Zone Z/%d 0 - UTC\n", i }' >many
 expect 1 '' 'line 10001: TooMany' check many
-# offsets of a second each, and a name for each
+# offsets COUNT: prints a zone of COUNT lines, each with a different offset in seconds.
 offsets() {
     awk -v "count=$1" 'BEGIN {
         for (i = 0; i < count; i++) printf "%s 0:%02d:%02d - AAA%s\n", i ? "" : "Zone A", i / 60, i % 60, i < count - 1 ? " " 1970 + i : ""
@@ -175,7 +177,7 @@ echo 'Zone Etc/UTC 0 - UTC' >plain
 expect 0 '' '' build tree plain
 file=tree/Etc/UTC
 expect_usage
-# the pages from which the launcher answers before anything is built
+# The pages that the launcher prints before anything is built.
 for word in --help -h; do
     for page in "$help"/*.txt; do
         command=$(basename "$page" .txt)
@@ -263,7 +265,7 @@ head -c 110 "$file" >cut
 expect 1 '' 'file: Short' show cut 0
 { cat "$file" && echo; } >cut
 expect 1 '' 'file: TrailingBytes' show cut 0
-# without the text of its footer a file ends with its last transition
+# If the text of the footer is missing, the file says nothing after its last transition.
 printf '%s\n' 'Rule US 2007 max - Mar Sun>=8 2:00 1:00 D' 'Rule US 2007 max - Nov Sun>=1 2:00 0 S' 'Zone NY -5:00 US E%sT' >eastern
 expect 0 '' '' build tree eastern
 { head -c 169 tree/NY && printf '\n\n'; } >cut
@@ -272,7 +274,7 @@ expect 0 'unspecified' '' show cut 1257055200
 
 # ------------------------------------------------------------------ outputs that fail
 
-# the status is told of the program, and `told` reads its standard error
+# Standard error goes to ../err, where `told` reads it; `told` also needs the status.
 : >../out
 for command in 'check plain' "show $file 0"; do
     status=0
@@ -281,7 +283,7 @@ for command in 'check plain' "show $file 0"; do
     status=0
     "$program" $command >/dev/full 2>../err || status=$?
     told "pzic $command >/dev/full" 3 '' 'cannot write output'
-    # a pipe that nobody reads any more
+    # A pipe that has no reader any more.
     mkfifo pipe
     exec 3<>pipe 4>pipe 3>&-
     status=0
@@ -299,7 +301,7 @@ told 'pzic check nowhere 2>&-' 3 '' ''
 
 utc=Etc/UTC,0,1970-01-01T00:00:00,+00:00:00,0,UTC
 
-# expect_rows STATUS OUT ERR TEXT WORD...: of a column that is the text, with the escapes of printf
+# expect_rows STATUS OUT ERR TEXT WORD...: converts the column TEXT, with the escapes of printf.
 expect_rows() {
     printf "$4" >column
     input=column
@@ -307,7 +309,7 @@ expect_rows() {
     input=/dev/null
 }
 
-# the forms of records
+# The forms of records.
 expect_rows 0 "$utc"$'\n'"$utc"$'\n'"$utc"$'\n'"$utc" '' 'Etc/UTC,0\r\rEtc/UTC,-0\r\n\n"Etc/UTC",000\n\n"Etc/UTC","0"'
 expect_rows 0 "$utc" '' '\xef\xbb\xbfEtc/UTC,0'
 expect_rows 0 "$utc" '' '\xef\xbb\xbf"Etc/UTC",0\r'
@@ -327,20 +329,20 @@ done
 for instant in -62135510401 253402214400 999999999999999999; do
     expect_rows 1 "$utc" 'row 2: RowRange' "Etc/UTC,0\\nEtc/UTC,$instant\\nEtc/UTC"
 done
-# how many rows and bytes there may be
+# The limits of rows and bytes.
 expect_rows 1 "$utc"$'\n'"$utc" 'row 3: TooManyRows' 'Etc/UTC,0\nEtc/UTC,0\nEtc/UTC,0\n' --max-rows 2
 expect_rows 1 '' 'row 1: TooManyRows' 'x' --max-rows 0
 expect_rows 0 "$utc" '' 'Etc/UTC,0\n' --max-rows 1 --max-bytes 10
 expect_rows 1 '' 'column: ColumnTooLong' 'Etc/UTC,0\n' --max-bytes 9
 expect_rows 1 '' 'column: ColumnTooLong' '\n' --max-bytes 0
-# nine rows of which two have a fault, whatever the plan
+# Nine rows, two of which have a fault, with all plans.
 nine='Etc/UTC,0\nEtc/UTC,0\nEtc/UTC,0\nEtc/UTC,x\nEtc/UTC,0\nEtc/UTC,0\nEtc/UTC,0\nNo/Where,0\nEtc/UTC,0\n'
 for workers in 1 2 8 64; do
     for piece in 1 2 100; do
         expect_rows 1 "$utc"$'\n'"$utc"$'\n'"$utc" 'row 4: RowInstant' "$nine" --workers $workers --row-piece $piece
     done
 done
-# the source comes before the column
+# The source is compiled before the column is read.
 printf 'Zonk\n' >faulty
 printf 'x' >column
 input=column
@@ -356,7 +358,7 @@ status=0
 "$program" convert plain <&- >../out 2>../err || status=$?
 told 'pzic convert plain <&-' 3 '' 'cannot read column'
 
-# columns of some thousand rows, with quotes and without, whatever the plan
+# Columns of some thousand rows, with quotes and without, with all plans.
 printf '%s\n' 'Zone Etc/UTC 0 - UTC' 'Zone Z/I 5:30 - %z' >>eastern
 sed -i 's/^Zone NY/Zone Z\/NY/' eastern
 zic -b fat -d witnessed eastern
@@ -374,7 +376,7 @@ for form in plain quoted; do
         done
     done
 done
-# the same with a fault in row 2345 and others after it
+# The same with a fault in row 2345 and others after it.
 for form in plain quoted; do
     python3 "$columns" $form 2345 >column
     head -n 2344 rows.$form >rows.wanted
@@ -391,7 +393,8 @@ for form in plain quoted; do
 done
 input=/dev/null
 
-# a reader that is a pipe, short reads, a mark whose octets come one at a time, a writer without a reader
+# A reader that is a pipe, short reads, a byte order mark that comes one byte at a time, and a
+# writer without a reader.
 mkfifo pipe
 cat column.quoted >pipe &
 input=pipe
@@ -435,7 +438,8 @@ done
 
 # ------------------------------------------------------------------ progress
 
-# what is told of rows, whose number and the lines after it are wanted
+# expect_progress CALL ROWS ERR: checks the number of rows in the line of progress, and the lines
+# after it.
 expect_progress() {
     local rate='[0-9]+ rows a second'
     grep -Exq "$2 rows, $rate" <(head -n 1 ../err) && [ "$(tail -n +2 ../err)" = "$3" ] ||
@@ -461,7 +465,7 @@ told 'pzic convert plain --progress' 1 '' ''
 input=/
 expect 3 '' 'cannot read column' convert --progress plain
 input=/dev/null
-# on a terminal, which has the column too
+# On a terminal, to which the rows go too.
 status=0
 python3 "$columns" terminal ../out "$program" convert --progress --workers 1 --row-piece 1 plain >../err || status=$?
 line=$'\r[0-9]+ rows, [0-9]+ rows a second\x1b\\[K'
@@ -480,7 +484,7 @@ expect 3 '' 'cannot write taken/Etc/UTC' build taken plain
 mkdir -p tree/Etc/UTC/kept
 expect 3 '' 'cannot write tree/Etc/UTC' build tree plain
 expect_tree tree 'A 111 AAA0'
-# what stands in the place of a file is replaced, and what it led to is kept
+# A link in the place of a file is replaced, and the link's target is kept.
 rm -rf tree/Etc
 mkdir tree/Etc
 ln -s ../../taken tree/Etc/UTC
@@ -491,7 +495,7 @@ chmod 400 tree/A
 echo 'Zone A 0 - BBB' >other
 expect 0 '' '' build tree other
 expect_tree tree $'A 111 BBB0\nEtc/UTC 111 UTC0'
-# a full disk: no file of an octet, and then none of more than 1,024, can be written
+# A full disk: no file can be written that has more than 0 bytes, and then 1,024 bytes.
 awk 'BEGIN {
     print "Rule B 1900 1999 - Jan 1 0 1:00 D\nRule B 1900 1999 - Jul 1 0 0 S"
     print "Zone A 0 - AAA\nZone B 0 B B%sT\nZone C 0 - CCC"
@@ -510,7 +514,7 @@ for kilobytes in 0 1; do
     told "pzic build tree big, with at most $kilobytes KiB a file" 3 '' "cannot write tree/$name"
     expect_tree tree "$wanted"
 done
-# a folder that may not be written
+# A folder that may not be written.
 rm -rf tree
 mkdir tree
 chmod 755 . .. ../..
@@ -524,7 +528,7 @@ chmod 755 tree
 
 # ------------------------------------------------------------------ little memory
 
-# within asks the program for what follows, within so many KiB of address space
+# within KIBIBYTES WORD...: runs the program within this many KiB of address space.
 within() {
     status=0
     (ulimit -v "$1" && exec "$program" "${@:2}") <"$input" >../out 2>../err || status=$?
@@ -533,7 +537,7 @@ within() {
 truncate -s 67108864 large
 within 60000 check large
 told 'pzic check large, within 60,000 KiB' 4 '' 'out of memory'
-# from the least in which the program starts up to what it needs
+# From the least address space in which the program starts up to the one that it needs.
 awk 'BEGIN { for (i = 0; i < 2000; i++) printf "Zone Z/%d %d:%02d - %%z\n", i, i / 60 % 24, i % 60 }' >many
 listed=$("$program" check many)
 kilobytes=1000
@@ -553,7 +557,7 @@ for ((good = 0; good < 3;)); do
     kilobytes=$((kilobytes * 21 / 20))
 done
 
-# the column needs memory once the source has files
+# The column needs memory after the source is compiled.
 kilobytes=1000
 input=/dev/null
 within $kilobytes convert plain

@@ -1,10 +1,12 @@
 #!/usr/bin/env bash
-# Has each growth of memory of a run refused in turn, and then each start of a thread from the first on, from the second on and so
-# forth. The runs are the tests of tasks of five pieces, which still have to pass, and commands of the program, by several numbers of
-# workers and cuttings. With a growth refused a command says `out of memory`, or the fault that it says without; it may give its whole
-# answer only where the growth was one for the start of a worker. With threads refused it gives its whole answer. It never leaves
-# other files or rows than those of its whole answer. A `convert` of one zone and of a column of one round starts each worker but its own
-# thread once, and once more for the rows before a fault. It needs `rt` and `cc`.
+# Refuses each growth of memory of a run in turn, and then all starts of threads from the first on,
+# from the second on, and so forth. The runs are the tests of tasks of five pieces, which must still
+# pass, and commands of the program, with several numbers of workers and sizes of pieces. If a
+# growth is refused, a command says `out of memory`, or reports the fault that it reports otherwise;
+# it may give its whole answer only if the growth was for the start of a worker. If threads are
+# refused, it gives its whole answer. It never leaves files or rows that aren't part of its whole
+# answer. A `convert` of one zone and of a column of one round starts its workers, all but the
+# calling thread, once, and once more for the rows before a fault. Needs `rt` and `cc`.
 set -euo pipefail
 cd "$(dirname "${BASH_SOURCE[0]}")/.."
 . .ci/release.sh
@@ -38,15 +40,15 @@ build zic_main check -
 program=$PWD/crates/zic_main/out/zic_main
 cd "$work"
 
-# four files of one zone
+# Four files of one zone.
 printf '%s\n' 'Link B C' 'Link A B' 'Link Etc/UTC A' 'Zone Etc/UTC 0 - UTC' >chain
-# three zones with changes, one with a link, and six without
+# Three zones with changes, one of them with a link, and six without.
 {
     printf '%s\n' 'Rule US 2007 max - Mar Sun>=8 2:00 1:00 D' 'Rule US 2007 max - Nov Sun>=1 2:00 0 S' 'Link Z/1 Z/0'
     for zone in 1 2 3; do printf 'Zone Z/%d -%d:00 US %%z 2007 Jul 1 0:00\n-%d:00 US E%%sT\n' $zone $zone $((zone + 1)); done
     for zone in 4 5 6 7 8 9; do printf 'Zone Z/%d %d:00 - %%z\n' $zone $zone; done
 } >zones
-# nine zones, of which the fourth has the first fault
+# Nine zones. The fourth has the first fault.
 {
     for zone in 1 2 3; do echo "Zone Z/$zone 0 - AAA"; done
     echo 'Zone Z/4 1:00 1:00 XXX'
@@ -54,11 +56,12 @@ printf '%s\n' 'Link B C' 'Link A B' 'Link Etc/UTC A' 'Zone Etc/UTC 0 - UTC' >cha
     echo 'Zone Z/8 0 - AB'
     echo 'Zone Z/9 0 - AAA'
 } >faulty
-# nine rows, and then nine of which the fourth and the eighth have faults
+# Nine rows, and then nine of which the fourth and the eighth have faults.
 for row in 1 2 3 4 5 6 7 8 9; do echo 'Etc/UTC,0'; done >rows
 sed '4s/0$/x/; 8s/.*/No\/Where,0/' rows >stopped
 
-# run REFUSAL CALL: runs the program; its output, its files, its status and its words are left
+# run REFUSAL WORD...: runs the program, and keeps its output, its files, its status and its
+# messages.
 run() {
     rm -rf tree
     status=0
@@ -76,7 +79,7 @@ run() {
     done
 }
 
-# the files that were written are such of the whole answer, octet for octet
+# Returns whether the files that were written are files of the whole answer, byte for byte.
 files_are_right() {
     [ ! -e tree ] || ! diff -rq right.tree tree | grep -qv '^Only in right.tree'
 }
@@ -91,7 +94,7 @@ is_memory() {
         if [ -s out ]; then cmp -s -n "$(stat -c %s out)" out right.out; fi
 }
 
-# the growth was asked for where a thread was started after it
+# Returns whether the growth was requested where a thread was started after it.
 in_start() {
     [[ "${places[*]} " == *"${refused[0]} "* ]]
 }
@@ -101,7 +104,7 @@ fail() {
     exit 1
 }
 
-# every CALL: each refusal in turn, of growths and of starts
+# every WORD...: refuses each growth and each start in turn.
 every() {
     local n whole=0
     TELL_STARTS=1 run REFUSE_GROWTH=0 "$@"
@@ -126,7 +129,7 @@ every() {
     starts=$((starts + n - 1))
 }
 
-# tell COMMAND
+# tell NAME: prints the numbers of refusals so far, and resets them.
 tell() {
     echo "$1: $growths growths refused in turn, with $answered whole answers, and starts from $starts on"
     growths=0 answered=0 starts=0

@@ -1,6 +1,7 @@
-// Preloaded into a program, it refuses the growth of memory numbered REFUSE_GROWTH, or each start of a thread from the one
-// numbered REFUSE_START on, and says on standard error 'refused', with the place in the program that asked for the growth.
-// With TELL_STARTS it says 'start' at each start of a thread, with the place that asked for the growth before it.
+// A library to preload into a program. It refuses the memory growth number REFUSE_GROWTH, or each
+// start of a thread from number REFUSE_START on, and prints 'refused' on standard error, for a
+// growth with the place in the program that requested it. With TELL_STARTS it prints 'start' at
+// each start of a thread, with the place that requested the last growth before it.
 #define _GNU_SOURCE
 #include <dlfcn.h>
 #include <errno.h>
@@ -13,10 +14,10 @@
 extern void *__libc_malloc(size_t size);
 extern void *__libc_realloc(void *block, size_t size);
 
-// How many growths and starts there were.
+// The numbers of growths and starts so far.
 static atomic_long growths, starts;
 
-// The place that asked for the last growth in this thread.
+// The place that requested the last growth in this thread.
 static _Thread_local void *last_asker;
 
 static long number(const char *name) {
@@ -24,7 +25,7 @@ static long number(const char *name) {
     return value ? atol(value) : 0;
 }
 
-// Says the word, with a place in the program.
+// Prints a word, with a place in the program.
 static void tell(const char *word, void *asker) {
     Dl_info object;
     char line[64];
@@ -32,7 +33,7 @@ static void tell(const char *word, void *asker) {
     write(2, line, snprintf(line, sizeof line, "%s 0x%tx\n", word, (char *)asker - base));
 }
 
-// Whether this growth is refused, which `asker` asked for.
+// Returns whether a growth that `asker` requested is refused.
 static int growth_is_refused(void *asker) {
     last_asker = asker;
     if (atomic_fetch_add(&growths, 1) + 1 != number("REFUSE_GROWTH")) return 0;

@@ -1,5 +1,5 @@
-# Sourced by the scripts that compare with the system's release of the tz database, at the top of the repository. Debian's packages
-# tzdata and libc-bin, which has zic, are installed where they are missing.
+# Sourced by the scripts that use the system's release of the tz database, from the top of the
+# repository. Installs Debian's packages tzdata and libc-bin, which has zic, if they are missing.
 . .ci/build.sh
 PATH=$PATH:/usr/sbin
 release=/usr/share/zoneinfo/tzdata.zi

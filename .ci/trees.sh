@@ -1,7 +1,9 @@
 #!/usr/bin/env bash
-# Has the program build trees of the system's release of the tz database: by several numbers of workers and pieces, and of the release cut
-# into three texts, which have to be equal; and of the largest source. Then glibc, Python's zoneinfo and the kit's jiff read the tree.
-# That its files say what zic's do is a matter of .ci/files.sh. `python3` is 3.9 or later, over glibc.
+# Builds trees of the system's release of the tz database with several numbers of workers and sizes
+# of pieces, and of the release cut into three texts, and checks that they are equal. Does the same
+# for the largest source. Then reads the trees with glibc, Python's zoneinfo and the kit's jiff.
+# That the files show what zic's do is checked by .ci/files.sh. Needs `python3` 3.9 or later, and
+# glibc.
 set -euo pipefail
 cd "$(dirname "${BASH_SOURCE[0]}")/.."
 . .ci/release.sh
@@ -18,7 +20,8 @@ same() {
     fi
 }
 
-# trees FROM SOURCE...: by 1 and 4 workers, and by as few and as many zones a piece, are equal, and have so many files
+# trees NAME SOURCE...: checks that the trees by 1, 4 and 64 workers, and by 1, 16 and all zones a
+# piece, are equal, and prints the number of files.
 trees() {
     local workers piece name=$1
     shift
@@ -35,13 +38,13 @@ trees() {
 
 trees release "$release"
 
-# rules, zones with their continuations, and links
+# The rules, the zones with their continuation lines, and the links.
 awk -v "folder=$work" '/^R/ { print > (folder "/rules"); next } /^L/ { print > (folder "/links"); next } { print > (folder "/zones") }' "$release"
 "$program" build "$work/texts" "$work/rules" "$work/zones" "$work/links"
 same release texts
 echo "trees: the same of three texts, of its rules, zones and links"
 
-# the largest source: 10,000 rules of ten sets, 5,000 zones of two lines each, 5,000 links
+# The largest source: 10,000 rules of ten sets, 5,000 zones of two lines each, 5,000 links.
 awk 'BEGIN {
     for (i = 0; i < 10000; i++)
         printf "Rule R%d %d only - %s\n", i % 10, 1500 + i / 20, int(i / 10) % 2 ? "Jul 1 0:00 0 S" : "Jan 1 0:00 1:00 D"

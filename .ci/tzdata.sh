@@ -1,7 +1,8 @@
 #!/usr/bin/env bash
-# Reads the system's own release of the tz database, sees that it is accepted, and compares the numbers of its Rule,
-# Zone, continuation and Link lines with those that awk counts. Then compares the changes of every zone, up to its explicit
-# end, with the files that the system's zic makes of that release. `python3` is 3.9 or later.
+# Checks that the system's release of the tz database is accepted. Compares the numbers of its Rule,
+# Zone, continuation and Link lines with those that awk counts. Then compares the changes of every
+# zone, up to its explicit end, with the files that the system's zic makes. Needs `python3` 3.9 or
+# later.
 set -euo pipefail
 cd "$(dirname "${BASH_SOURCE[0]}")/.."
 . .ci/release.sh
@@ -13,7 +14,7 @@ fail() {
 
 build probe counts
 got=$(crates/probe/out/probe counts <"$release")
-# In such a release each keyword is cut to one letter, and the lines that begin with none are continuations.
+# In such a release each keyword is cut to one letter. Lines that begin with none are continuations.
 want=$(awk '/^R /{r++} /^Z /{z++} /^L /{l++} !/^[RZL#]/ && NF {c++}
     END {printf "%d rules, %d zones, %d continuations, %d links\n", r, z, c, l}' "$release")
 [ "$got" = "$want" ] || fail "$got" "$want"

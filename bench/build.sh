@@ -1,8 +1,10 @@
 #!/bin/sh
-# Times whole runs of the program beside the system's zic in its slim form, in turn, on a file system in memory where there is one: `build`
-# by 1, 2 and 4 workers, and `check`, of the system's release of the tz database and of two sources at the limits, 10,000 zones of one
-# line, and 10,000 rules with 10,000 lines of 5,000 zones. Prints the milliseconds of the best of five runs and the most memory of
-# one. Then, of the release, where the time of one worker goes. It needs `rt`, `zic`, GNU time and the release.
+# Times whole runs of the program beside the system's zic in its slim form. They take turns, on a
+# file system in memory if there is one. The runs are `build` by 1, 2 and 4 workers, and `check`, of
+# the system's release of the tz database and of two sources at the limits: 10,000 zones of one
+# line, and 10,000 rules with 10,000 lines of 5,000 zones. Prints the milliseconds of the best of
+# five runs, and the memory of one run. Then prints, for the release, the times of the parts of a
+# run by one worker. Needs `rt`, `zic`, GNU time and the release.
 set -eu
 . "$(dirname "$0")/common.sh"
 program=crates/zic_main/out/zic_main
@@ -17,7 +19,8 @@ awk 'BEGIN {
         printf "Zone Area%d/City%d %d:%02d - LMT 1900\n0 R%d X%%sT\n", i % 50, i, i / 60 % 24, i % 60, i % 10
 }' >"$work/lines"
 
-# runs a command, and keeps its nanoseconds in the file $1 where they are the fewest
+# once NAME COMMAND...: runs a command, and keeps its nanoseconds in $work/best.NAME if they are
+# fewer.
 once() {
     kept=$work/best.$1
     shift
@@ -28,7 +31,7 @@ once() {
     if [ ! -f "$kept" ] || [ "$took" -lt "$(cat "$kept")" ]; then echo "$took" >"$kept"; fi
 }
 
-# has `once` or `memory` run what a name stands for, of a source
+# call RUNNER NAME SOURCE: lets `once` or `memory` run the command that NAME stands for on a source.
 call() {
     case $2 in
     zic) "$1" "$2" zic -b slim -d "$work/tree" "$3" ;;
@@ -37,7 +40,7 @@ call() {
     esac
 }
 
-# the most memory of one run, in MB
+# memory NAME COMMAND...: prints the greatest memory of one run, in MB.
 memory() {
     shift
     rm -rf "$work/tree"
@@ -56,7 +59,8 @@ for source in "$release" "$work/zones" "$work/lines"; do
     done
 done
 
-# part NAME MANY COMMAND...: the time of a command that does its work once, of the difference between MANY times and none
+# part NAME MANY COMMAND...: shows the time of doing the work of a command once. It is computed from
+# the times of MANY rounds and of none.
 part() {
     name=$1 many=$2
     shift 2

@@ -1,4 +1,5 @@
-//! The sums of `crates/bench/src/civil.rt` in plain Rust, with the usual algorithm for dates.
+//! Computes the sums of `crates/bench/src/civil.rt` in plain Rust, with the usual algorithm for
+//! dates.
 
 const FIRST_DAY: i64 = -719_162;
 const DAYS: u32 = 3_652_059;

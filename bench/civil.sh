@@ -1,6 +1,6 @@
 #!/bin/sh
-# Times ten million calls of `civil` and of `weekday` and the same loops in plain Rust, and prints the
-# nanoseconds a call of each, the best of five runs. It needs `rt` and `rustc` on the PATH.
+# Times ten million calls of `civil` and of `weekday`, and the same loops in plain Rust. Prints the
+# nanoseconds of a call, the best of five runs. Needs `rt` and `rustc` on the PATH.
 set -eu
 . "$(dirname "$0")/common.sh"
 side_by_side civil

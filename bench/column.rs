@@ -1,11 +1,14 @@
-//! For `bench/convert.sh`: prints a column of ROWS rows, of the zones that standard input names, one
-//! a line.
+//! For `bench/convert.sh`: prints a column of ROWS rows. Standard input names the zones, one on a
+//! line.
 //!
 //! usage: column KIND ROWS
 //!
-//! `random`: zones by chance, instants by chance from 1970 to 2037. `rising`: the first zone,
-//! instants that rise evenly through the same years. `footer`: as `random`, from 2040 to 2400.
-//! `quoted`: as `random`, both fields in double quotes. Chance has a fixed seed.
+//! - `random`: random zones, random instants from 1970 to 2037.
+//! - `rising`: the first zone, instants that rise evenly through the same years.
+//! - `footer`: as `random`, from 2040 to 2400.
+//! - `quoted`: as `random`, with both fields in double quotes.
+//!
+//! The seed is fixed, so the same call prints the same column.
 
 use std::io::{BufWriter, Read, Write};
 
@@ -13,7 +16,7 @@ const YEAR_2038: u64 = 2_145_916_800;
 const YEAR_2040: u64 = 2_208_988_800;
 const YEAR_2401: u64 = 13_601_088_000;
 
-/// The next number of xorshift64*.
+/// Returns the next number of xorshift64*.
 fn next(seed: &mut u64) -> u64 {
     *seed ^= *seed >> 12;
     *seed ^= *seed << 25;
@@ -21,7 +24,7 @@ fn next(seed: &mut u64) -> u64 {
     seed.wrapping_mul(0x2545_f491_4f6c_dd1d)
 }
 
-/// A number below a limit, of a number by chance.
+/// Maps a random number to a number below a limit.
 fn below(limit: u64, number: u64) -> u64 {
     (u128::from(limit) * u128::from(number) >> 64) as u64
 }

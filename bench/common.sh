@@ -1,5 +1,6 @@
-# Sourced by the scripts of this folder. Goes to the top of the repository, and makes the folder $work, in memory where there is a file
-# system for it, which is removed at the end. What is run reads the file $input.
+# Sourced by the scripts of this folder. Changes to the top of the repository, and makes the folder
+# $work, in memory if there is a file system for it. The folder is removed at the end. Commands read
+# the file $input.
 cd "$(dirname "$0")/.."
 PATH=$PATH:/usr/sbin
 if [ -d /dev/shm ]; then work=$(mktemp -d -p /dev/shm); else work=$(mktemp -d); fi
@@ -11,7 +12,8 @@ bench=crates/bench/out/bench
 probe=crates/probe/out/probe
 input=/dev/null
 
-# build CRATE WORD...: proves and builds a program, by its run with these words, of which $work/proved.out has the output
+# build CRATE WORD...: proves and builds a program, by running it with these words. Its output is
+# then in $work/proved.out.
 build() {
     crate=$1
     shift
@@ -21,12 +23,13 @@ build() {
     }
 }
 
-# plain NAME: builds $work/NAME of bench/NAME.rs, in plain Rust
+# plain NAME: builds $work/NAME from bench/NAME.rs, in plain Rust.
 plain() {
     rustc --edition 2021 -C opt-level=3 -o "$work/$1" "bench/$1.rs"
 }
 
-# side_by_side NAME: builds $work/NAME and the program of the benchmarks, which by the word NAME has to print the same
+# side_by_side NAME: builds $work/NAME, and the program of the benchmarks, and checks that it prints
+# the same for the word NAME.
 side_by_side() {
     build bench "$1"
     plain "$1"
@@ -34,7 +37,7 @@ side_by_side() {
     cmp "$work/proved.out" "$work/plain.out"
 }
 
-# best COMMAND...: how long a command takes, the best of five, in nanoseconds
+# best COMMAND...: prints the nanoseconds that a command takes, the best of five runs.
 best() {
     least=
     for _ in 1 2 3 4 5; do
@@ -46,12 +49,12 @@ best() {
     echo "$least"
 }
 
-# show WHAT NANOSECONDS: in milliseconds
+# show NAME NANOSECONDS: prints a time in milliseconds.
 show() {
     printf '%s: %d.%03d ms\n' "$1" $(($2 / 1000000)) $(($2 / 1000 % 1000))
 }
 
-# show_call WHAT NANOSECONDS CALLS: the nanoseconds a call
+# show_call NAME NANOSECONDS CALLS: prints the nanoseconds of one call.
 show_call() {
     tenths=$(($2 * 10 / $3))
     echo "$1: $((tenths / 10)).$((tenths % 10)) ns a call"

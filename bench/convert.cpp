@@ -1,9 +1,9 @@
-// For `bench/convert.sh`, over Debian's C++ date library: converts the column on standard input as
-// `pzic convert` does, by the system's files, for fields in plain decimals. Fields may stand in
-// double quotes, where they hold no comma, quote or line end. The library reads no footers, so
-// local time is wrong after 2037 in zones that then have daylight time. Each worker asks the
-// library once for each span of instants at which a zone shows the same. In turn the workers read
-// a block of lines, and in the same order they write its rows.
+// For `bench/convert.sh`: converts the column on standard input as `pzic convert` does, with
+// Debian's C++ date library and the system's files. Instants are plain decimals. Fields may be in
+// double quotes, with no comma, quote or line end inside. The library reads no footers, so local
+// time is wrong after 2037 in zones that then have daylight saving time. Each worker asks the
+// library once for each span of instants at which a zone shows the same. The workers take turns at
+// reading a block of lines, and write the rows in the same order.
 //
 // usage: convert WORKERS
 #include <date/tz.h>
@@ -45,7 +45,7 @@ void put_clock(char *text, long second) {
     put_two(text + 6, second % 60);
 }
 
-// What a zone shows from an instant to before another.
+// The state that a zone shows from one instant up to, but not including, another.
 struct Span {
     sys_seconds begin, end;
     seconds offset;
@@ -62,7 +62,7 @@ struct Span {
     bool has(sys_seconds instant) const { return begin <= instant && instant < end; }
 };
 
-// A zone with those of its spans that were asked for, in rising order.
+// A zone, and the spans that were asked for, in rising order.
 class Zone {
     const date::time_zone *zone;
     std::vector<Span> spans;
@@ -70,7 +70,7 @@ class Zone {
 public:
     explicit Zone(const date::time_zone &zone) : zone(&zone) {}
 
-    // A span stays there until another one of its zone is asked for.
+    // The span stays valid until another one of its zone is asked for.
     const Span *find(sys_seconds instant) {
         auto is_before = [](sys_seconds t, const Span &span) { return t < span.begin; };
         auto next = std::upper_bound(spans.begin(), spans.end(), instant, is_before);
@@ -79,7 +79,7 @@ public:
     }
 };
 
-// Takes a field's double quotes off.
+// Removes the double quotes of a field.
 std::string_view without_quotes(std::string_view field) {
     if (field.empty() || field.front() != '"') return field;
     if (field.size() < 2 || field.back() != '"') refuse("RowFields");
@@ -163,15 +163,15 @@ public:
     }
 };
 
-// What the workers take turns at: reading a block, and writing its rows.
+// The work that is done in turns: reading a block, and writing its rows.
 class Turns {
     std::mutex reading, writing;
     std::condition_variable written_one;
-    std::string part; // of a line, after the last block
+    std::string part; // the start of a line, after the last block
     long blocks_read = 0, blocks_written = 0;
 
 public:
-    // Reads a block of whole lines, empty only at the end, and returns its number.
+    // Reads a block of whole lines, and returns its number. The block is empty only at the end.
     long read(std::string &block) {
         std::lock_guard<std::mutex> turn(reading);
         block = part;

@@ -1,7 +1,7 @@
-//! For `bench/convert.sh`: the yardstick of `pzic convert`, in plain Rust. Converts the column on
-//! standard input by the files of a tree, as `pzic convert` does. Fields may stand in double
-//! quotes, where they hold no comma, quote or line end; a line ends with a newline alone. At a
-//! faulty row it ends with the kind of the fault, but not the row's number.
+//! For `bench/convert.sh`: converts a column in plain Rust, to compare `pzic convert` with. Reads
+//! the column from standard input and uses the files of a tree. Fields may be in double quotes,
+//! with no comma, quote or line end inside; a line ends with a single newline. At a row with a
+//! fault it prints the kind of the fault, but not the row's number, and ends.
 //!
 //! usage: convert TREE WORKERS
 
@@ -51,7 +51,7 @@ fn main() {
     let zones = Zones::read(Path::new(&tree), &calendar);
     let crew = Crew::new(workers.parse().expect("WORKERS"), &zones, &calendar);
     let mut input = Input::new(std::io::stdin().lock());
-    // the descriptor itself, since `Stdout` keeps what follows the last newline
+    // The file descriptor itself, since `Stdout` holds back what follows the last newline.
     let mut output = File::from(std::io::stdout().as_fd().try_clone_to_owned().unwrap());
     while let Some(round) = input.next_round() {
         for text in crew.convert(round) {

@@ -1,26 +1,27 @@
 #!/bin/sh
-# Times `pzic convert` beside two other converters, each by 1 and 4 workers, in one run: the plain
-# Rust of `convert.rs`, and Debian's C++ date library with a cache of spans (`convert.cpp`).
+# Times `pzic convert` beside two other converters, each by 1 and 4 workers: the plain Rust of
+# `convert.rs`, and Debian's C++ date library with a cache of spans (`convert.cpp`).
 #
 # usage: convert.sh [ROWS] | convert.sh stream [ROWS]
 #
-# The columns have ROWS rows (10,000,000): of all zones of the system's release of the tz database
-# by chance, with instants by chance from 1970 to 2037; of America/New_York, with instants that
-# rise through the same years; of all zones, from 2040 to 2400, the years of footers; and the first
-# with both fields in double quotes. Rows go to nowhere. The converters take turns, RUNS (3) times
-# each. The table has the best time of each in seconds and in million rows a second; of pzic how
-# many times as fast it is as with 1 worker, and the most memory of a run; and of the others how
-# fast pzic is beside them ("pzic is 80 %": it makes 80 rows where they make 100).
+# The columns have ROWS rows, by default 10,000,000. `random` has random zones of the system's
+# release of the tz database and random instants from 1970 to 2037; `rising` has America/New_York,
+# with instants that rise through the same years; `footer` has random zones and instants from 2040
+# to 2400, the years of footers; `quoted` is `random` with both fields in double quotes. The rows go
+# to /dev/null. The converters take turns, RUNS times each, by default 3. The table has the best
+# time of each in seconds and in million rows a second. For pzic it also has the speed relative to 1
+# worker, and the greatest memory of a run. For the others it has the speed of pzic in percent of
+# theirs.
 #
-# Before that the rows of all are compared over columns of 1,000,000 rows (or ROWS, if fewer). They
-# are the same with 1 and 4 workers, but for the C++ library in years of footers, which it doesn't
-# read. At the end stands the time from start to end of a column of one row.
+# First the rows of all converters are compared, on columns of 1,000,000 rows (or ROWS, if fewer).
+# They must be the same with 1 and 4 workers, except for the C++ library in the years of footers,
+# which it doesn't read. The last line is the time of a whole run with a column of one row.
 #
-# With the word `stream` pzic alone converts a column of ROWS rows (100,000,000, of just under 4
-# GiB) through pipes.
+# With the word `stream`, only pzic runs. It converts a column of ROWS rows through pipes, by
+# default 100,000,000 rows, which are just under 4 GiB.
 #
-# PZIC is the program, if it isn't to be built. It needs `rt`, `rustc`, `g++`, GNU time, apt-get or
-# the library, and the release.
+# The variable PZIC names the program, if it shouldn't be built. Needs `rt`, `rustc`, `g++`, GNU
+# time, the release, and the C++ library or apt-get to install it.
 set -eu
 . "$(dirname "$0")/common.sh"
 mode=table
@@ -33,7 +34,7 @@ program=${PZIC:-crates/zic_main/out/zic_main}
 [ "${PZIC:-}" ] || build zic_main check -
 plain column
 "$program" build "$work/tree" "$release"
-# the C++ library leaves out Factory
+# The C++ library leaves out Factory.
 (cd "$work/tree" && find . -type f) | sed 's,^\./,,' | grep -v '^Factory$' | LC_ALL=C sort >"$work/names"
 
 load() {
@@ -44,7 +45,7 @@ load() {
 
 if [ "$mode" = stream ]; then
     rows=${1:-100000000}
-    # names of 30 octets and more
+    # Names of 30 bytes and more.
     grep '.\{30\}' "$work/names" >"$work/long"
     octets=$("$work/column" random "$rows" <"$work/long" | wc -c)
     echo "a stream of $rows rows in $octets octets, of which 4294967296 may be: $(load)"
@@ -68,7 +69,7 @@ plain convert
 }
 g++ -std=c++17 -O2 -DUSE_OS_TZDB=1 -pthread -o "$work/library" bench/convert.cpp -ldate-tz
 
-# convert CONVERTER WORKERS: converts standard input, and keeps the most kilobytes of the run
+# convert CONVERTER WORKERS: converts standard input, and keeps the memory of the run in kilobytes.
 convert() {
     case $1 in
     pzic) set -- "$program" convert --workers "$2" "$release" ;;
@@ -78,7 +79,7 @@ convert() {
     command time -f %M -o "$work/kilobytes" "$@"
 }
 
-# column KIND ROWS
+# column KIND ROWS: makes a column.
 column() {
     if [ "$1" = rising ]; then echo America/New_York; else cat "$work/names"; fi >"$work/zones"
     "$work/column" "$1" "$2" <"$work/zones" >"$work/column.csv"
@@ -86,7 +87,7 @@ column() {
 
 # ------------------------------------------------------------------ the rows compared
 
-# compare KIND CONVERTER WORKERS: its rows beside the kept ones of pzic by 1 worker
+# compare KIND CONVERTER WORKERS: compares the rows with those of pzic by 1 worker.
 compare() {
     convert "$2" "$3" <"$work/column.csv" >"$work/rows"
     cmp -s "$work/wanted" "$work/rows" && return
@@ -113,19 +114,19 @@ echo "all other rows of columns of $sample rows are the same"
 
 # ------------------------------------------------------------------ the times
 
-# once CONVERTER WORKERS: keeps the nanoseconds of a run to nowhere, and its kilobytes
+# once CONVERTER WORKERS: runs a converter, and keeps the nanoseconds and kilobytes of the run.
 once() {
     start=$(date +%s%N)
     convert "$1" "$2" <"$work/column.csv" >/dev/null
     echo "$(($(date +%s%N) - start)) $(tail -n 1 "$work/kilobytes")" >>"$work/runs.$1.$2"
 }
 
-# best_of CONVERTER WORKERS: the nanoseconds of its best run
+# best_of CONVERTER WORKERS: prints the nanoseconds of the best run.
 best_of() {
     sort -n "$work/runs.$1.$2" | head -n 1 | cut -d ' ' -f 1
 }
 
-# line KIND WORKERS: a line of the table
+# line KIND WORKERS: prints a line of the table.
 line() {
     most=$(cut -d ' ' -f 2 "$work/runs.pzic.$2" | sort -n | tail -n 1)
     echo "$(best_of pzic "$2") $(best_of convert.rs "$2") $(best_of convert.cpp "$2") $(best_of pzic 1) $most" |
@@ -137,7 +138,7 @@ line() {
         }'
 }
 
-# time_all KIND: the lines of a column
+# time_all KIND: times all converters on a column, and prints its lines of the table.
 time_all() {
     rm -f "$work"/runs.*
     column "$1" "$rows"

@@ -1,5 +1,6 @@
-// The yardstick beside the reader: what is the least that a reader of source text does. It finds the lines, takes them
-// apart at white space and counts who was there, by the second field; of no field does it ask what it says.
+// For `bench/source.sh`: the least work that a reader of source text does. It finds the lines,
+// splits them at white space, and counts the lines by their second field. It doesn't parse any
+// field.
 use std::collections::HashMap;
 use std::io::Read;
 

@@ -1,12 +1,14 @@
 #!/bin/sh
-# Times the reading of all files of the system's release of the tz database and the writing of those of all its zones, on one
-# thread, and prints the milliseconds that each takes, the best of five runs of a thousand. It needs `rt` and the release.
+# Times reading all files of the system's release of the tz database, and writing the files of all
+# its zones, on one thread. Prints the milliseconds of each, the best of five runs of a thousand
+# rounds. Needs `rt` and the release.
 set -eu
 . "$(dirname "$0")/common.sh"
 build bench files
 input=$release
 
-# the difference that a thousand times make, once
+# part NAME WORD: shows the time of one round. It is computed from the times of a thousand rounds
+# and of none.
 part() {
     show "$1" $((($(best "$bench" files "$2" 1000) - $(best "$bench" files "$2" 0)) / 1000))
 }

@@ -1,4 +1,4 @@
-//! The sums of `crates/bench/src/footer.rt` in plain Rust: the same function of the same footer.
+//! Computes the sums of `crates/bench/src/footer.rt` in plain Rust, for the same footer.
 
 mod posix;
 

@@ -1,7 +1,8 @@
 #!/bin/sh
-# Times ten million calls of `Footer::state` over ten years round 2050 and over all instants, as many instants near that are asked of
-# a span that is kept, and as many calls of `Footer::span` over all instants, and the same loops in plain Rust, and prints the
-# nanoseconds a call of each, the best of five runs. It needs `rt` and `rustc` on the PATH.
+# Times four loops of ten million calls and the same loops in plain Rust: `Footer::state` over ten
+# years around 2050, and over all instants; instants around 2050 with a span that is kept; and
+# `Footer::span` over all instants. Prints the nanoseconds of a call, the best of five runs. Needs
+# `rt` and `rustc` on the PATH.
 set -eu
 . "$(dirname "$0")/common.sh"
 side_by_side footer

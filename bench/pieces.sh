@@ -1,12 +1,14 @@
 #!/bin/sh
-# Times run_task by 1, 2 and 4 workers: over 1,000,000 pieces that add one, in nanoseconds a piece, and over 4 such pieces,
-# in microseconds a call. Beside each stands `pieces.rs` in plain Rust. The best of five runs. It needs `rt` and `rustc`.
+# Times `run_task` by 1, 2 and 4 workers: over 1,000,000 pieces that add one, in nanoseconds a
+# piece, and over 4 such pieces, in microseconds a call. Prints the times of `pieces.rs` in plain
+# Rust beside them. Each is the best of five runs. Needs `rt` and `rustc`.
 set -eu
 . "$(dirname "$0")/common.sh"
 build bench pieces
 plain pieces
 
-# show_pieces NAME COMMAND...: of a command whose words are workers, pieces and rounds
+# show_pieces NAME COMMAND...: shows the times of a command that takes the numbers of workers,
+# pieces and rounds.
 show_pieces() {
     name=$1
     shift

@@ -1,4 +1,4 @@
-//! What a POSIX TZ string means, in plain Rust, for `footer.rs` and `convert.rs`, by the usual
+//! The meaning of POSIX TZ strings in plain Rust, for `footer.rs` and `convert.rs`, with the usual
 //! algorithm for dates.
 
 const SECONDS_OF_DAY: i64 = 86_400;
@@ -87,7 +87,7 @@ fn day_in(year: i64, day: DayRule) -> i64 {
     }
 }
 
-/// The instant of an edge of a year, where the offset before it is this one.
+/// Returns the instant of an edge in a year. `offset` is the UT offset before the edge.
 pub fn instant_in(year: i64, edge: &Edge, offset: i32) -> i64 {
     SECONDS_OF_DAY * day_in(year, edge.day) + i64::from(edge.time) - i64::from(offset)
 }
@@ -104,7 +104,7 @@ fn last_not_after(t: i64, year: i64, edge: &Edge, offset: i32) -> i64 {
     instant_in(year - 2, edge, offset)
 }
 
-/// A state, and the first and the last instant at which it is the same.
+/// A state, and the first and the last instant of the time for which it lasts.
 #[derive(Clone, Copy)]
 pub struct Span<'a> {
     pub state: State<'a>,
@@ -112,7 +112,7 @@ pub struct Span<'a> {
     pub last: i64,
 }
 
-/// The last instant of an edge that isn't after `t`, and the first one after it.
+/// Returns the last instant of an edge that isn't after `t`, and the next one.
 fn edges_around(t: i64, year: i64, edge: &Edge, offset: i32) -> (i64, i64) {
     let latest = instant_in(year, edge, offset);
     if latest <= t {

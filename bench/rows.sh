@@ -1,6 +1,7 @@
 #!/bin/sh
-# Times ten million rows whose date mostly stays, ten million whose date changes, and ten million instants of ten digits
-# that are read, and prints the nanoseconds of processor time of each, the best of five runs. It needs `rt` on the PATH.
+# Times writing ten million rows whose date rarely changes, writing ten million rows whose date
+# changes, and reading ten million instants of ten digits. Prints the nanoseconds of processor time
+# of each, the best of five runs. Needs `rt` on the PATH.
 set -eu
 . "$(dirname "$0")/common.sh"
 build bench rows
@@ -10,7 +11,7 @@ far 640000000
 read 49999999995000000
 END
 
-# the nanoseconds of processor time that a run takes, the best of five
+# best_of_processor WORD: prints the nanoseconds of processor time of a run, the best of five.
 best_of_processor() {
     least=
     for _ in 1 2 3 4 5; do

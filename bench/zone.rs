@@ -1,5 +1,6 @@
-//! For `bench/zone.sh`, in plain Rust: the sums of `crates/bench/src/zone.rt` of the file on standard input, where its footer isn't
-//! asked; or with the word `rising` or `random` what `partition_point` finds at the same instants among the same times.
+//! For `bench/zone.sh`: computes the sums of `crates/bench/src/zone.rt` in plain Rust, for the file
+//! on standard input, at instants for which its footer isn't needed. With the word `rising` or
+//! `random`, sums what `partition_point` finds among the same times at the same instants.
 
 use std::io::Read;
 
@@ -15,7 +16,7 @@ struct Zone {
 }
 
 impl Zone {
-    /// The second data block of a file that needs no checks.
+    /// Reads the second data block of a file, without checks.
     fn read(octets: &[u8]) -> Zone {
         let number = |place: usize| u32::from_be_bytes(octets[place..place + 4].try_into().unwrap()) as usize;
         let counts = |header: usize| [20, 24, 28, 32, 36, 40].map(|place| number(header + place));
@@ -36,7 +37,7 @@ impl Zone {
         }
     }
 
-    /// What the file says, as one number.
+    /// Returns the answer of the file as one number.
     fn number(&self, t: i64) -> i64 {
         let count = self.times.partition_point(|time| *time <= t);
         let number = if count == 0 { 0 } else { self.numbers[count - 1] };

@@ -1,7 +1,7 @@
 #!/bin/sh
-# Times ten million calls of `Zone::at` of the file of America/New_York, at rising and at random instants from 1901 to 2037, and
-# as many calls of `partition_point` over the same times in plain Rust, and prints the nanoseconds a call of each, the best of
-# five runs. It needs `rt` and `rustc` on the PATH.
+# Times ten million calls of `Zone::at` for the file of America/New_York, at rising and at random
+# instants from 1901 to 2037, and as many calls of `partition_point` over the same times in plain
+# Rust. Prints the nanoseconds of a call, the best of five runs. Needs `rt` and `rustc` on the PATH.
 set -eu
 . "$(dirname "$0")/common.sh"
 input=bench/new_york.tzif

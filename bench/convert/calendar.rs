@@ -1,33 +1,33 @@
-//! The calendar of the years 1 to 9999, as tables that are made once.
+//! The calendar of the years 1 to 9999, as tables that are computed once.
 
-/// The seconds of a day.
+/// The number of seconds in a day.
 pub const DAY: i64 = 86_400;
 
-/// The days from 0001-01-01 to 1970-01-01.
+/// The number of days from 0001-01-01 to 1970-01-01.
 pub const DAYS_TO_1970: i64 = 719_162;
 
-/// The number of kinds of years: by the weekday of January 1, and with or without February 29.
+/// The number of kinds of years: one for each weekday of January 1, with and without February 29.
 pub const KINDS: usize = 14;
 
-/// The kinds of leap years are from this one on.
+/// The first kind of leap years.
 const FIRST_LEAP_KIND: u8 = 7;
 
-/// The years of the table. The last is there so that each of the others has one after it.
+/// The number of years in the table. The last one is there so that each other year has a successor.
 const YEARS: i64 = 10_001;
 
 pub struct Calendar {
-    /// From the year 1 on.
+    /// The years from 1 on.
     years: Vec<Year>,
-    /// `-MM-DDT0`, by the day of a common year, and then by that of a leap year.
+    /// `-MM-DDT0` for each day of a common year, and then for each day of a leap year.
     dates: Vec<[u8; 8]>,
-    /// `hh:mm:00`, by the minute of the day.
+    /// `hh:mm:00` for each minute of the day.
     minutes: Vec<[u8; 8]>,
 }
 
 pub struct Year {
-    /// The days from 0001-01-01 to its January 1.
+    /// The number of days from 0001-01-01 to January 1 of the year.
     first_day: u32,
-    /// Below `KINDS`.
+    /// The kind of the year, below `KINDS`.
     pub kind: u8,
     digits: [u8; 4],
 }
@@ -59,7 +59,7 @@ fn eight(text: String) -> [u8; 8] {
     text.into_bytes().try_into().unwrap()
 }
 
-/// Returns `-MM-DDT0` of the days of a year.
+/// Returns `-MM-DDT0` for each day of a year.
 fn dates_of(february: u32) -> impl Iterator<Item = [u8; 8]> {
     let lengths = [31, february, 31, 30, 31, 30, 31, 31, 30, 31, 30, 31];
     let days = (1..).zip(lengths).flat_map(|(month, len)| (1..=len).map(move |day| (month, day)));
@@ -75,13 +75,13 @@ impl Calendar {
         }
     }
 
-    /// Returns a year by its number, from 1 on.
+    /// Returns a year by its number, which starts at 1.
     pub fn year(&self, number: usize) -> &Year {
         &self.years[number - 1]
     }
 
-    /// Returns the year of a day from 0001-01-01 on, and the year after it. The average year gives
-    /// a guess that is at most one off.
+    /// Returns the year of a day, counted from 0001-01-01, and the next year. The average length of
+    /// a year gives a guess that is off by at most one.
     #[inline(always)]
     pub fn year_and_next(&self, day: u32) -> (&Year, &Year) {
         let guess = (u64::from(day) * 400 / 146_097) as usize;
@@ -90,7 +90,7 @@ impl Calendar {
         (&self.years[place], &self.years[place + 1])
     }
 
-    /// Writes `YYYY-MM-DDT0` of a day from 0001-01-01 on.
+    /// Writes `YYYY-MM-DDT0` for a day, counted from 0001-01-01.
     #[inline(always)]
     pub fn write_date(&self, text: &mut [u8; 12], day: u32) {
         let (year, _) = self.year_and_next(day);
@@ -99,7 +99,7 @@ impl Calendar {
         text[4..].copy_from_slice(&self.dates[in_year as usize]);
     }
 
-    /// Writes `hh:mm:ss` of a second of the day.
+    /// Writes `hh:mm:ss` for a second of the day.
     #[inline(always)]
     pub fn write_time(&self, text: &mut [u8; 8], second: u32) {
         *text = self.minutes[(second / 60) as usize];

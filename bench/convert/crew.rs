@@ -1,4 +1,4 @@
-//! Rounds, converted by many workers.
+//! Conversion of rounds by several workers.
 
 use crate::calendar::Calendar;
 use crate::input::Round;
@@ -8,15 +8,15 @@ use crate::zones::Zones;
 use std::sync::Mutex;
 use std::sync::atomic::{AtomicUsize, Ordering::SeqCst};
 
-/// The lines that a worker takes at a time.
+/// The number of lines that a worker takes at a time.
 const PIECE: usize = 1024;
 
-/// Workers, who are started for each round.
+/// The workers. Their threads are started for each round.
 pub struct Crew<'a> {
     workers: usize,
     zones: &'a Zones,
     calendar: &'a Calendar,
-    /// Texts to be filled again.
+    /// Buffers to be filled again.
     spare: Mutex<Vec<Text>>,
 }
 
@@ -25,8 +25,8 @@ impl<'a> Crew<'a> {
         Crew { workers, zones, calendar, spare: Mutex::default() }
     }
 
-    /// Returns the texts of the rows of a round, piece by piece. The workers, of whom the caller is
-    /// one, draw its pieces.
+    /// Returns the texts of the rows of a round, piece by piece. The workers, one of which is the
+    /// caller, draw its pieces.
     pub fn convert(&self, round: Round<'_>) -> impl Iterator<Item = Text> {
         let cuts = cuts(round);
         let next = AtomicUsize::new(0);
@@ -54,14 +54,14 @@ impl<'a> Crew<'a> {
         }
     }
 
-    /// Takes back a text that is written.
+    /// Takes back the buffer of a text that was written.
     pub fn put_back(&self, mut text: Text) {
         text.clear();
         self.spare.lock().unwrap().push(text);
     }
 }
 
-/// Returns where the pieces of a round begin, and where the last one ends.
+/// Returns the indices at which the pieces of a round begin, and the end of the last one.
 fn cuts(round: Round<'_>) -> Vec<usize> {
     let mut cuts = vec![0];
     let mut at = 0;
@@ -72,7 +72,7 @@ fn cuts(round: Round<'_>) -> Vec<usize> {
     cuts
 }
 
-/// Returns where the piece that begins at `at` ends. It looks for line ends block by block.
+/// Returns the end of the piece that begins at `at`. Searches for line ends block by block.
 fn after_piece(round: Round<'_>, at: usize) -> usize {
     let (mut at, mut left) = (at, PIECE);
     while at < round.end {
@@ -88,7 +88,7 @@ fn after_piece(round: Round<'_>, at: usize) -> usize {
     round.end
 }
 
-/// Returns the place of a bit that is set, by its number among them, from 0 on.
+/// Returns the index of the set bit with a number, counted from 0.
 fn place_of_bit(bits: u32, number: usize) -> usize {
     let mut bits = bits;
     for _ in 0..number {

@@ -1,27 +1,27 @@
-//! What a footer shows, made ready for rows.
+//! The meaning of a footer, prepared for rows.
 
 use crate::calendar::{Calendar, DAY, DAYS_TO_1970, KINDS};
 use crate::posix::{self, Dst};
 use crate::tail::Tail;
 use crate::zone::Span;
 
-/// Years in which each kind of year occurs.
+/// Some years among which each kind of year occurs.
 const YEARS_OF_ALL_KINDS: std::ops::RangeInclusive<usize> = 2001..=2028;
 
 /// The two edges of a year, in seconds from its start in UT.
 type Edges = [i64; 2];
 
 pub enum Footer {
-    /// Standard time alone.
+    /// Standard time all year.
     Fixed(Tail),
-    /// Two edges a year, always in the same order and each within its own UT year: those of all
-    /// years of a kind are the same.
+    /// Two edges a year, always in the same order and each within its own UT year. They are the
+    /// same for all years of a kind.
     Yearly { outside: Tail, between: Tail, edges: [Edges; KINDS] },
-    /// Any other one with daylight time.
+    /// Any other footer with daylight saving time.
     Walk { standard: Tail, daylight: Tail, footer: posix::Footer },
 }
 
-/// Returns the start and the stop of daylight time by kind of year.
+/// Returns the start and the stop of daylight saving time for each kind of year.
 fn edges_of_kinds(offset: i32, dst: &Dst, calendar: &Calendar) -> [Edges; KINDS] {
     let mut edges = [[0; 2]; KINDS];
     for number in YEARS_OF_ALL_KINDS {
@@ -39,7 +39,7 @@ impl Footer {
         let Some(dst) = &footer.dst else { return Footer::Fixed(standard) };
         let daylight = Tail::new(dst.offset, true, &dst.name);
         let edges = edges_of_kinds(footer.offset, dst, calendar);
-        // no year has fewer days
+        // No year has fewer days.
         let are_within = edges.as_flattened().iter().all(|edge| (0..365 * DAY).contains(edge));
         if are_within && edges.iter().all(|[start, stop]| start < stop) {
             return Footer::Yearly { outside: standard, between: daylight, edges };
@@ -51,7 +51,8 @@ impl Footer {
         Footer::Walk { standard, daylight, footer }
     }
 
-    /// Returns what the footer shows at an instant of the years 1 to 9999, and from when to when.
+    /// Returns the state that the footer means at an instant of the years 1 to 9999, and the span
+    /// of instants for which it lasts.
     #[inline(always)]
     pub fn span(&self, t: i64, calendar: &Calendar) -> Span<'_> {
         match self {

@@ -1,13 +1,13 @@
-//! The text of a footer, as a file has it, which needs no checks.
+//! Reads the text of a footer, without checks.
 
 use crate::posix::{DayRule, Dst, Edge, Footer};
 
-/// Returns the footer of a text that isn't empty.
+/// Returns the footer that a text spells. The text must not be empty.
 pub fn parse(text: &str) -> Footer {
     Rest(text).footer()
 }
 
-/// The text that isn't yet read.
+/// The rest of the text.
 struct Rest<'a>(&'a str);
 
 impl Rest<'_> {
@@ -23,14 +23,14 @@ impl Rest<'_> {
         Footer { std, offset, dst: Some(dst) }
     }
 
-    /// Returns the text before the first of the letters that end it, and passes it.
+    /// Returns the text before the first of some bytes, and skips it.
     fn take(&mut self, is_end: impl Fn(char) -> bool) -> &str {
         let (text, rest) = self.0.split_at(self.0.find(is_end).unwrap_or(self.0.len()));
         self.0 = rest;
         text
     }
 
-    /// Returns whether the text begins with a sign, and passes it.
+    /// Returns whether the text begins with a sign, and skips the sign.
     fn passes(&mut self, sign: char) -> bool {
         let rest = self.0.strip_prefix(sign);
         self.0 = rest.unwrap_or(self.0);

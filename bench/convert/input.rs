@@ -4,20 +4,20 @@ use crate::octets::BLOCK;
 use crate::refuse;
 use std::io::Read;
 
-/// The most octets of a round.
+/// The maximum number of bytes of a round.
 const ROUND: usize = 4 << 20;
 
-/// What stands after a round's lines, so that blocks may be read from any place of them.
+/// The bytes after the lines of a round, so that blocks can be read from any place in them.
 const SPARE: usize = 2 * BLOCK;
 
 /// Reads a column.
 pub struct Input<R> {
     reader: R,
-    /// The lines of the last round, what was read after them, and room.
+    /// The lines of the last round, the bytes that were read after them, and free room.
     octets: Vec<u8>,
-    /// Where the lines of the last round end.
+    /// The end of the lines of the last round.
     end: usize,
-    /// Where what was read ends.
+    /// The end of the bytes that were read.
     len: usize,
 }
 
@@ -26,7 +26,7 @@ pub struct Input<R> {
 pub struct Round<'a> {
     /// The lines, and at least two blocks of octets after them.
     pub octets: &'a [u8],
-    /// Where the lines end.
+    /// The end of the lines.
     pub end: usize,
 }
 
@@ -35,7 +35,7 @@ impl<R: Read> Input<R> {
         Input { reader, octets: vec![0; ROUND + 1 + SPARE], end: 0, len: 0 }
     }
 
-    /// Reads the next round, where there is one. The last line may lack its end, and is given one.
+    /// Reads the next round, if there is one. If the last line has no line end, it gets one.
     pub fn next_round(&mut self) -> Option<Round<'_>> {
         self.octets.copy_within(self.end..self.len, 0);
         self.len -= self.end;
@@ -52,7 +52,7 @@ impl<R: Read> Input<R> {
         (self.end > 0).then_some(Round { octets: &self.octets, end: self.end })
     }
 
-    /// Reads until a round is in hand, or the column ends, and returns whether it ends.
+    /// Reads until a round is complete or the column ends, and returns whether it ended.
     fn gather(&mut self) -> bool {
         while self.len < ROUND {
             let count = self.reader.read(&mut self.octets[self.len..ROUND]).unwrap();

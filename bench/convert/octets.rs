@@ -1,9 +1,9 @@
-//! Octets, looked at 32 or eight at a time.
+//! Functions that handle 32 or eight bytes at a time.
 
-/// The number of octets of a block.
+/// The number of bytes in a block.
 pub const BLOCK: usize = 32;
 
-/// Returns the bits of the block that begins at `at`: bit k is set where octet k is `wanted`.
+/// Returns the bits of the block that begins at `at`: bit k is set if byte k is `wanted`.
 #[inline(always)]
 pub fn equal_in_block(octets: &[u8], at: usize, wanted: u8) -> u32 {
     equal(octets[at..at + BLOCK].try_into().unwrap(), wanted)
@@ -30,14 +30,14 @@ fn equal(block: &[u8; BLOCK], wanted: u8) -> u32 {
     (0..BLOCK).fold(0, |bits, k| bits | u32::from(block[k] == wanted) << k)
 }
 
-/// Returns the eight octets from `at` on as a number, the first of them the lowest.
+/// Returns the eight bytes from `at` on as a number, with the first byte the lowest.
 #[inline(always)]
 pub fn word(octets: &[u8], at: usize) -> u64 {
     u64::from_le_bytes(octets[at..at + 8].try_into().unwrap())
 }
 
-/// Copies `len` octets from `at` on to the start of `out`. Up to a block it copies a whole one, as
-/// a copy of fixed size needs no call: both have to have that much.
+/// Copies `len` bytes from `at` to the start of `out`. If there is at most one block to copy, it
+/// copies a whole block, because a copy of fixed size needs no call. Both must have that much room.
 #[inline(always)]
 pub fn copy(out: &mut [u8], octets: &[u8], at: usize, len: usize) {
     if len <= BLOCK {

@@ -1,27 +1,27 @@
-//! The fields of a line, and the number that one spells.
+//! The fields of a line, and the number that a field spells.
 
 use crate::octets::{BLOCK, equal_in_block, word};
 use crate::refuse;
 use std::ops::Range;
 
-/// The first instant of a row, 0001-01-02 00:00:00 UT.
+/// The first instant that a row may have, 0001-01-02 00:00:00 UT.
 const FIRST_INSTANT: i64 = -62_135_510_400;
 
-/// The last instant of a row, 9999-12-30 23:59:59 UT.
+/// The last instant that a row may have, 9999-12-30 23:59:59 UT.
 const LAST_INSTANT: i64 = 253_402_214_399;
 
-/// Eight times the digit 0.
+/// The digit 0 in each of eight bytes.
 const ALL_ZEROS: u64 = 0x3030_3030_3030_3030;
 
-/// What takes an octet above 9 to its bit 7, eight times.
+/// A number that, when added, sets bit 7 of each of eight bytes that is above 9.
 const TO_BIT_7: u64 = 0x7676_7676_7676_7676;
 
 const ALL_BIT_7: u64 = 0x8080_8080_8080_8080;
 
-/// The first and the third of four pairs.
+/// A mask for the first and the third of four pairs.
 const TWO_PAIRS: u64 = 0x0000_00ff_0000_00ff;
 
-/// Where the fields of a line stand, without their quotes, and where the line ends.
+/// The places of the fields of a line, without their quotes, and of the end of the line.
 pub struct Record {
     pub name: Range<usize>,
     pub instant: Range<usize>,
@@ -29,7 +29,7 @@ pub struct Record {
     pub has_quotes: bool,
 }
 
-/// Returns the record of the line that begins at `at`, of which the end is there.
+/// Returns the record of the line that begins at `at`. The end of the line must be there.
 #[inline(always)]
 pub fn record(octets: &[u8], at: usize) -> Record {
     let end = end_of_line(octets, at);
@@ -54,7 +54,7 @@ fn end_of_line(octets: &[u8], at: usize) -> usize {
     }
 }
 
-/// Returns the place of the first comma of a line: mostly it stands in its first block.
+/// Returns the index of the first comma of a line, which is usually in its first block.
 #[inline(always)]
 fn comma_before(octets: &[u8], at: usize, end: usize) -> usize {
     let commas = equal_in_block(octets, at, b',');
@@ -69,7 +69,7 @@ fn comma_before(octets: &[u8], at: usize, end: usize) -> usize {
     }
 }
 
-/// Returns where the text between the double quotes of a field stands, or the field itself where it
+/// Returns the place of the text between the double quotes of a field, or of the whole field if it
 /// has none.
 #[inline(always)]
 fn without_quotes(octets: &[u8], field: Range<usize>) -> Range<usize> {
@@ -80,12 +80,12 @@ fn without_quotes(octets: &[u8], field: Range<usize>) -> Range<usize> {
     }
 }
 
-/// An instant that a field names.
+/// An instant, read from a field.
 #[derive(Clone, Copy)]
 pub struct Instant {
-    /// In seconds from 1970-01-01 00:00:00 UT.
+    /// Seconds from 1970-01-01 00:00:00 UT.
     pub seconds: i64,
-    /// Whether the field has it in plain decimals, as a row has it.
+    /// Whether the field is the plain decimal that a row has.
     pub is_plain: bool,
 }
 
@@ -104,7 +104,7 @@ pub fn instant(octets: &[u8], field: &Range<usize>) -> Instant {
 }
 
 /// Returns the number that 1 to 18 digits spell. Up to 16 digits are read eight at a time, with
-/// zeros in place of what stands before them.
+/// zeros in place of the bytes before them.
 #[inline(always)]
 fn number(octets: &[u8], start: usize, end: usize) -> Option<u64> {
     let len = end - start;
@@ -121,8 +121,8 @@ fn number_of_digits(digits: &[u8]) -> Option<u64> {
     are_digits.then(|| digits.iter().fold(0, |n, digit| n * 10 + u64::from(digit - b'0')))
 }
 
-/// Returns the last `count` of eight octets as digits from 0 to 9, with zeros before them, where
-/// all are digits.
+/// Returns the last `count` of eight bytes as digits from 0 to 9, with zeros before them, or `None`
+/// if one isn't a digit.
 #[inline(always)]
 fn digits(octets: u64, count: usize) -> Option<u64> {
     let digits = octets ^ ALL_ZEROS;
@@ -130,8 +130,8 @@ fn digits(octets: u64, count: usize) -> Option<u64> {
     ((kept | kept.wrapping_add(TO_BIT_7)) & ALL_BIT_7 == 0).then_some(kept)
 }
 
-/// Returns the number of eight digits from 0 to 9, the first of them the lowest octet. It makes
-/// pairs of them, and adds these up in the upper half of a word.
+/// Returns the number that eight digits from 0 to 9 spell, with the first in the lowest byte. It
+/// combines them to pairs, and adds the pairs in the upper half of a word.
 #[inline(always)]
 fn value(digits: u64) -> u64 {
     let pairs = digits.wrapping_mul(10).wrapping_add(digits >> 8);

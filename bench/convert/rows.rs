@@ -7,17 +7,17 @@ use crate::refuse;
 use crate::zone::Zone;
 use crate::zones::{Zones, is_same};
 
-/// The room of a row beside the octets of its line: more than what follows the instant, and than
-/// what a copy of a whole block may write after its end.
+/// The room for a row, in addition to the bytes of its line: more than what follows the instant,
+/// and more than a copy of a whole block may write past its end.
 const ROOM: usize = 128;
 
-/// The first room of a text: that of a piece of usual rows.
+/// The initial capacity of a text: enough for a piece of usual rows.
 const FIRST_ROOM: usize = 1 << 16;
 
-/// The octets of `,YYYY-MM-DDThh:mm:ss`.
+/// The number of bytes of `,YYYY-MM-DDThh:mm:ss`.
 const TIME_LEN: usize = 20;
 
-/// The text of rows, in a buffer that may be kept and filled again.
+/// The text of rows, in a buffer that can be kept and filled again.
 #[derive(Default)]
 pub struct Text {
     buffer: Vec<u8>,
@@ -33,7 +33,7 @@ impl Text {
         self.len = 0;
     }
 
-    /// Makes sure of room for `count` octets, and returns it.
+    /// Ensures that there is room for `count` bytes, and returns it.
     #[inline(always)]
     fn room(&mut self, count: usize) -> &mut [u8] {
         if self.buffer.len() < self.len + count {
@@ -43,21 +43,22 @@ impl Text {
     }
 }
 
-/// Writes rows, and keeps from row to row what they have in common.
+/// Writes rows, and keeps from one row to the next what they have in common.
 pub struct Rows<'a> {
     zones: &'a Zones,
     calendar: &'a Calendar,
-    /// The name of the last row, which is empty before the first.
+    /// The name of the last row, empty before the first row.
     name: &'a [u8],
     zone: Option<&'a Zone>,
-    /// The first and the last instant at which the zone shows the same, none where they fall.
+    /// The first and the last instant at which the zone shows the same. If the first is greater
+    /// than the last, there is none.
     first: i64,
     last: i64,
-    /// In seconds, positive east.
+    /// The UT offset in seconds, positive east.
     offset: i64,
-    /// From 0001-01-01 on.
+    /// The day, counted from 0001-01-01.
     day: u32,
-    /// What follows the instant, but for the time of day, and zeros after it.
+    /// The text after the instant, without the time of day, and zeros after it.
     rest: [u8; 2 * BLOCK],
     rest_len: usize,
 }
@@ -78,8 +79,8 @@ impl<'a> Rows<'a> {
         }
     }
 
-    /// Writes the rows of the lines that stand from `start` to `end`, after which two blocks of
-    /// octets follow.
+    /// Writes the rows of the lines from `start` to `end`. Two blocks of bytes must follow the
+    /// lines.
     pub fn write(&mut self, octets: &'a [u8], start: usize, end: usize, text: &mut Text) {
         let mut at = start;
         while at < end {
@@ -94,7 +95,7 @@ impl<'a> Rows<'a> {
         }
     }
 
-    /// Turns to what a zone shows at an instant.
+    /// Updates the kept state to the one that a zone shows at an instant.
     #[inline(always)]
     fn turn_to(&mut self, name: &'a [u8], t: i64) {
         if name.len() != self.name.len() || !is_same(name, self.name) {
@@ -116,8 +117,9 @@ impl<'a> Rows<'a> {
         self.rest_len = TIME_LEN + span.tail.len;
     }
 
-    /// Writes what follows the instant, and returns its length. It is copied first and the time of
-    /// day written into the copy: a copy of octets that were just stored would wait for them.
+    /// Writes the text after the instant, and returns its length. It is copied first, and the time
+    /// of day is then written into the copy, because a copy of bytes that were just stored would
+    /// wait for them.
     #[inline(always)]
     fn write_rest(&mut self, out: &mut [u8], t: i64) -> usize {
         let local = (t + self.offset + DAYS_TO_1970 * DAY) as u64;
@@ -133,8 +135,8 @@ impl<'a> Rows<'a> {
     }
 }
 
-/// Writes the name, a comma and the instant in plain decimals, and returns their length. Mostly the
-/// line that begins at `at` is just that.
+/// Writes the name, a comma and the instant as a plain decimal, and returns their length. Usually
+/// the line that begins at `at` is exactly that.
 #[inline(always)]
 fn write_head(
     out: &mut [u8],

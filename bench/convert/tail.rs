@@ -3,11 +3,11 @@
 use crate::octets::BLOCK;
 use std::io::Write;
 
-/// What a row has after its local time, as `,-05:00:00,0,EST` and a newline: made once for each
-/// local time type and each part of a footer.
+/// The text of a row after its local time, such as `,-05:00:00,0,EST` and a newline. It is made
+/// once for each local time type and for each part of a footer.
 #[derive(Clone)]
 pub struct Tail {
-    /// Zeros follow the text, so that a row copies a fixed number of octets.
+    /// The text, followed by zeros, so that a row can copy a fixed number of bytes.
     pub octets: [u8; BLOCK],
     pub len: usize,
     /// The UT offset in seconds, positive east.
@@ -15,8 +15,8 @@ pub struct Tail {
 }
 
 impl Tail {
-    /// Makes the tail of a UT offset in seconds, a daylight flag and an abbreviation of at most 16
-    /// octets.
+    /// Returns the tail for a UT offset in seconds, a daylight flag and an abbreviation of at most
+    /// 16 bytes.
     pub fn new(offset: i32, daylight: bool, abbreviation: &[u8]) -> Tail {
         let sign = if offset < 0 { '-' } else { '+' };
         let size = offset.unsigned_abs();

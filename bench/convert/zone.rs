@@ -1,36 +1,37 @@
-//! The file of a zone, made ready for rows.
+//! The file of a zone, prepared for rows.
 
 use crate::calendar::Calendar;
 use crate::footer::Footer;
 use crate::footer_text;
 use crate::tail::Tail;
 
-/// Hints are of 2^9 to 2^10 slots of time.
+/// The binary logarithm of the least number of slots: hints have 2^9 to 2^10 slots of time.
 const LEAST_SLOTS_LOG: u32 = 9;
 
 pub struct Zone {
     times: Vec<i64>,
-    /// Of the local time types from these times on.
+    /// The number of the local time type from each time on.
     numbers: Vec<u8>,
-    /// By local time type.
+    /// The tails, by local time type.
     tails: Vec<Tail>,
     hints: Hints,
     footer: Option<Footer>,
 }
 
-/// What local time shows from a first to a last instant.
+/// The tail that applies from a first to a last instant.
 pub struct Span<'a> {
     pub tail: &'a Tail,
     pub first: i64,
     pub last: i64,
 }
 
-/// Where the search for a time begins.
+/// The hints, at which the search for a transition begins.
 #[derive(Default)]
 struct Hints {
-    /// By slot, how many times are not after its start. The first slot starts at the first time.
+    /// For each slot, the number of times that are not after its start. The first slot starts at
+    /// the first time.
     counts: Vec<u16>,
-    /// A slot has 2^shift seconds.
+    /// The binary logarithm of a slot's length: a slot has 2^shift seconds.
     shift: u32,
 }
 
@@ -45,12 +46,12 @@ impl Hints {
     }
 }
 
-/// Returns the big-endian number at a place of a file.
+/// Returns the big-endian number at an index of a file.
 fn number(file: &[u8], place: usize) -> usize {
     u32::from_be_bytes(file[place..place + 4].try_into().unwrap()) as usize
 }
 
-/// Returns the six counts of the header at a place of a file.
+/// Returns the six counts of the header at an index of a file.
 fn counts(file: &[u8], header: usize) -> [usize; 6] {
     [20, 24, 28, 32, 36, 40].map(|place| number(file, header + place))
 }
@@ -62,7 +63,7 @@ fn tail_of(record: &[u8], names: &[u8]) -> Tail {
 }
 
 impl Zone {
-    /// Reads the second data block and the footer of a file, which needs no checks.
+    /// Reads the second data block and the footer of a file, without checks.
     pub fn new(file: &[u8], calendar: &Calendar) -> Zone {
         let [ut, standard, _, times, types, letters] = counts(file, 0);
         let header = 44 + times * 5 + types * 6 + letters + standard + ut;
@@ -83,7 +84,8 @@ impl Zone {
         }
     }
 
-    /// Returns what local time shows at an instant of the years 1 to 9999, and from when to when.
+    /// Returns the local time that applies at an instant of the years 1 to 9999, and the span of
+    /// instants for which it lasts.
     #[inline(always)]
     pub fn span(&self, t: i64, calendar: &Calendar) -> Span<'_> {
         let [first, .., last] = self.times[..] else { return self.span_of_few(t, calendar) };
@@ -102,7 +104,7 @@ impl Zone {
         Span { tail, first: self.times[count - 1], last: self.times[count] - 1 }
     }
 
-    /// Returns the span of a zone of at most one time.
+    /// Returns the span of a zone that has at most one time.
     fn span_of_few(&self, t: i64, calendar: &Calendar) -> Span<'_> {
         match self.times[..] {
             [time, ..] if t < time => {

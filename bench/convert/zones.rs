@@ -5,18 +5,18 @@ use crate::octets::word;
 use crate::zone::Zone;
 use std::path::Path;
 
-/// A slot of the table that has no zone.
+/// A slot of the table without a zone.
 const NONE: u16 = u16::MAX;
 
-/// Zones by name, in a table that is four times as long as there are names: a zone stands in the
-/// first free slot from its name's hash on.
+/// Zones by name, in a table with four times as many slots as names. A zone is in the first free
+/// slot from the hash of its name on.
 pub struct Zones {
     table: Vec<u16>,
     names: Vec<Vec<u8>>,
     zones: Vec<Zone>,
 }
 
-/// Returns a hash of a name's length and of its first, its second and its last eight octets.
+/// Returns a hash of a name's length and of its first, second and last eight bytes.
 #[inline(always)]
 fn hash(name: &[u8]) -> usize {
     let len = name.len();
@@ -29,13 +29,14 @@ fn hash(name: &[u8]) -> usize {
     (mixed ^ mixed >> 29 ^ mixed >> 47) as usize
 }
 
-/// Returns fewer than eight octets as a number, the first the lowest.
+/// Returns fewer than eight bytes as a number, with the first byte the lowest.
 #[inline(always)]
 fn short_word(octets: &[u8]) -> u64 {
     octets.iter().rev().fold(0, |number, octet| number << 8 | u64::from(*octet))
 }
 
-/// Returns whether two names of one length are the same; those of 8 to 16 octets by two words each.
+/// Returns whether two names of the same length are equal. Names of 8 to 16 bytes are compared by
+/// two words each.
 #[inline(always)]
 pub fn is_same(name: &[u8], other: &[u8]) -> bool {
     let len = name.len();
@@ -71,7 +72,7 @@ impl Zones {
         }
     }
 
-    /// Puts a zone into the table.
+    /// Inserts a zone into the table.
     fn place(&mut self, number: usize) {
         let mask = self.table.len() - 1;
         let mut slot = hash(&self.names[number]) & mask;

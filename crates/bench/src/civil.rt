@@ -1,5 +1,5 @@
-//! Sums `civil` and `weekday` over ten million days and prints the sums, for `bench/civil.sh` to
-//! time. The word `civil` or `weekday` asks for one of the two.
+//! Sums `civil` or `weekday` over ten million days and prints the sums, for `bench/civil.sh` to
+//! time. The word `civil` or `weekday` chooses the function; without a word it sums both.
 
 use std::rt::Env;
 use std::{env, io};
@@ -8,7 +8,7 @@ use zic_calendar::{civil, weekday};
 /// The day number of 0001-01-01.
 const FIRST_DAY: i64 = -719_162;
 
-/// The days from 0001-01-01 to 9999-12-31.
+/// The number of days from 0001-01-01 to 9999-12-31.
 const DAYS: u32 = 3_652_059;
 
 const CALLS: u32 = 10_000_000;
@@ -44,8 +44,7 @@ fn weekday_sum() -> u64 {
     total
 }
 
-/// Returns the digits of the date of one day, as YYYYMMDD, plus those of one time of day, as
-/// HHMMSS.
+/// Returns the date of a day as the number YYYYMMDD, plus a time of day as the number HHMMSS.
 fn digits(call: u32) -> u64 {
     let civil = civil(FIRST_DAY + (call % DAYS) as i64, call % 86_400);
     let date = civil.year as u64 * 10_000 + civil.month as u64 * 100 + civil.day as u64;

@@ -1,7 +1,7 @@
-//! Reads and writes the files of the source text of standard input, for `bench/files.sh` to time:
-//! `read` reads all files and counts the octets of their footers, and `write` writes the files of
-//! all zones and counts their octets. A number after the word says how many times, once if there
-//! is none. Without a word both are done.
+//! Reads or writes the files of the source text on standard input, for `bench/files.sh` to time.
+//! With the word `read` it reads all files and counts the bytes of their footers; with `write` it
+//! writes the files of all zones and counts their bytes. A number after the word says how often, by
+//! default once. Without a word it does both.
 
 ghost use Rattle.std.specs.Prelude.{◌<◌, length};
 
@@ -16,7 +16,7 @@ use zic_source::{Source, Stop, read_source};
 use zic_table::{Table, table};
 use zic_tzif::{read, write};
 
-/// Prints the bytes that the words ask for.
+/// Prints the numbers of bytes that the words ask for.
 pub fn run<R: Env + Input + Print + AllocGlobal>(rt: &R) -> io::Result<()> {
     let alloc = rt.alloc();
     let mut words = env::args(rt)?.skip(2);
@@ -47,7 +47,7 @@ pub fn run<R: Env + Input + Print + AllocGlobal>(rt: &R) -> io::Result<()> {
     Ok(())
 }
 
-/// Returns the bytes of the footers of all files, which are read this number of times.
+/// Returns the number of bytes of the footers of all files, after reading them a number of times.
 fn octets_read(alloc: Global, source: &Source, times: u32) -> Result<usize, Stop> {
     let files = compile(alloc, source)?;
     let mut octets = 0usize;
@@ -68,7 +68,7 @@ fn read_all(alloc: Global, files: &Files) -> Result<usize, AllocError> {
     Ok(octets)
 }
 
-/// Returns the bytes of the files of all zones, which are written this number of times.
+/// Returns the number of bytes of the files of all zones, after writing them a number of times.
 fn octets_written(alloc: Global, source: &Source, times: u32) -> Result<usize, Stop> {
     let tables = tables_of(alloc, source)?;
     let mut octets = 0usize;
@@ -98,7 +98,7 @@ fn tables_of(alloc: Global, source: &Source) -> Result<Vec<Table>, Stop> {
 fn table_of(alloc: Global, source: &Source, zone: usize) -> Result<Table, Stop>
     requires { zone < length source.now.zones }
 {
-    // `zones` also tells that the source is sound.
+    // `zones` also ensures that the source is sound.
     prove!(zone < source.zones());
     let place = source.line(zone, 0).place;
     let states = timeline(alloc, source, zone)?;

@@ -1,7 +1,8 @@
-//! Sums what a footer shows over ten million instants and prints the sums, for `bench/footer.sh`
-//! to time: near, over ten years round 2050, and far, over all instants; and the same by spans:
-//! kept, near, where a new one is asked for only past the last, and spans, far, where one is asked
-//! for at each instant. The word `near`, `far`, `kept` or `spans` asks for one of the four.
+//! Sums what a footer means at ten million instants and prints the sums, for `bench/footer.sh` to
+//! time. The word chooses one of four loops: `near` asks for states over ten years around 2050, and
+//! `far` for states over all instants. `kept` asks at the instants of `near`, for a new span only
+//! when an instant is past the last one. `spans` asks at the instants of `far`, for a span each
+//! time. Without a word it runs all four.
 
 ghost use Rattle.std.specs.Int.{IsInRange};
 ghost use Rattle.zic_posix.specs.Grammar.{IsEdge};
@@ -15,10 +16,10 @@ use zic_posix::{Abbr, DayRule, Dst, Edge, Footer};
 /// 2045-01-01 00:00 UT.
 const FIRST_NEAR: i64 = 2_366_841_600;
 
-/// Ten million of these are ten years.
+/// The step with which ten million instants cover ten years.
 const NEAR_STEP: i64 = 31;
 
-/// Ten million of these wrap round all instants once.
+/// The step with which ten million instants cover all of `i64` once.
 const FAR_STEP: i64 = 1_844_674_407_371;
 
 const CALLS: u32 = 10_000_000;
@@ -119,7 +120,7 @@ fn spans_sum(footer: &Footer) -> i64 {
     total
 }
 
-/// Returns what the footer shows, as one number.
+/// Returns a state as one number.
 fn number(state: State<'_>) -> i64 {
     let letter = state.name.first().copied().unwrap_or(0);
     state.offset as i64 + letter as i64 + state.daylight as i64

@@ -1,5 +1,5 @@
-//! Runs the benchmark that the first word names, for the scripts of bench/ to time; the words that
-//! follow are its own.
+//! Runs the benchmark that the first word names, for the scripts of bench/ to time. The words after
+//! it are arguments of the benchmark.
 #![tactic(auto)]
 
 mod civil;

@@ -1,6 +1,6 @@
-//! Runs a task that adds one to each piece's number, for `bench/pieces.sh` to time. The words are
-//! the number of workers, of pieces and of rounds; with none, 2 workers perform 1,000 pieces once.
-//! Prints the sum of all values.
+//! Runs a task that adds one to the number of each piece, for `bench/pieces.sh` to time, and prints
+//! the sum of all values. The words are the numbers of workers, of pieces and of rounds. Without
+//! words, 2 workers do 1,000 pieces once.
 
 use std::alloc::Global;
 use std::rt::Env;
@@ -9,7 +9,7 @@ use std::thread::Threads;
 use std::{env, io};
 use zic_pieces::{Open, PieceStop, Task, run_task};
 
-/// Piece i has the value i + 1.
+/// A task in which piece i has the value i + 1.
 #[derive(Drop)]
 struct AddOne {
     pieces: u64,
@@ -35,7 +35,7 @@ impl Task for AddOne {
     }
 }
 
-/// Returns the number of that place, or else the other.
+/// Returns the number at an index of the words, or a default.
 fn number<R: Env + AllocGlobal>(rt: &R, place: usize, other: u64) -> io::Result<u64> {
     let word = env::args(rt)?.nth(place);
     Ok(

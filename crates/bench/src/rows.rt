@@ -1,6 +1,7 @@
-//! Writes ten million rows and reads ten million instants, and prints octets and sums, for
-//! `bench/rows.sh` to time. The word `near` asks for rows a second apart, whose date mostly stays,
-//! `far` for rows days apart, and `read` for instants.
+//! Writes ten million rows or reads ten million instants, and prints the number of bytes or the
+//! sum, for `bench/rows.sh` to time. With the word `near` the rows are a second apart, so the date
+//! rarely changes. With `far` they are days apart. With `read` it reads instants. Without a word it
+//! does all three.
 
 ghost use Rattle.zic_rows.specs.Instant.{IsRowInstant};
 
@@ -40,7 +41,8 @@ pub fn run<R: Env + Print + AllocGlobal>(rt: &R) -> io::Result<()> {
     Ok(())
 }
 
-/// Returns the bytes of rows that lie this number of seconds apart, round again after 136 years.
+/// Returns the number of bytes of rows that are `step` seconds apart. The instants start again
+/// after 136 years.
 fn octets(alloc: Global, step: u32) -> Result<u64, AllocError> {
     let state = State {
         offset: -18_000,
@@ -62,7 +64,7 @@ fn octets(alloc: Global, step: u32) -> Result<u64, AllocError> {
     Ok(total.wrapping_add(text.len() as u64))
 }
 
-/// Returns the sum of the instants of ten digits at each place of some digits in turn.
+/// Returns the sum of the ten-digit instants that are read from some digits, at each index in turn.
 fn read_sum() -> u64 {
     let digits = b"1234567890123456789012345678901234567890123456789012345678901234567890";
     let mut total = 0u64;

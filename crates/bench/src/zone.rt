@@ -1,6 +1,6 @@
-//! Sums what a TZif file on standard input says at ten million instants from 1901 to 2037, in
-//! rising or random order, and prints the sums, for `bench/zone.sh` to time. The word `rising` or
-//! `random` asks for one of the two.
+//! Sums what a TZif file on standard input gives at ten million instants from 1901 to 2037, and
+//! prints the sums, for `bench/zone.sh` to time. The word `rising` or `random` chooses the order of
+//! the instants; without a word it does both.
 
 use std::env;
 use std::io::{self, Read};
@@ -10,7 +10,7 @@ use zic_tzif::{Answer, Zone, read};
 /// 1901-01-01 00:00 UT.
 const FIRST: i64 = -2_177_452_800;
 
-/// Ten million of these reach to 2037.
+/// The step with which ten million instants reach to 2037.
 const STEP: i64 = 429;
 
 const CALLS: u32 = 10_000_000;
@@ -55,7 +55,7 @@ fn random_sum(zone: &Zone) -> i64 {
     total
 }
 
-/// Returns what the file says, as one number.
+/// Returns an answer as one number.
 fn number(zone: &Zone, t: i64) -> i64 {
     match zone.at(t) {
         Answer::Known(state) => {

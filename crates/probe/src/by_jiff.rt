@@ -1,6 +1,6 @@
-//! Answers for `.ci/trees.sh` what the kit's `jiff` shows by the TZif file that the only word
-//! names, at each instant of standard input, one a line: a line `OFFSET FLAG ABBREVIATION`. A file
-//! that `jiff` refuses is answered with `refused` alone.
+//! Prints what the kit's `jiff` shows for a TZif file, for `.ci/trees.sh`. The only word names the
+//! file. For each instant on standard input, one on a line, it prints a line `OFFSET FLAG
+//! ABBREVIATION`. For a file that `jiff` refuses it prints `refused`.
 
 use jiff::Timestamp;
 use jiff::tz::{TimeZone, Tzif};
@@ -24,7 +24,7 @@ pub fn run<R: Env + Files + Input + Print + AllocGlobal>(rt: &R) -> io::Result<(
     io::writer(rt).write_all(&answers)
 }
 
-/// Adds the line of each instant.
+/// Appends a line for each instant.
 fn push_answers(zone: &TimeZone<'_>, instants: &str, answers: &mut Vec<u8>) -> io::Result<()> {
     for line in instants.lines() {
         let Some(instant) = instant_of(line) else {

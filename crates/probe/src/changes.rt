@@ -1,8 +1,8 @@
 //! Reads source text from standard input and prints what each zone shows before its explicit end,
-//! for `.ci/tzdata.sh`: a line `NAME - OFFSET FLAG ABBREVIATION` with its first state, a line
-//! `NAME INSTANT OFFSET FLAG ABBREVIATION` for each change, and a line `NAME end INSTANT`. A
-//! number as its only word asks, for `bench/timeline.sh`, that the timelines of all zones be made
-//! so many times and only their changes be counted.
+//! for `.ci/tzdata.sh`. For each zone it prints a line `NAME - OFFSET FLAG ABBREVIATION` with the
+//! first state, a line `NAME INSTANT OFFSET FLAG ABBREVIATION` for each change, and a line `NAME
+//! end INSTANT`. If the only word is a number, for `bench/timeline.sh`, it makes the timelines of
+//! all zones that number of times, and prints only the number of changes.
 
 ghost use Rattle.std.specs.Prelude.{◌<◌, length};
 
@@ -16,7 +16,7 @@ use zic_base::State;
 use zic_rules::timeline;
 use zic_source::{Source, Stop, read_source};
 
-/// Prints the lines of all zones, or the number of changes that were made.
+/// Prints the lines of all zones, or the number of changes.
 pub fn run<R: Env + Input + Print + AllocGlobal>(rt: &R) -> io::Result<ExitCode> {
     let alloc = rt.alloc();
     let times = match env::args(rt)?.nth(2) {
@@ -35,8 +35,8 @@ pub fn run<R: Env + Input + Print + AllocGlobal>(rt: &R) -> io::Result<ExitCode>
     }
 }
 
-/// Returns what is printed for these texts: all lines of all zones or, where a number of times is
-/// given, the number of changes that were made.
+/// Returns the output for texts: the lines of all zones or, if a number of times is given, the
+/// number of changes that were made.
 fn answer(alloc: Global, texts: &[Vec<u8>], times: Option<u32>) -> Result<Vec<u8>, Stop> {
     let source = read_source(alloc, texts)?;
     let Some(times) = times else {
@@ -68,7 +68,7 @@ fn lines_of(alloc: Global, source: &Source) -> Result<Vec<u8>, Stop> {
     Ok(lines)
 }
 
-/// Adds the lines of a zone.
+/// Appends the lines of a zone.
 fn push_zone(alloc: Global, source: &Source, zone: usize, lines: &mut Vec<u8>) -> Result<(), Stop>
     requires { zone < length source.now.zones }
 {
@@ -87,7 +87,7 @@ fn push_zone(alloc: Global, source: &Source, zone: usize, lines: &mut Vec<u8>) -
     Ok(())
 }
 
-/// Adds the line of a state that a zone shows from an instant on.
+/// Appends the line of a state that a zone shows from an instant on.
 fn push_state(
     alloc: Global,
     zone: &[u8],

@@ -1,6 +1,6 @@
-//! Reads source text from standard input and prints how many Rule, Zone, continuation and Link
-//! lines it has, for `.ci/tzdata.sh` and `bench/source.sh`. A number as its only word says how
-//! many times the text is read: once if there is none, and at 0 nothing is counted.
+//! Reads source text from standard input and prints the numbers of its Rule, Zone, continuation and
+//! Link lines, for `.ci/tzdata.sh` and `bench/source.sh`. An optional word is the number of times
+//! that the text is read, by default 1. With 0, nothing is counted.
 
 use crate::stop::print_stop;
 use std::alloc::Global;
@@ -33,7 +33,7 @@ pub fn run<R: Env + Input + Print + AllocGlobal>(rt: &R) -> io::Result<ExitCode>
     }
 }
 
-/// Returns the number of lines of each kind.
+/// The number of lines of each kind.
 #[derive(Clone, Copy, Debug, Default)]
 struct Counts {
     rules: usize,
@@ -42,7 +42,7 @@ struct Counts {
     links: usize,
 }
 
-/// Returns the counts of the texts, which are read this number of times.
+/// Returns the counts of the texts, after reading them a number of times.
 fn counts_of(alloc: Global, texts: &[Vec<u8>], times: u32) -> Result<Counts, Stop> {
     let mut counts = Counts::default();
     for _ in 0..times {

@@ -1,7 +1,7 @@
 //! Answers questions about TZif files, for `.ci/files.sh`. Each line of standard input is `FILE
-//! INSTANT`, or `FILE INSTANT PLACE VALUE` for the file with its octet at PLACE, counted from 0,
-//! set to VALUE. The answer is a line `OFFSET FLAG ABBREVIATION`, `unspecified`, or the reason why
-//! the octets are no file. A file is read once as long as the same FILE follows.
+//! INSTANT`, or `FILE INSTANT PLACE VALUE` for the file with its byte at PLACE, counted from 0, set
+//! to VALUE. The answer is a line `OFFSET FLAG ABBREVIATION`, `unspecified`, or the reason why the
+//! bytes are not a file. A file is read once for successive lines with the same FILE.
 
 use std::alloc::Global;
 use std::fs;
@@ -26,7 +26,7 @@ pub fn run<R: Files + Input + Print + AllocGlobal>(rt: &R) -> io::Result<()> {
     io::writer(rt).write_all(&answers)
 }
 
-/// Returns what a line asks.
+/// Returns the question that a line asks.
 #[derive(Clone, Copy)]
 struct Question<'a> {
     file: &'a str,
@@ -34,7 +34,7 @@ struct Question<'a> {
     change: Option<OctetChange>,
 }
 
-/// The byte at a place has another value.
+/// A byte to change, and its new value.
 #[derive(Clone, Copy)]
 struct OctetChange {
     place: usize,
@@ -61,7 +61,7 @@ impl<'a> Question<'a> {
     }
 }
 
-/// A file, and what was read of it.
+/// A file, and the zone that was read from it.
 #[derive(Drop)]
 struct Opened {
     name: String,
@@ -69,7 +69,7 @@ struct Opened {
     zone: Result<Zone, Reason>,
 }
 
-/// Returns the file of this name: the last one, if it has the name.
+/// Returns the file with a name: the last one if it has this name, or else a newly opened one.
 fn opened_for<R: Files + AllocGlobal>(
     rt: &R,
     name: &str,
@@ -94,7 +94,7 @@ impl Opened {
         Ok(Opened { name, octets, zone })
     }
 
-    /// Adds the line that answers a question about this file.
+    /// Appends the line that answers a question about this file.
     fn answer(
         &self,
         alloc: Global,
@@ -114,7 +114,7 @@ impl Opened {
     }
 }
 
-/// Returns what the bytes say, or why they are no file.
+/// Returns the zone of the bytes, or the reason why they are not a file.
 fn zone_of(alloc: Global, octets: &[u8]) -> io::Result<Result<Zone, Reason>> {
     match read(alloc, octets) {
         Ok(zone) => Ok(Ok(zone)),

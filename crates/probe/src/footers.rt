@@ -1,7 +1,7 @@
-//! Reads lines `FOOTER INSTANT` from standard input and prints what each footer shows at its
-//! instant, for `.ci/footers.sh`: a line `OFFSET FLAG ABBREVIATION`, or `BadFooter`, `BadInstant`
-//! or `BadLine`. Footers are texts of TZif version 3. One is parsed again only where it differs
-//! from that of the line before.
+//! Reads lines `FOOTER INSTANT` from standard input and prints what each footer means at its
+//! instant, for `.ci/footers.sh`. The answer is a line `OFFSET FLAG ABBREVIATION`, or `BadFooter`,
+//! `BadInstant` or `BadLine`. Footers are texts of TZif version 3. A footer that is the same as on
+//! the line before is not parsed again.
 
 use std::alloc::{AllocError, Global};
 use std::io;
@@ -9,7 +9,7 @@ use std::io::{BufWriter, Write};
 use zic_base::State;
 use zic_posix::{Footer, ParseStop, parse};
 
-/// Prints what footers show.
+/// Prints the states of the footers.
 pub fn run<R: Input + Print + AllocGlobal>(rt: &R) -> io::Result<()> {
     let alloc = rt.alloc();
     let text = io::read_to_string(alloc, rt.reader())?;
@@ -34,7 +34,7 @@ fn answer(alloc: Global, text: &str, out: &mut impl Write) -> io::Result<()> {
     Ok(())
 }
 
-/// A text, and the footer that it spells, if it spells one.
+/// A text, and the footer that it spells, or `None`.
 #[derive(Drop)]
 struct Parsed<'a> {
     text: &'a str,
@@ -51,7 +51,7 @@ impl Parsed<'_> {
         Ok(Parsed { text, footer })
     }
 
-    /// Writes what the footer shows at an instant.
+    /// Writes the state that the footer means at an instant.
     fn write_answer(&self, instant: &str, out: &mut impl Write) -> io::Result<()> {
         let Some(footer) = &self.footer else {
             return out.write_all(b"BadFooter\n");

@@ -1,5 +1,5 @@
-//! Answers what the first word names, for the scripts of .ci/ and bench/; the words that follow
-//! are its own.
+//! Runs the tool that the first word names, for the scripts of .ci/ and bench/. The words after it
+//! are arguments of the tool.
 #![tactic(auto)]
 
 mod by_jiff;

@@ -1,10 +1,10 @@
-//! What is told where a source is refused.
+//! The output for a source that is refused.
 
 use std::io;
 use std::process::ExitCode;
 use zic_source::Stop;
 
-/// Prints why there is no answer, and returns the status that tells it.
+/// Prints the reason why there is no answer, and returns the exit status.
 pub fn print_stop(rt: &impl Print, stop: Stop) -> io::Result<ExitCode> {
     match stop {
         Stop::Fault(fault) => {

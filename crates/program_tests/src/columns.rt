@@ -1,4 +1,4 @@
-//! Conversion columns, with outside values.
+//! Conversion of columns, compared with values from other programs.
 
 mod devices;
 mod rounds;
@@ -17,11 +17,11 @@ use zic_source::read_source;
 
 const UTC: &str = "Zone Etc/UTC 0 - UTC\n";
 
-/// The rules of the United States from 2007 on, and a zone of theirs.
+/// The rules of the United States from 2007 on, and a zone that uses them.
 const NEW_YORK: &str =
     "Rule US 2007 max - Mar Sun>=8 2:00 1:00 D\nRule US 2007 max - Nov Sun>=1 2:00 0 S\nZone Z/NY -5:00 US E%sT\n";
 
-/// The same, and a zone that is always at UT.
+/// The rules of the United States, their zone, and a zone that is always at UT.
 const TWO_ZONES: &str =
     "Rule US 2007 max - Mar Sun>=8 2:00 1:00 D\nRule US 2007 max - Nov Sun>=1 2:00 0 S\nZone Z/NY -5:00 US E%sT\n\
 Zone Etc/UTC 0 - UTC\n";
@@ -30,7 +30,7 @@ const THREE_ROWS: &[u8; 138] =
     b"Etc/UTC,0,1970-01-01T00:00:00,+00:00:00,0,UTC\nEtc/UTC,0,1970-01-01T00:00:00,+00:00:00,0,UTC\n\
 Etc/UTC,0,1970-01-01T00:00:00,+00:00:00,0,UTC\n";
 
-/// Each number of workers with each number of records that a piece has.
+/// Pairs of a number of workers and a number of records in a piece.
 const PLANS: [(u64, u64); 12] = [
     (1, 1),
     (1, 2),
@@ -46,7 +46,7 @@ const PLANS: [(u64, u64); 12] = [
     (64, 100),
 ];
 
-/// The files of a source.
+/// Returns the files of a source.
 fn files_of(alloc: Global, text: &str) -> Result<Files, Fail> {
     let mut copies = Vec::new(alloc);
     copies.push(Vec::from_slice(alloc, text.as_bytes())?)?;
@@ -54,7 +54,7 @@ fn files_of(alloc: Global, text: &str) -> Result<Files, Fail> {
     Ok(compile(alloc, &source).ok().ok_or("no files")?)
 }
 
-/// What a conversion is answered, with its reader and its writer as it left them.
+/// The answer of a conversion, with its reader and its writer after it.
 #[derive(Drop)]
 struct Conversion<R, W> {
     answer: Result<u64, RunStop>,
@@ -62,7 +62,7 @@ struct Conversion<R, W> {
     writer: Counted<W>,
 }
 
-/// Converts the column of a reader.
+/// Converts the column that the reader gives.
 fn converted<T: Threads + Wait + Sync, R: Read, W: Write, G: Gate + Sync>(
     rt: &T,
     alloc: Global,
@@ -81,7 +81,7 @@ fn converted<T: Threads + Wait + Sync, R: Read, W: Write, G: Gate + Sync>(
     }
 }
 
-/// Checks, with each plan of so many rows at most, what a column is answered and what is written.
+/// Checks the answer and the output for a column, with each plan of at most `max_rows` rows.
 fn expect<R: Threads + Wait + Sync + Abort>(
     rt: &R,
     alloc: Global,
@@ -202,7 +202,7 @@ fn the_first_fault_of_a_row_is_told(rt: HostRuntime) -> Result<(), Fail> {
     Ok(())
 }
 
-/// The fault of a row whose zone no file has.
+/// Returns the fault of a row whose zone has no file.
 fn no_zone(row: u64) -> Result<u64, RunStop> {
     Err(RunStop::Row {
         row,

@@ -1,10 +1,10 @@
-//! What the words of the command line ask for.
+//! Tests of how the words of the command line are parsed.
 
 use std::alloc::Global;
 use std::test::Fail;
 use zic_command_line::*;
 
-/// Returns what the words ask for, or that it is nothing.
+/// Returns the request that the words make as text, or `usage` for words that make none.
 fn asked(alloc: Global, line: &str) -> Result<String, Fail> {
     let mut words = Vec::new(alloc);
     for word in line.split_whitespace() {

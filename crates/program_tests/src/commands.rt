@@ -1,4 +1,4 @@
-//! The commands over readers and writers, with outside values.
+//! The commands over readers and writers, compared with expected output.
 
 mod converting;
 mod folder;
@@ -14,12 +14,12 @@ use zic_bulk::Plan;
 use zic_commands::*;
 use zic_counted::Counted;
 
-/// The file of `Zone Etc/UTC 0 - UTC`, as RFC 9636 has its parts: two headers, an empty first
+/// The file of `Zone Etc/UTC 0 - UTC`, with the parts of RFC 9636: two headers, an empty first
 /// block, one local time type, its designation and the footer.
 const UTC_FILE: &[u8; 111] =
     b"TZif2\0\0\0\0\0\0\0\0\0\0\0\0\0\0\0\0\0\0\0\0\0\0\0\0\0\0\0\0\0\0\0\0\0\0\x01\0\0\0\x01\0\0\0\0\0\0\0TZif2\0\0\0\0\0\0\0\0\0\0\0\0\0\0\0\0\0\0\0\0\0\0\0\0\0\0\0\0\0\0\0\0\0\0\x01\0\0\0\x04\0\0\0\0\0\0UTC\0\nUTC0\n";
 
-/// A reader whose reads fail, and a writer whose writes do.
+/// A reader and writer that always fails.
 #[derive(Drop)]
 struct Broken;
 
@@ -39,12 +39,12 @@ impl Write for Broken {
     }
 }
 
-/// Returns a plan of this number of workers, with one zone in a piece.
+/// Returns a plan with a number of workers and one zone in a piece.
 fn plan(workers: u64) -> Result<Plan, Fail> {
     Ok(Plan::new(workers, 1, 1, 0, 0).ok_or("no plan")?)
 }
 
-/// Returns what `check` writes, or the failure's text and status.
+/// Returns the output of `check`, or the text and status of its failure.
 fn checked<T: Threads + Wait + Sync>(rt: &T, alloc: Global, source: &str) -> Result<String, Fail> {
     let texts = [Vec::from_slice(alloc, source.as_bytes())?];
     let mut writer = Counted::new(Vec::new(alloc));
@@ -58,7 +58,7 @@ fn checked<T: Threads + Wait + Sync>(rt: &T, alloc: Global, source: &str) -> Res
     }
 }
 
-/// Returns the failure's text and status.
+/// Returns the text and status of a failure.
 fn told(alloc: Global, failure: Failure) -> Result<String, Fail> {
     let status = failure.status();
     Ok(format!(in alloc; "{failure}, status {status}")?)
@@ -68,7 +68,7 @@ fn told(alloc: Global, failure: Failure) -> Result<String, Fail> {
 const US: &str =
     "Rule US 2007 max - Mar Sun>=8 2:00 1:00 D\nRule US 2007 max - Nov Sun>=1 2:00 0 S\n";
 
-/// Checks that each source, after the same lines, gives what stands beside it.
+/// Checks that each source, after the same first lines, gives the output beside it.
 fn expect_rows<T: Abort + Threads + Wait + Sync>(
     rt: &T,
     alloc: Global,
@@ -276,7 +276,7 @@ fn check_tells_what_cannot_be_read_or_written(rt: HostRuntime) -> Result<(), Fai
     Ok(())
 }
 
-/// A reader of `a`s without end.
+/// A reader that gives `a`s without end.
 #[derive(Drop)]
 struct Endless;
 
@@ -287,7 +287,7 @@ impl Read for Endless {
     }
 }
 
-/// Returns what `show` writes of a file, or the failure's text and status.
+/// Returns the output of `show` for a file, or the text and status of its failure.
 fn showed<R: Read + Drop>(alloc: Global, reader: R, instant: i64) -> Result<String, Fail> {
     let bytes = match read_file_bytes(alloc, "utc", &mut Counted::new(reader)) {
         Ok(bytes) => bytes,

@@ -1,4 +1,4 @@
-//! The files of some texts, with outside values.
+//! The files of sources, compared with expected values.
 
 mod building;
 
@@ -7,7 +7,7 @@ use std::test::Fail;
 use zic_bulk::*;
 use zic_source::{Fault, Kind, Place, Stop, read_source};
 
-/// The file of `Zone Etc/UTC 0 - UTC`, as RFC 9636 has its parts: two headers, an empty first
+/// The file of `Zone Etc/UTC 0 - UTC`, with the parts of RFC 9636: two headers, an empty first
 /// block, one local time type, its designation and the footer.
 const UTC_FILE: &[u8; 111] =
     b"TZif2\0\0\0\0\0\0\0\0\0\0\0\0\0\0\0\0\0\0\0\0\0\0\0\0\0\0\0\0\0\0\0\0\0\0\x01\0\0\0\x01\0\0\0\0\0\0\0TZif2\0\0\0\0\0\0\0\0\0\0\0\0\0\0\0\0\0\0\0\0\0\0\0\0\0\0\0\0\0\0\0\0\0\0\x01\0\0\0\x04\0\0\0\0\0\0UTC\0\nUTC0\n";
@@ -25,7 +25,7 @@ fn files_of(alloc: Global, texts: &[&str]) -> Result<Files, Stop> {
     compile(alloc, &source)
 }
 
-/// Returns the names and numbers of bytes of the files, in order.
+/// Returns the names and the sizes in bytes of the files, in order.
 fn listed(alloc: Global, files: &Files) -> Result<String, Fail> {
     let mut lines = String::new(alloc);
     for file in 0..files.len() {

@@ -1,5 +1,5 @@
-//! Tests of what the program stands on: the files of some texts, columns converted by them, and
-//! the commands. They stand in a crate of their own, since a crate with tests is proved twice.
+//! Tests of what the program is built on: the files of sources, columns converted with them, and
+//! the commands. They are a separate crate, because a crate with tests is proved twice.
 #![tactic(auto)]
 
 #[cfg(test)]

@@ -1,4 +1,4 @@
-//! Files of worked examples, as they are read, and what they answer.
+//! Worked examples of files: how they are read, and which answers they give.
 
 mod answers;
 mod reading;

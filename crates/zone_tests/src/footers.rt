@@ -1,4 +1,4 @@
-//! Footers of worked examples.
+//! Worked examples of footers.
 
 use std::alloc::Global;
 use std::test::Fail;
@@ -133,7 +133,7 @@ fn two_rules(rt: HostRuntime) -> Result<(), Fail> {
     Ok(())
 }
 
-/// Every form of a day, and rules that follow each other round 1 January.
+/// Every form of a day, and rules that follow each other around 1 January.
 #[test]
 fn forms_of_days(rt: HostRuntime) -> Result<(), Fail> {
     let rows: [(&[u8], &str); 7] = [

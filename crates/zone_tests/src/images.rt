@@ -1,4 +1,4 @@
-//! Files of worked examples.
+//! Worked examples of whole files.
 
 use std::alloc::Global;
 use std::test::Fail;
@@ -7,19 +7,19 @@ use zic_source::read_source;
 use zic_table::*;
 use zic_tzif::Answer;
 
-/// A header of version 2 up to its last three counts, those of transitions, types and bytes of
-/// designations.
+/// A header of version 2 without its last three counts, which are those of transitions, types and
+/// bytes of designations.
 const HEADER: &[u8] = b"TZif2\0\0\0\0\0\0\0\0\0\0\0\0\0\0\0\0\0\0\0\0\0\0\0\0\0\0\0";
 
-/// The rest of the first header, and the first block.
+/// The rest of the first header, and the first data block.
 const EMPTY_BLOCK: &[u8] = b"\0\0\0\0\0\0\0\x01\0\0\0\x01\0\0\0\0\0\0\0";
 
-/// The rules of the United States from 2007 on, and a zone of them.
+/// The rules of the United States from 2007 on, and a zone that uses them.
 const NEW_YORK: &[u8] = b"Rule US 2007 max - Mar Sun>=8 2:00 1:00 D\n\
 Rule US 2007 max - Nov Sun>=1 2:00 0 S\n\
 Zone Z/NY -5:00 US E%sT\n";
 
-/// Returns the image of a zone of a source text, by its number from 0.
+/// Returns the image of a zone of a source, by its number from 0.
 fn image(alloc: Global, text: &[u8], zone: usize) -> Result<Result<Image, Stop>, Fail> {
     let mut texts = Vec::new(alloc);
     texts.push(Vec::from_slice(alloc, text)?)?;
@@ -32,7 +32,7 @@ fn image(alloc: Global, text: &[u8], zone: usize) -> Result<Result<Image, Stop>,
     Ok(image_of(alloc, &source, zone))
 }
 
-/// Returns these bytes, one after another.
+/// Returns the parts, joined.
 fn joined(alloc: Global, parts: &[&[u8]]) -> Result<Vec<u8>, Fail> {
     let mut octets = Vec::new(alloc);
     for part in parts {

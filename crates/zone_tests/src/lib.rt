@@ -1,5 +1,5 @@
-//! Tests of zones: of POSIX TZ strings, occurrences, states, periods, timelines, footers, tables,
-//! files and images. They stand in a crate of their own, since a crate with tests is proved twice.
+//! Tests of zones: POSIX TZ strings, occurrences, states, periods, timelines, footers, tables,
+//! files and images. They are a separate crate, because a crate with tests is proved twice.
 #![tactic(auto)]
 
 #[cfg(test)]

@@ -1,4 +1,4 @@
-//! Occurrences of sets, by hand and by an independent count over 900 years.
+//! Occurrences of rule sets, computed by hand and by an independent count over 900 years.
 
 ghost use Rattle.std.specs.Prelude.{◌≤◌};
 
@@ -9,7 +9,7 @@ use zic_calendar::On;
 use zic_occurrences::*;
 use zic_source::{ClockForm, ClockTime, Moment, Rules, Source, read_source};
 
-/// Returns the source of this text.
+/// Returns the source that a text makes.
 fn source(alloc: Global, text: &[u8]) -> Result<Source, Fail> {
     let mut texts = Vec::new(alloc);
     texts.push(Vec::from_slice(alloc, text)?)?;
@@ -20,8 +20,7 @@ fn source(alloc: Global, text: &[u8]) -> Result<Source, Fail> {
     }
 }
 
-/// Returns the occurrences of the set of the text's first zone, on that zone's first line, or the
-/// fault.
+/// Returns the occurrences of the set that the first line of the first zone names, or the fault.
 fn listed(
     alloc: Global,
     text: &[u8],
@@ -109,7 +108,7 @@ fn first_instants(rt: HostRuntime) -> Result<(), Fail> {
     Ok(())
 }
 
-/// Returns whether the fault is that of rules out of order, at this line of the first text.
+/// Returns whether the fault is `RulesOutOfOrder` at a line of the first text.
 fn is_disorder(fault: Fault, line: u64) -> bool {
     fault.kind == Kind::RulesOutOfOrder && fault.place.text == 1 && fault.place.line == line
 }
@@ -117,32 +116,32 @@ fn is_disorder(fault: Fault, line: u64) -> bool {
 #[test]
 fn out_of_order(rt: HostRuntime) -> Result<(), Fail> {
     let rows: [(&[u8], u64); 6] = [
-        // Two at one time, first on 2009-03-01.
+        // Two occurrences with one nominal second, for the first time on 2009-03-01.
         (
             b"Rule B 2000 max - Mar 1 0:00 1:00 D\nRule B 2000 max - Mar Sun>=1 0:00 0 S\nZone A 0 B B%sT",
             3,
         ),
-        // One instant, in each year.
+        // Two occurrences at one instant, in each year.
         (
             b"Rule B 2000 max - Mar 1 0:00 1:00 D\nRule B 2000 max - Mar 1 1:00 0 S\nZone A 0 B B%sT",
             3,
         ),
-        // The later an hour before the earlier, in each year.
+        // The second occurrence comes an hour before the first, in each year.
         (
             b"Rule B 2000 max - Mar 1 0:00 2:00 D\nRule B 2000 max - Mar 1 1:00 0 S\nZone A 0 B B%sT",
             3,
         ),
-        // First in 2124, when 29 February is a Tuesday.
+        // Out of order for the first time in 2124, when 29 February is a Tuesday.
         (
             b"Rule C 2000 2094 - Jun 1 0:00 0 -\nRule C 2094 max - Feb 28 24:00 0 -\nRule C 2094 max - Feb lastTue 0:00 1:00 D\nZone A 0 C C%sT",
             4,
         ),
-        // First in 2303, by the rule from 2300 on.
+        // Out of order for the first time in 2303, because of the rule from 2300 on.
         (
             b"Rule E 2000 max - Mar 1 0:00 0 -\nRule E 2300 max - Mar Sun>=1 0:00 1:00 D\nZone A 0 E E%sT",
             3,
         ),
-        // By the wall clock half a day before universal time, in each year.
+        // The third rule, by the wall clock, comes half a day before the second, in each year.
         (
             b"Rule R 2000 max - Dec 31 282:00u 24:00d -\nRule R 2000 max - Jan 12 0:00u 0 -\nRule R 2000 max - Dec 31 300:00 0 -\nZone A 24:00 R R%sT",
             4,
@@ -158,11 +157,11 @@ fn out_of_order(rt: HostRuntime) -> Result<(), Fail> {
 #[test]
 fn in_order(rt: HostRuntime) -> Result<(), Fail> {
     let rows: [&[u8]; 6] = [
-        // One second apart.
+        // Two occurrences, one second apart.
         b"Rule B 2000 max - Mar 1 0:00 1:00 D\nRule B 2000 max - Mar 1 1:00:01 0 S\nZone A 0 B B%sT",
         b"Rule C 2000 2094 - Jun 1 0:00 0 -\nRule C 2094 max - Feb 28 24:00 0 -\nRule C 2094 2123 - Feb lastTue 0:00 1:00 D\nZone A 0 C C%sT",
         b"Rule E 2000 max - Mar 1 0:00 0 -\nRule E 2300 2301 - Mar Sun>=1 0:00 1:00 D\nZone A 0 E E%sT",
-        // Occurrences of the year before lie between those of a year.
+        // Occurrences of one year fall between those of the next year.
         b"Rule R 2000 max - Jan 1 0:00 0 -\nRule R 2000 2005 - Dec 31 300:00 1:00 -\nZone A 0 R R%sT",
         b"Rule R 2000 max - Dec 31 282:00u 24:00d -\nRule R 2000 max - Jan 12 0:00u 0 -\nRule R 2000 max - Dec 31 300:00 0 -\nZone A 0 R R%sT",
         b"Rule R 2000 max - Dec 31 282:00u 24:00d -\nRule R 2000 max - Jan 12 0:00u 0 -\nRule R 2000 max - Dec 31 300:00 0 -\nZone A -24:00 R R%sT",
@@ -175,7 +174,7 @@ fn in_order(rt: HostRuntime) -> Result<(), Fail> {
 
 #[test]
 fn rules_and_years(rt: HostRuntime) -> Result<(), Fail> {
-    // The first day of 2405 in the rule's clock lies in 2404.
+    // The occurrence of 2405 falls at 23:00 on the last day of 2404.
     let text = b"Rule B 2000 max - Jan 1 -1:00 0 -\nZone A 0 B B%sT";
     let listed = listed(rt.alloc(), text, 2405)?.ok().ok_or("occurrences")?;
     assert_eq!(rt; listed.len(), 406);
@@ -201,7 +200,7 @@ fn rules_and_years(rt: HostRuntime) -> Result<(), Fail> {
 #[test]
 fn seconds_of_moments(rt: HostRuntime) -> Result<(), Fail> {
     assert_eq!(rt; year_second(2007), 1_167_609_600);
-    // Mar Sun>=8 2:00: 2007-03-11 02:00 by the wall clock, five hours west of UT.
+    // `Mar Sun>=8 2:00` in 2007: 2007-03-11 02:00 by the wall clock, five hours west of UT.
     let moment = Moment {
         month: 3,
         on: On::After { weekday: 0, day: 8 },
@@ -219,7 +218,7 @@ fn seconds_of_moments(rt: HostRuntime) -> Result<(), Fail> {
     Ok(())
 }
 
-/// Returns the last year that the set of the text's first zone names.
+/// Returns the last year that the rules of the first zone's set name.
 fn last_named(alloc: Global, text: &[u8]) -> Result<u16, Fail> {
     let source = source(alloc, text)?;
     if source.zones() == 0 || source.lines(0) == 0 {

@@ -1,4 +1,4 @@
-//! Periods, with outside values.
+//! Periods, compared with expected values.
 
 use std::alloc::Global;
 use std::test::Fail;
@@ -24,11 +24,11 @@ fn read(alloc: Global, parts: &[&[u8]]) -> Result<Source, Fail> {
     }
 }
 
-/// Some of the first periods of a zone, and its explicit end.
+/// The first periods of a zone, and its explicit end.
 struct Row {
     rules: &'static [u8],
     zone: &'static [u8],
-    /// Each: from when on, which line, by which rule.
+    /// For each period: its start, its line, and its current rule.
     first: &'static [(i64, u16, Option<u16>)],
     end: i64,
 }
@@ -72,7 +72,7 @@ const ROWS: [Row; 6] = [
         first: &[(86_400, 1, None)],
         end: 86_401,
     },
-    // 10 hours east of UT the year 1 begins in the UT year 0.
+    // At 10 hours east of UT, the year 1 begins in the UT year 0.
     Row {
         rules: SUMMER,
         zone: b"Zone Z/E 10:00 - AAA 1 Jan 1\n 10:00 R B%sT\n",
@@ -83,7 +83,7 @@ const ROWS: [Row; 6] = [
         ],
         end: 1_041_379_200,
     },
-    // An occurrence at the very UNTIL is the next line's.
+    // An occurrence at the exact instant of UNTIL belongs to the next line.
     Row {
         rules: SUMMER,
         zone: b"Zone Z/A 0 R A%sT 2000 Mar 1 0:00u\n 0 - BBB\n",

@@ -1,4 +1,4 @@
-//! Worked examples, told by what they are about.
+//! Worked examples of states, one module for each subject.
 
 mod current;
 mod formats;

@@ -1,4 +1,4 @@
-//! POSIX TZ strings of worked examples.
+//! Worked examples of POSIX TZ strings.
 
 mod spans;
 mod states;
@@ -9,10 +9,10 @@ use std::process::Abort;
 use std::test::Fail;
 use zic_posix::*;
 
-/// A text, what is printed of it, and the version that it needs.
+/// A text, its printed form, and the version of TZif that it needs.
 type Row = (&'static str, &'static str, u8);
 
-/// Checks what is printed of texts of this version, and the version that they need.
+/// Checks the printed form of texts of a version, and the version that they need.
 fn check_printed(rt: &(impl Abort + AllocGlobal), version: u8, rows: &[Row]) -> Result<(), Fail>
     requires { (version ≡ 2) ⊎ (version ≡ 3) }
 {
@@ -25,7 +25,7 @@ fn check_printed(rt: &(impl Abort + AllocGlobal), version: u8, rows: &[Row]) -> 
     Ok(())
 }
 
-/// Checks that texts aren't in the grammar of this version.
+/// Checks that texts aren't in the grammar of a version.
 fn check_refused(rt: &(impl Abort + AllocGlobal), version: u8, texts: &[&str])
     requires { (version ≡ 2) ⊎ (version ≡ 3) }
 {

@@ -1,4 +1,4 @@
-//! Tables of worked examples, as the files of `zic` have them, and zones at the limits.
+//! Worked examples of tables, as zic writes them, and zones at the limits.
 
 mod limits;
 mod rows;
@@ -11,7 +11,7 @@ use zic_rules::timeline;
 use zic_source::{Source, read_source};
 use zic_table::*;
 
-/// The place of faults of the only zone.
+/// The place of the faults of the only zone.
 const PLACE: Place = Place { text: 1, line: 3 };
 
 /// Reads a source text.

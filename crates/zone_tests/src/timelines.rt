@@ -1,4 +1,4 @@
-//! Timelines, with values of zic 2.36 in its fat form and of zdump.
+//! Timelines, compared with values of zic 2.36 in its fat form and of zdump.
 
 mod changes;
 mod faults;
@@ -39,7 +39,7 @@ fn read(alloc: Global, parts: &[&[u8]]) -> Result<Source, Fail> {
     }
 }
 
-/// Returns the change of this number, or `None` where there are fewer.
+/// Returns the change with a number, or `None` if there is none.
 fn change_at<'a>(found: &'a Timeline<'_>, number: usize) -> Option<(i64, State<'a>)> {
     if number < found.len() {
         Some(found.change(number))
@@ -48,12 +48,12 @@ fn change_at<'a>(found: &'a Timeline<'_>, number: usize) -> Option<(i64, State<'
     }
 }
 
-/// Returns the offset, flag and abbreviation of a state.
+/// Returns the offset, the flag and the abbreviation of a state.
 fn told(state: State<'_>) -> (i32, bool, &[u8]) {
     (state.offset, state.daylight, state.name)
 }
 
-/// Returns what is shown at an instant before the explicit end, or `None` at a later one.
+/// Returns the state at an instant before the explicit end, or `None` at a later one.
 fn state_at<'a>(found: &'a Timeline<'_>, t: i64) -> Option<State<'a>> {
     if t < found.end() {
         Some(found.state(t))

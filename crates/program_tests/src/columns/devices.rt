@@ -1,4 +1,4 @@
-//! Readers and writers that fail, and workers at the gate.
+//! Readers and writers that fail, and workers that wait for each other at the gate.
 
 use super::{THREE_ROWS, UTC, converted, files_of};
 use std::alloc::Global;
@@ -14,12 +14,12 @@ use zic_pieces::{Gate, Open};
 
 const THREE: &[u8; 30] = b"Etc/UTC,0\nEtc/UTC,0\nEtc/UTC,0\n";
 
-/// What a reader does where it has given its text.
+/// The behaviour of a reader after the end of its text.
 #[derive(Clone, Copy, Debug)]
 enum Then {
     End,
     Repeat,
-    /// Fails once, and gives the text again.
+    /// Fails once, and then gives the text again.
     Fail(ErrorKind),
 }
 
@@ -65,7 +65,7 @@ impl Read for Slow<'_> {
     }
 }
 
-/// A reader that gives so many bytes of a text at a time.
+/// A reader that gives at most `most` bytes of a text at a time.
 #[derive(Drop)]
 struct Short<'a> {
     rest: &'a [u8],
@@ -82,14 +82,14 @@ impl Read for Short<'_> {
     }
 }
 
-/// How a writer fails.
+/// The way in which a writer fails.
 #[derive(Clone, Copy, Debug)]
 enum Defect {
-    /// It takes so many bytes, and then fails.
+    /// Takes this number of bytes, and then fails.
     Full(usize),
-    /// It takes no byte.
+    /// Takes no byte.
     Stuck,
-    /// It takes each byte, and can't pass them on.
+    /// Takes all bytes, and fails when it is flushed.
     Unflushed,
 }
 
@@ -123,7 +123,8 @@ impl Write for Sink {
     }
 }
 
-/// Checks, with pieces of 1 record and of 100, that a column is answered `WriteFailed`, and what was written.
+/// Checks that the answer for a column is `WriteFailed`, and checks the output, with pieces of 1
+/// and of 100 records.
 fn expect_write_failed<R: Threads + Wait + Sync + Abort>(
     rt: &R,
     alloc: Global,
@@ -270,7 +271,7 @@ fn a_column_of_the_greatest_length(rt: HostRuntime) -> Result<(), Fail> {
     Ok(())
 }
 
-/// How long piece 0 waits for piece 1, in turns.
+/// The maximum number of turns for which piece 0 waits for piece 1.
 const MAX_TURNS: u64 = 1_000_000;
 
 /// Holds piece 0 until piece 1 has entered.
@@ -290,7 +291,7 @@ impl Gate for Hold {
     }
 }
 
-/// Waits until the flag is up, and says whether it was in time.
+/// Waits until the flag is set. Returns `false` if that takes too long.
 fn has_entered(flag: &AtomicU64) -> bool {
     for _ in 0..MAX_TURNS {
         if flag.load(Ordering::SeqCst) == 1 {

@@ -1,4 +1,4 @@
-//! Columns of many rows, in rounds of pieces.
+//! Columns of many rows, read in rounds of pieces.
 
 use super::{THREE_ROWS, UTC, converted, files_of};
 use std::alloc::Global;
@@ -8,12 +8,12 @@ use std::test::Fail;
 use zic_bulk::{Plan, RowKind, RunStop};
 use zic_pieces::Open;
 
-/// How many rows a column has: more than fit into one read.
+/// The number of rows of a column: more than fit into one read.
 const ROWS: usize = 7_000;
 
 const LINE: &[u8; 10] = b"Etc/UTC,0\n";
 
-/// A column of equal rows, with another line in place of that of this index.
+/// Returns a column of equal rows, except for the line at `index`.
 fn column_with(alloc: Global, index: usize, line: &[u8]) -> Result<Vec<u8>, Fail> {
     let mut column = Vec::new(alloc);
     for i in 0..ROWS {
@@ -22,7 +22,7 @@ fn column_with(alloc: Global, index: usize, line: &[u8]) -> Result<Vec<u8>, Fail
     Ok(column)
 }
 
-/// The text of so many rows.
+/// Returns the text of `count` rows.
 fn rows_of(alloc: Global, count: usize) -> Result<Vec<u8>, Fail> {
     let mut text = Vec::new(alloc);
     for _ in 0..count {
@@ -31,7 +31,7 @@ fn rows_of(alloc: Global, count: usize) -> Result<Vec<u8>, Fail> {
     Ok(text)
 }
 
-/// Numbers of workers, each with how many records a piece has.
+/// Pairs of a number of workers and a number of records in a piece.
 const PLANS: [(u64, u64); 3] = [(1, 100), (2, 3), (8, 100)];
 
 #[test]
@@ -111,7 +111,8 @@ fn a_fault_anywhere_ends_the_rows(rt: HostRuntime) -> Result<(), Fail> {
     Ok(())
 }
 
-/// A reader that gives a line at a time, and counts the lines that it gives before the row of each before was passed on.
+/// A reader that gives one line at a time. Each time that it is read before the rows of all earlier
+/// lines were flushed, it increments `early`.
 #[derive(Drop)]
 struct Feeder<'a> {
     given: u64,
@@ -133,7 +134,7 @@ impl Read for Feeder<'_> {
     }
 }
 
-/// A writer that counts the lines that it passed on.
+/// A writer that counts the lines that were flushed.
 #[derive(Drop)]
 struct Tap<'a> {
     held: u64,

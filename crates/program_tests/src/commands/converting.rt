@@ -1,4 +1,4 @@
-//! `convert`, and how it tells of its rows, with outside values.
+//! `convert` and its progress reports, compared with expected output.
 
 use super::{Broken, US, told};
 use std::alloc::Global;
@@ -14,8 +14,8 @@ use zic_counted::Counted;
 
 const UTC: &str = "Zone Etc/UTC 0 - UTC";
 
-/// Returns what `convert` writes, and then the number of rows that it answers, or the failure's
-/// text and status.
+/// Returns the output of `convert`, followed by the number of rows that it returns, or by the text
+/// and status of its failure.
 fn converted<T: Threads + Wait + Sync, R: Read>(
     rt: &T,
     alloc: Global,
@@ -101,7 +101,7 @@ fn convert_tells_that_rows_are_not_written(rt: HostRuntime) -> Result<(), Fail> 
     Ok(())
 }
 
-/// A clock that goes on by a quarter of a second at each reading.
+/// A clock that advances by a quarter of a second with each reading.
 #[derive(Drop)]
 struct Quarters(Cell<u64>);
 

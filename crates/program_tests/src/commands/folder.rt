@@ -1,4 +1,4 @@
-//! `build`, and what the commands open, over a file system that notes its calls.
+//! `build`, and the files that the commands open, over a file system that records its calls.
 
 use super::{UTC_FILE, plan, told};
 use std::alloc::{Allocator, Global};
@@ -11,7 +11,7 @@ use std::thread::Threads;
 use zic_commands::*;
 use zic_counted::Counted;
 
-/// Notes calls, of which one fails.
+/// Records calls, one of which fails.
 #[derive(Clone, Copy)]
 struct Log<'a> {
     alloc: Global,
@@ -34,14 +34,14 @@ impl<'a> Log<'a> {
     }
 }
 
-/// A file system in which each file that is opened has the same bytes.
+/// A file system in which every file has the same bytes.
 #[derive(Drop)]
 struct Disk<'a> {
     log: Log<'a>,
     bytes: &'a [u8],
 }
 
-/// A file of it.
+/// An open file of the file system.
 #[derive(Drop)]
 struct DiskFile<'a> {
     log: Log<'a>,
@@ -149,8 +149,8 @@ impl<'a> Files for Disk<'a> {
     }
 }
 
-/// Returns the calls of `build` of the words, and then its failure's text and status, if it has
-/// one. The word `-` is this input.
+/// Returns the calls that `build` makes for the words, followed by the text and status of its
+/// failure, if it fails. The word `-` stands for `input`.
 fn built<T: Threads + Wait + Sync>(
     rt: &T,
     alloc: Global,
@@ -181,7 +181,7 @@ fn built<T: Threads + Wait + Sync>(
     Ok(told_calls)
 }
 
-/// Returns what `build` of the words comes to. The word `-` is this input.
+/// Returns the answer of `build` for the words. The word `-` stands for `input`.
 fn build_words<T: Threads + Wait + Sync>(
     rt: &T,
     alloc: Global,
@@ -272,8 +272,8 @@ fn an_empty_word_is_no_path(rt: HostRuntime) -> Result<(), Fail> {
     Ok(())
 }
 
-/// Writes what `check` makes of the source that a word names, or the failure's text and status.
-/// The word `-` is the input.
+/// Writes the output of `check` for the source that a word names, or the text and status of its
+/// failure. The word `-` stands for `input`.
 fn check_word<T: Threads + Wait + Sync>(
     rt: &T,
     alloc: Global,
@@ -293,8 +293,8 @@ fn check_word<T: Threads + Wait + Sync>(
     Ok(())
 }
 
-/// Writes what `show` makes of the file that a word names at instant 0, or the failure's text and
-/// status.
+/// Writes the output of `show` for the file that a word names, at instant 0, or the text and status
+/// of its failure.
 fn show_word(
     alloc: Global,
     disk: &Disk<'_>,

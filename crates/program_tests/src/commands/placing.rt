@@ -1,4 +1,4 @@
-//! `build` into a tree in memory, of which contracts tell what is placed in it.
+//! `build` into a tree in memory, whose contracts say which files are placed in it.
 
 ghost use Rattle.std.specs.Prelude.{map, string_bytes, Some};
 
@@ -9,21 +9,21 @@ use std::test::Fail;
 use std::thread::Threads;
 use zic_commands::*;
 
-/// The file of `Zone Z/EST -5 - EST`, which has the parts of the one for UTC.
+/// The file of `Zone Z/EST -5 - EST`, with the same parts as the file for UTC.
 const EST_FILE: &[u8; 111] =
     b"TZif2\0\0\0\0\0\0\0\0\0\0\0\0\0\0\0\0\0\0\0\0\0\0\0\0\0\0\0\0\0\0\0\0\0\0\x01\0\0\0\x01\0\0\0\0\0\0\0TZif2\0\0\0\0\0\0\0\0\0\0\0\0\0\0\0\0\0\0\0\0\0\0\0\0\0\0\0\0\0\0\0\0\0\0\x01\0\0\0\x04\xff\xff\xb9\xb0\0\0EST\0\nEST5\n";
 
-/// Two zones, and between them a link to the second.
+/// Two zones and, between them, a link to the second.
 const SOURCE: &str = "Zone Etc/UTC 0 - UTC\nLink Z/EST East\nZone Z/EST -5 - EST\n";
 
-/// A file that was placed.
+/// A file in the tree.
 #[derive(Drop)]
 struct Kept {
     path: String,
     bytes: Vec<u8>,
 }
 
-/// A tree in memory, which refuses one path.
+/// A tree in memory that refuses one path.
 #[derive(Drop)]
 struct Shelf<'a> {
     alloc: Global,
@@ -48,8 +48,8 @@ impl<'a> Tree for Shelf<'a> {
     }
 }
 
-/// What `build` of the source places in the folder D, and its failure's text and status, if it has
-/// one.
+/// Returns the files that `build` of the source places in the folder D, and the text and status of
+/// its failure, or an empty text.
 fn placed<T: Threads + Wait + Sync>(
     rt: &T,
     alloc: Global,

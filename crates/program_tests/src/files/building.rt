@@ -1,4 +1,4 @@
-//! Files built by several workers, with outside values.
+//! Files built by several workers, compared with values from other programs.
 
 use super::{UTC_FILE, listed};
 use std::alloc::Global;
@@ -11,17 +11,17 @@ use zic_bulk::*;
 use zic_pieces::{Gate, Open};
 use zic_source::{Fault, Kind, Place};
 
-/// Nine zones, of which the fourth and the eighth have a fault.
+/// Nine zones. The fourth and the eighth have a fault.
 const NINE: &str =
     "Zone Z/1 0 - AAA\nZone Z/2 0 - AAA\nZone Z/3 0 - AAA\nZone Z/4 1:00 1:00 XXX\nZone Z/5 0 - AAA\n\
 Zone Z/6 0 - AAA\nZone Z/7 0 - AAA\nZone Z/8 0 - AB\nZone Z/9 0 - AAA\n";
 
-/// Nine zones without a fault, west of Greenwich by one hour to nine.
+/// Nine zones without a fault, one hour to nine hours west of Greenwich.
 const NINE_WEST: &str =
     "Zone Z/1 -1 - %z\nZone Z/2 -2 - %z\nZone Z/3 -3 - %z\nZone Z/4 -4 - %z\nZone Z/5 -5 - %z\n\
 Zone Z/6 -6 - %z\nZone Z/7 -7 - %z\nZone Z/8 -8 - %z\nZone Z/9 -9 - %z\n";
 
-/// Each number of workers with each number of zones that a piece has.
+/// Pairs of a number of workers and a number of zones in a piece.
 const PLANS: [(u64, u64); 16] = [
     (1, 1),
     (1, 2),
@@ -41,7 +41,7 @@ const PLANS: [(u64, u64); 16] = [
     (64, 65_536),
 ];
 
-/// Builds with this number of workers, and this number of zones in a piece.
+/// Builds with a number of workers and a number of zones in a piece.
 fn built<R: Threads + Wait + Sync, G: Gate + Sync>(
     rt: &R,
     alloc: Global,
@@ -154,7 +154,7 @@ fn the_least_fault_decides(rt: HostRuntime) -> Result<(), Fail> {
     Ok(())
 }
 
-/// Counts who enters: pieces 0 to 3, and others.
+/// Counts how often each of the pieces 0 to 3 enters, and how often others do.
 #[derive(Drop)]
 struct Counter {
     first: [AtomicU64; 4],
@@ -192,7 +192,7 @@ fn no_piece_after_the_fault_is_begun(rt: HostRuntime) -> Result<(), Fail> {
     Ok(())
 }
 
-/// The number of turns that piece 0 waits for piece 1.
+/// The maximum number of turns for which piece 0 waits for piece 1.
 const MAX_TURNS: u64 = 1_000_000;
 
 /// Holds piece 0 until piece 1 has entered.
@@ -212,7 +212,7 @@ impl Gate for Hold {
     }
 }
 
-/// Waits until the flag is up, and returns whether it was in time.
+/// Waits until the flag is set. Returns `false` if that takes too long.
 fn has_entered(flag: &AtomicU64) -> bool {
     for _ in 0..MAX_TURNS {
         if flag.load(Ordering::SeqCst) == 1 {

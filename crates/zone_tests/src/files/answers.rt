@@ -1,13 +1,13 @@
-//! What files answer at an instant.
+//! Answers of files at instants.
 
 use super::samples::{NEW_YORK, new_york};
 use std::test::*;
 use zic_tzif::*;
 
-/// Where the footer's text of `NEW_YORK` begins.
+/// The index of the first byte of the footer's text in `NEW_YORK`.
 const FOOTER: usize = 170;
 
-/// An instant, and whether daylight saving time is in force.
+/// An instant, and whether it is daylight saving time.
 const INSTANTS: [(i64, bool); 11] = [
     (i64::MIN, false),
     (1173596399, false),

@@ -1,4 +1,4 @@
-//! Files, and octets that are none.
+//! Files, and bytes that are not a file.
 
 use super::samples::{NEW_YORK, NEW_YORK_TWICE, UTC, new_york};
 use std::alloc::Global;
@@ -7,7 +7,7 @@ use std::test::*;
 use zic_base::State;
 use zic_tzif::*;
 
-/// A place, an octet put there, and why it is no file then.
+/// An index, a byte to put there, and the reason why the bytes are then refused.
 const FAULTS: [(usize, u8, Reason); 22] = [
     (0, b'X', Reason::Magic),
     (4, b'4', Reason::Version),
@@ -33,8 +33,8 @@ const FAULTS: [(usize, u8, Reason); 22] = [
     (110, b' ', Reason::Short),
 ];
 
-/// The same of a file with transitions. The last octet of its types is that of the last transition,
-/// which the footer disagrees with then.
+/// The same for a file with transitions. The byte at 148 is the type of the last transition; after
+/// its change the footer contradicts that transition.
 const FAULTS_WITH_TRANSITIONS: [(usize, u8, Reason); 12] = [
     (0, b'X', Reason::Magic),
     (55, b'3', Reason::HeadersDiffer),
@@ -50,19 +50,19 @@ const FAULTS_WITH_TRANSITIONS: [(usize, u8, Reason); 12] = [
     (170, b',', Reason::Footer),
 ];
 
-/// How often each reason comes, by its number, where each octet of `NEW_YORK` is set to each of 256
-/// values in turn. The first number is that of files. These are the numbers of another reader,
-/// `witness/reader.py`.
+/// The number of times that each reason is given when each byte of `NEW_YORK` is set to each of 256
+/// values in turn. The first number counts the files that are accepted. The numbers are those of
+/// another reader, `witness/reader.py`.
 const REASONS: [u32; 15] = [
     15099, 8040, 1020, 254, 1607, 2040, 2040, 6553, 1527, 1887, 1526, 2, 7811, 2, 0,
 ];
 
-/// Why octets are no file.
+/// Returns the reason why bytes are not a file.
 fn stop_of(alloc: Global, octets: &[u8]) -> Option<ReadStop> {
     read(alloc, octets).err()
 }
 
-/// Checks what a file answers, each at an instant.
+/// Checks the answers of a file at some instants.
 fn assert_answers(rt: &impl Abort, zone: &Zone, rows: &[(i64, Answer<'_>)]) {
     for (t, want) in rows {
         assert_eq!(rt; zone.at(*t), *want, "at {t}");
@@ -150,7 +150,7 @@ fn no_footer(rt: HostRuntime) -> Result<(), Fail> {
     let mut octets = *UTC;
     octets[4] = b'3';
     octets[55] = b'3';
-    // The designation `TC`, standard time's offset -1, daylight saving time, and no text.
+    // The designation `TC`, the offset -1, the daylight flag, and an empty footer.
     octets[95..101].copy_from_slice(&[0xff, 0xff, 0xff, 0xff, 1, 1]);
     octets[106] = b'\n';
     let zone = read(rt.alloc(), &octets[..107])?;
@@ -202,7 +202,7 @@ fn daylight_name_without_edges(rt: HostRuntime) -> Result<(), Fail> {
     Ok(())
 }
 
-/// The number of a reason, 0 for a file.
+/// Returns the number of a reason, or 0 for a file.
 fn number_of(answer: Result<Zone, ReadStop>) -> usize {
     match answer {
         Ok(_) => 0,

@@ -1,4 +1,4 @@
-//! Files that tests read.
+//! Files for the tests to read.
 
 use zic_base::State;
 use zic_tzif::Answer;
@@ -11,7 +11,7 @@ TZif2\0\0\0\0\0\0\0\0\0\0\0\0\0\0\0\
 \0\0\0\0\0\0\0\0\0\0\0\0\0\0\0\0\0\0\0\x01\0\0\0\x04\
 \0\0\0\0\0\0UTC\0\nUTC0\n";
 
-/// The file of a zone on US rules from 2007 on, in standard time of -5:00.
+/// The file of a zone with the US rules from 2007 on and a standard time of -5:00.
 pub const NEW_YORK: &[u8; 193] = b"TZif2\0\0\0\0\0\0\0\0\0\0\0\0\0\0\0\
 \0\0\0\0\0\0\0\0\0\0\0\0\0\0\0\0\0\0\0\x01\0\0\0\x01\
 \0\0\0\0\0\0\0\
@@ -22,7 +22,7 @@ TZif2\0\0\0\0\0\0\0\0\0\0\0\0\0\0\0\
 \x01\0\x01\0\x01\0\xff\xff\xb9\xb0\0\0\xff\xff\xc7\xc0\x01\x04EST\0EDT\0\
 \nEST5EDT,M3.2.0,M11.1.0\n";
 
-/// The same with the transitions in the first data block too, and with indicators in both.
+/// The same file with the transitions also in the first data block, and with indicators in both.
 pub const NEW_YORK_TWICE: &[u8; 244] = b"TZif2\0\0\0\0\0\0\0\0\0\0\0\0\0\0\0\
 \0\0\0\x02\0\0\0\x02\0\0\0\0\0\0\0\x06\0\0\0\x02\0\0\0\x08\
 \x45\xf3\xa8\xf0\x47\x2d\x5f\xe0\x47\xd3\x8a\xf0\x49\x0d\x41\xe0\x49\xb3\x6c\xf0\x4a\xed\x23\xe0\
@@ -34,7 +34,7 @@ TZif2\0\0\0\0\0\0\0\0\0\0\0\0\0\0\0\
 \x01\0\x01\0\x01\0\xff\xff\xb9\xb0\0\0\xff\xff\xc7\xc0\x01\x04EST\0EDT\0\0\0\0\0\
 \nEST5EDT,M3.2.0,M11.1.0\n";
 
-/// What clocks of New York show.
+/// Returns the answer for New York, in daylight saving time or in standard time.
 pub fn new_york(daylight: bool) -> Answer<'static> {
     let (offset, name) = if daylight {
         (-14400, b"EDT".as_slice())

@@ -1,17 +1,17 @@
-//! How long what files answer stays the same.
+//! Spans of instants at which a file gives the same answer.
 
 use super::samples::{NEW_YORK, UTC, new_york};
 use std::process::Abort;
 use std::test::*;
 use zic_tzif::*;
 
-/// Where the footer's text of `NEW_YORK` begins.
+/// The index of the first byte of the footer's text in `NEW_YORK`.
 const FOOTER: usize = 170;
 
-/// Where the time of its last transition begins.
+/// The index of the time of the last transition in `NEW_YORK`.
 const LAST_TIME: usize = 135;
 
-/// An instant, the first and the last of its span, and whether daylight saving time is in force.
+/// An instant, the first and the last instant of its span, and whether it is daylight saving time.
 type Row = (i64, i64, i64, bool);
 
 const BY_TRANSITIONS: [Row; 7] = [
@@ -24,7 +24,7 @@ const BY_TRANSITIONS: [Row; 7] = [
     (1257055199, 1236495600, 1257055199, true),
 ];
 
-/// From the last transition on. The edges are those of glibc 2.36.
+/// Spans from the last transition on. The edges are those of glibc 2.36.
 const BY_FOOTER: [Row; 4] = [
     (1257055200, 1257055200, 1268549999, false),
     (4102444800, 4097196000, 4108690799, false),
@@ -84,7 +84,7 @@ fn without_a_footer(rt: HostRuntime) -> Result<(), Fail> {
     Ok(())
 }
 
-// The last transition comes an hour after the footer's edge.
+// Here the last transition comes an hour after the footer's edge.
 #[test]
 fn from_the_last_transition(rt: HostRuntime) -> Result<(), Fail> {
     let mut octets = NEW_YORK.to_vec(rt.alloc())?;

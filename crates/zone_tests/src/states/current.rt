@@ -1,4 +1,4 @@
-//! The current occurrence, of the United States' rules from 2007 on.
+//! The current occurrence of the rules of the United States from 2007 on.
 
 use std::test::Fail;
 use zic_occurrences::TimedOccurrence;

@@ -1,4 +1,4 @@
-//! Abbreviations by FORMAT, by the examples of zic(8) and by hand.
+//! Abbreviations made by FORMAT, from the examples of zic(8) and by hand.
 
 use std::alloc::Global;
 use std::test::Fail;
@@ -8,7 +8,7 @@ use zic_states::format::abbreviation;
 use zic_states::*;
 use zic_words::{GREATEST_OFFSET, Letter};
 
-/// Returns the source that this text is.
+/// Returns the source that a text makes.
 fn source(alloc: Global, text: &[u8]) -> Result<Source, Fail> {
     let mut texts = Vec::new(alloc);
     texts.push(Vec::from_slice(alloc, text)?)?;
@@ -19,7 +19,7 @@ fn source(alloc: Global, text: &[u8]) -> Result<Source, Fail> {
     }
 }
 
-/// Returns the abbreviation that the FORMAT of the first line of this source gives.
+/// Returns the abbreviation that FORMAT gives on the first line of the source.
 fn filled(
     alloc: Global,
     text: &[u8],
@@ -39,7 +39,7 @@ fn filled(
     Ok(abbreviation(format, offset, daylight, Some(&letter)))
 }
 
-/// Returns the abbreviation that these bytes are.
+/// Returns the abbreviation with these bytes.
 fn name(octets: &[u8]) -> Result<Abbreviation, Fail> {
     Ok(Abbreviation::parse(octets).ok_or("an abbreviation")?)
 }

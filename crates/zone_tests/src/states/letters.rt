@@ -5,7 +5,7 @@ use std::test::Fail;
 use zic_source::{Source, Stop, read_source};
 use zic_states::observance_by;
 
-/// Returns the source of this text.
+/// Returns the source that a text makes.
 fn read(alloc: Global, text: &[u8]) -> Result<Source, Fail> {
     let mut texts = Vec::new(alloc);
     texts.push(Vec::from_slice(alloc, text)?)?;
@@ -18,7 +18,7 @@ fn read(alloc: Global, text: &[u8]) -> Result<Source, Fail> {
 
 #[test]
 fn before_all_occurrences(rt: HostRuntime) -> Result<(), Fail> {
-    // What is kept before all: a letter, or none.
+    // The letter that is in force before all occurrences, or `None`.
     let rows: [(&[u8], Option<&[u8]>); 5] = [
         (
             b"Rule A 2007 max - Mar Sun>=8 2:00 1:00 D

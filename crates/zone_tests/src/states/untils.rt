@@ -1,4 +1,4 @@
-//! UNTILs, with outside values.
+//! Instants of UNTIL, compared with expected values.
 
 ghost use Rattle.std.specs.Prelude.{IfOk};
 ghost use Rattle.zic_source.specs.Sound.{IsSoundLine};
@@ -12,7 +12,7 @@ use zic_occurrences::{TimedOccurrence, occurrences};
 use zic_source::{Source, read_source};
 use zic_states::*;
 
-/// The first rules of America/New_York that still hold.
+/// The first rules of America/New_York that are still in force.
 const RULES: &[u8] =
     b"Rule US 2007 max - Mar Sun>=8 2:00 1:00 D\nRule US 2007 max - Nov Sun>=1 2:00 0 S\nZone A -5:00 ";
 
@@ -39,7 +39,7 @@ fn occurrences_for(
     }
 }
 
-/// Returns the source of these rules and a zone whose first line goes on so.
+/// Returns the source of these rules and of a zone whose first line ends with `line`.
 fn read(alloc: Global, line: &[u8]) -> Result<Source, Fail> {
     let mut text = Vec::from_slice(alloc, RULES)?;
     text.extend_from_slice(line)?;

@@ -1,15 +1,15 @@
-//! How long footers mean the same. The edges are those of glibc 2.36 under such a TZ, and before
-//! 1970 and after 2370 those of the same years of its calendar, whole cycles of 400 years away;
-//! those at ties and of edges in a neighbouring year are reckoned by hand.
+//! Spans of instants at which a footer means the same. The edges are those that glibc 2.36 computes
+//! with this TZ. Before 1970 and after 2370, they are those of the same years of its calendar, a
+//! multiple of 400 years away. Ties, and edges in a neighbouring year, are computed by hand.
 
 use std::process::Abort;
 use std::test::Fail;
 use zic_posix::*;
 
-/// An instant, the first and the last of its span, and whether daylight saving time is in force.
+/// An instant, the first and the last instant of its span, and whether it is daylight saving time.
 type Row = (i64, i64, i64, bool);
 
-/// Checks the spans of the footer of a text.
+/// Checks the spans of a footer.
 fn check(rt: &(impl Abort + AllocGlobal), text: &str, rows: &[Row]) -> Result<(), Fail> {
     let footer = parse(rt.alloc(), text.as_bytes(), 3)?;
     for (t, first, last, daylight) in rows {
@@ -61,11 +61,11 @@ fn spans_reach_from_edge_to_edge(rt: HostRuntime) -> Result<(), Fail> {
 
 #[test]
 fn spans_at_odd_edges(rt: HostRuntime) -> Result<(), Fail> {
-    // Both edges fall on one instant, so daylight saving time goes on, and its spans are whole
-    // years.
+    // Both edges fall on one instant, so daylight saving time never ends. Each span is a whole
+    // year.
     static TIE: [Row; 1] = [(951_876_000, 951_876_000, 983_411_999, true)];
     check(&rt, "AAA0BBB,J60,J60/3", &TIE)?;
-    // Both edges of a year come in January of the next, the stop first.
+    // Both edges of a year fall in January of the next year, the stop first.
     static LATE: [Row; 3] = [
         (1_704_240_000, 1_673_046_000, 1_704_491_999, true),
         (1_704_492_000, 1_704_492_000, 1_704_581_999, false),

@@ -1,13 +1,13 @@
-//! What footers mean. The rows are what glibc 2.36 shows under such a TZ; those at ties, before
-//! 1970, past the year 9999, and of edges in a neighbouring year, which glibc doesn't look at, are
-//! reckoned by hand.
+//! Meanings of footers. The rows are what glibc 2.36 shows with this TZ. Computed by hand are ties,
+//! instants before 1970 and after the year 9999, and edges in a neighbouring year, which glibc
+//! ignores.
 
 use std::process::Abort;
 use std::test::Fail;
 use zic_base::State;
 use zic_posix::*;
 
-/// What a footer shows at an instant.
+/// The state that a footer means at an instant.
 type Row = (i64, State<'static>);
 
 const HOUR: i32 = 3600;
@@ -36,7 +36,7 @@ const EDT: State<'static> = State {
     name: b"EDT",
 };
 
-/// Checks what the footer of a text shows at instants.
+/// Checks the states that a footer means at some instants.
 fn check(rt: &(impl Abort + AllocGlobal), text: &str, rows: &[Row]) -> Result<(), Fail> {
     let footer = parse(rt.alloc(), text.as_bytes(), 3)?;
     for (t, state) in rows {
@@ -54,7 +54,7 @@ fn north(rt: HostRuntime) -> Result<(), Fail> {
         (1_194_156_000, EST),
         (4_102_444_800, EST),
         (253_402_214_399, EST),
-        // The years 2407 and 1607, and both ends, in December and in January.
+        // The years 2407 and 1607, and both ends of `i64`, in December and in January.
         (13_796_377_199, EST),
         (13_796_377_200, EDT),
         (-11_449_184_401, EST),
@@ -86,7 +86,7 @@ fn new_zealand(rt: HostRuntime) -> Result<(), Fail> {
     check(&rt, "NZST-12NZDT,M9.5.0,M4.1.0/3", &ROWS)
 }
 
-// Clocks change at 24:00 of Saturday.
+// Clocks change at 24:00 on a Saturday.
 #[test]
 fn chile(rt: HostRuntime) -> Result<(), Fail> {
     const WINTER: State<'static> = State {
@@ -109,7 +109,7 @@ fn chile(rt: HostRuntime) -> Result<(), Fail> {
     check(&rt, "<-04>4<-03>,M9.1.6/24,M4.1.6/24", &ROWS)
 }
 
-// Winter is the exception.
+// Winter time is the daylight saving time, with a negative saving.
 #[test]
 fn ireland(rt: HostRuntime) -> Result<(), Fail> {
     const IST: State<'static> = State {
@@ -151,7 +151,7 @@ fn numbered_days(rt: HostRuntime) -> Result<(), Fail> {
         (951_789_600, BBB),
     ];
     check(&rt, "AAA0BBB,59,J300", &N59)?;
-    // Day 365 is December 31 in 2024, and in 2023 the January 1 after it.
+    // Day 365 is December 31 in 2024. In 2023 it is the following January 1.
     static N365: [Row; 4] = [
         (1_704_074_399, BBB),
         (1_704_074_400, AAA),
@@ -163,8 +163,8 @@ fn numbered_days(rt: HostRuntime) -> Result<(), Fail> {
 
 #[test]
 fn edges_in_a_neighbouring_year(rt: HostRuntime) -> Result<(), Fail> {
-    // It starts on January 6 at 23:00, and stops on January 5 at 22:00, in UT: on January 3 of 2024
-    // both edges of 2023 are still to come.
+    // In UT, daylight saving time starts on January 6 at 23:00 and stops on January 5 at 22:00. On
+    // January 3, 2024, both edges of 2023 are still to come.
     static LATE: [Row; 5] = [
         (1_704_240_000, BBB),
         (1_704_491_999, BBB),
@@ -173,7 +173,7 @@ fn edges_in_a_neighbouring_year(rt: HostRuntime) -> Result<(), Fail> {
         (1_704_582_000, BBB),
     ];
     check(&rt, "AAA0BBB,J365/167,J364/167", &LATE)?;
-    // It starts on December 25 at 01:00 of the year before.
+    // Daylight saving time starts on December 25 at 01:00 of the previous year.
     static EARLY: [Row; 4] = [
         (1_703_465_999, AAA),
         (1_703_466_000, BBB),
@@ -183,7 +183,7 @@ fn edges_in_a_neighbouring_year(rt: HostRuntime) -> Result<(), Fail> {
     check(&rt, "AAA0BBB,0/-167,J100", &EARLY)
 }
 
-// Where a start and an end fall on one instant the start wins, so daylight saving time never ends.
+// If a start and an end fall on one instant, the start wins, so daylight saving time never ends.
 #[test]
 fn ties(rt: HostRuntime) -> Result<(), Fail> {
     static MARCH: [Row; 2] = [(951_875_999, BBB), (951_876_000, BBB)];

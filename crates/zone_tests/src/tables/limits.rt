@@ -3,7 +3,7 @@
 use super::*;
 use zic_base::Kind;
 
-/// A zone of so many lines, each with an offset of its own.
+/// Returns a zone with `count` lines, each with a different offset.
 fn offsets(alloc: Global, count: u16) -> Result<Vec<u8>, Fail> {
     let mut text = Vec::new(alloc);
     for i in 0..count {
@@ -16,7 +16,7 @@ fn offsets(alloc: Global, count: u16) -> Result<Vec<u8>, Fail> {
     Ok(text)
 }
 
-/// A zone of so many lines, each with a name of its own.
+/// Returns a zone with `count` lines, each with a different abbreviation.
 fn names(alloc: Global, count: u8) -> Result<Vec<u8>, Fail> {
     let mut text = Vec::new(alloc);
     for i in 0..count {
@@ -33,7 +33,7 @@ const MONTHS: [&str; 12] = [
     "Jan", "Feb", "Mar", "Apr", "May", "Jun", "Jul", "Aug", "Sep", "Oct", "Nov", "Dec",
 ];
 
-/// A zone that changes on the first day of each month, to the end of a year.
+/// Returns a zone that changes on the first day of each month, up to the end of the year `last`.
 fn months(alloc: Global, last: u16) -> Result<Vec<u8>, Fail> {
     let mut text = Vec::new(alloc);
     for (i, month) in MONTHS.iter().enumerate() {
@@ -45,8 +45,8 @@ fn months(alloc: Global, last: u16) -> Result<Vec<u8>, Fail> {
     Ok(text)
 }
 
-/// How many transitions, types and octets of designations the table of a source's only zone has, or
-/// why it has none.
+/// Returns the numbers of transitions, types and bytes of designations in the table of a source's
+/// only zone, or the reason why it has none.
 fn counts(alloc: Global, text: &[u8]) -> Result<Result<(usize, usize, usize), Stop>, Fail> {
     match made(alloc, &[text])? {
         Ok(table) => Ok(Ok((

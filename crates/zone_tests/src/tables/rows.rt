@@ -1,8 +1,8 @@
-//! Tables of worked examples.
+//! Worked examples of tables.
 
 use super::*;
 
-/// A zone, and its table.
+/// A zone and its table.
 struct Row {
     rules: &'static [u8],
     zone: &'static [u8],
@@ -30,7 +30,7 @@ const ROWS: [Row; 4] = [
         names: b"EST\0EDT\0",
         text: b"EST5EDT,M3.2.0,M11.1.0",
     },
-    // A type for each pair of an offset and a flag.
+    // One type for each pair of an offset and a flag.
     Row {
         rules: b"Rule US 1967 1973 - Apr lastSun 2:00 1:00 D\nRule US 1967 2006 - Oct lastSun 2:00 0 S\n",
         zone: b"Zone Z/M -5:00 - EST 1973 Apr 29 2:00\n -6:00 US C%sT\n",
@@ -55,8 +55,8 @@ const ROWS: [Row; 4] = [
         names: b"IST\0GMT\0",
         text: b"IST-1GMT0,M10.5.0,M3.5.0/1",
     },
-    // Two types of one designation, and a time of 26 hours in the footer. The instants are those of
-    // `zic -b fat` (zic 2.36).
+    // Two types with one designation, and a time of 26 hours in the footer. The instants are those
+    // of `zic -b fat` (zic 2.36).
     Row {
         rules: b"Rule Zion 2013 max - Mar Fri>=23 2:00 1:00 D\nRule Zion 2013 max - Oct lastSun 2:00 0 S\n",
         zone: b"Zone Z/K 2:00 Zion IST\n",
@@ -84,7 +84,7 @@ fn told_changes(alloc: Global, changes: &[Change]) -> Result<Vec<(i64, u8)>, Fai
     Ok(told)
 }
 
-/// The offset, flag and place of each type.
+/// The offset, the flag and the index of the designation of each type.
 fn told_types(alloc: Global, types: &[LocalType]) -> Result<Vec<(i32, bool, u8)>, Fail> {
     let mut told = Vec::new(alloc);
     for its in types {

@@ -1,5 +1,5 @@
-//! First states, changes and explicit ends. The changes are those of `zic -b fat` (zic 2.36), the
-//! first states those of `zdump -i` from its files.
+//! First states, changes and explicit ends. The changes are those of `zic -b fat` (zic 2.36), and
+//! the first states are those that `zdump -i` prints for its files.
 
 use super::*;
 
@@ -7,9 +7,9 @@ use super::*;
 struct Row {
     rules: &'static [u8],
     zone: &'static [u8],
-    /// Total UT offset, whether it is daylight saving time, abbreviation.
+    /// The total UT offset, the daylight flag and the abbreviation.
     first: (i32, bool, &'static [u8]),
-    /// Each: the instant, and the state from then on.
+    /// The instant of each change, and the state from then on.
     changes: &'static [(i64, i32, bool, &'static [u8])],
     end: i64,
 }
@@ -24,7 +24,7 @@ const NEW_YORK: &[(i64, i32, bool, &[u8])] = &[
 ];
 
 const ROWS: [Row; 19] = [
-    // No changes, and no rules.
+    // No rules, and no changes.
     Row {
         rules: NO_RULES,
         zone: b"Zone Z/Z 0 - UTC\n",
@@ -32,7 +32,7 @@ const ROWS: [Row; 19] = [
         changes: &[],
         end: 0,
     },
-    // By wall clocks.
+    // AT by the wall clock.
     Row {
         rules: UNITED_STATES,
         zone: b"Zone Z/NY -5:00 US E%sT\n",
@@ -40,8 +40,8 @@ const ROWS: [Row; 19] = [
         changes: NEW_YORK,
         end: 1_262_304_000,
     },
-    // Summer time from the start of a line on: it began within its window, by the clock of the line
-    // before.
+    // Summer time from the start of a line on. It began within the line's window, by the clock of
+    // the line before.
     Row {
         rules: MENOMINEE,
         zone: b"Zone Z/M -5:00 - EST 1973 Apr 29 2:00\n -6:00 US C%sT\n",
@@ -52,7 +52,7 @@ const ROWS: [Row; 19] = [
         ],
         end: 1_230_768_000,
     },
-    // An UNTIL by each clock.
+    // UNTIL by each of the three clocks.
     Row {
         rules: UNITED_STATES,
         zone: b"Zone Z/V -5:00 US E%sT 2007 Jul 1 0:00\n -5:00 - EST\n",
@@ -97,7 +97,7 @@ const ROWS: [Row; 19] = [
         ],
         end: 915_148_800,
     },
-    // Friday before the last Sunday of March.
+    // The Friday before the last Sunday of March.
     Row {
         rules: b"Rule Zion 2013 max - Mar Fri>=23 2:00 1:00 D\nRule Zion 2013 max - Oct lastSun 2:00 0 S\n",
         zone: b"Zone Z/J 2:00 Zion I%sT\n",
@@ -112,8 +112,8 @@ const ROWS: [Row; 19] = [
         ],
         end: 1_451_606_400,
     },
-    // A rule at the very instant of UNTIL is the next line's; one without a set knows nothing of
-    // it.
+    // A rule at the exact instant of UNTIL belongs to the next line. If that line has no set, the
+    // rule has no effect.
     Row {
         rules: UNITED_STATES,
         zone: b"Zone Z/U -5:00 US E%sT 2007 Mar 11 2:00\n -5:00 US E%sT\n",
@@ -128,7 +128,7 @@ const ROWS: [Row; 19] = [
         changes: &[],
         end: 1_173_596_401,
     },
-    // By universal time, with abbreviations made of offsets.
+    // AT by universal time, with abbreviations made from offsets.
     Row {
         rules: b"Rule EU 1996 max - Mar lastSun 1:00u 1:00 -\nRule EU 1996 max - Oct lastSun 1:00u 0 -\n",
         zone: b"Zone Z/G -2:00 EU %z\n",
@@ -157,7 +157,7 @@ const ROWS: [Row; 19] = [
         ],
         end: 1_767_225_600,
     },
-    // 10 hours east of UT the year 1 begins in the UT year 0.
+    // At 10 hours east of UT, the year 1 begins in the UT year 0.
     Row {
         rules: b"Rule R 2000 o - Mar 1 0:00u 1:00 D\nRule R 2000 o - Oct 1 0:00u 0 S\n",
         zone: b"Zone Z/E 10:00 - AAA 1 Jan 1\n 10:00 R B%sT\n",
@@ -169,7 +169,7 @@ const ROWS: [Row; 19] = [
         ],
         end: 1_041_379_200,
     },
-    // A rule of standard time at the very instant of UNTIL.
+    // A rule of standard time at the exact instant of UNTIL.
     Row {
         rules: b"Rule R 2000 o - Mar 1 0:00u 1:00 D\nRule R 1999 2000 - Oct 1 0:00u 0 S\n",
         zone: b"Zone Z/A 0 R A%sT 2000 Oct 1 0:00u\n 1:00 - BBB\n",
@@ -180,7 +180,7 @@ const ROWS: [Row; 19] = [
         ],
         end: 970_358_401,
     },
-    // The first occurrence comes long after the line's start.
+    // The first occurrence comes long after the start of the line.
     Row {
         rules: UNITED_STATES,
         zone: b"Zone Z/L -4:56:02 - LMT 1900\n -5:00 US E%sT\n",
@@ -196,7 +196,7 @@ const ROWS: [Row; 19] = [
         ],
         end: 1_262_304_000,
     },
-    // Two lines with one set.
+    // Two lines with the same set.
     Row {
         rules: b"Rule E 1996 max - Mar lastSun 1:00u 0 -\nRule E 1996 max - Oct lastSun 1:00u -1:00 S\n",
         zone: b"Zone Z/T 1:00 E CET/WET 1998 Jan 1\n 2:00 E EET/CET\n",
@@ -215,8 +215,8 @@ const ROWS: [Row; 19] = [
         ],
         end: 978_307_200,
     },
-    // Before all occurrences the letter is that of the first of standard time, by time and not by
-    // line.
+    // Before all occurrences, the letter is that of the first occurrence of standard time. The
+    // first in time counts, not the first in the source.
     Row {
         rules: b"Rule P 1990 o - Oct 1 0:00 0 X\nRule P 1970 o - Apr 1 0:00 1:00 D\nRule P 1980 1981 - Oct 1 0:00 0 Y\nRule P 1980 1981 - Mar 1 0:00 0 Z\nRule P 1985 o - Apr 1 0:00 1:00 W\n",
         zone: b"Zone Z/P -5:00 P E%sT\n",
@@ -232,8 +232,8 @@ const ROWS: [Row; 19] = [
         ],
         end: 725_846_400,
     },
-    // A rule whose occurrences come in the year after their own. zic, which takes occurrences year
-    // by year, says this where the rule is written as of 12 January, 12:00, from 2001 to 2006.
+    // A rule whose occurrences fall in the next year. zic applies the rules year by year; it shows
+    // these changes if the rule is written as 12 January, 12:00, from 2001 to 2006.
     Row {
         rules: b"Rule R 2000 max - Jan 1 0:00 0 -\nRule R 2000 2005 - Dec 31 300:00 1:00 -\n",
         zone: b"Zone Z/R 0 R RST/RDT\n",
@@ -254,7 +254,7 @@ const ROWS: [Row; 19] = [
         ],
         end: 1_199_145_600,
     },
-    // Three rules within a day.
+    // Three rules within one day.
     Row {
         rules: b"Rule R 2000 max - Dec 31 282:00u 24:00d -\nRule R 2000 max - Jan 12 0:00u 0 -\nRule R 2000 max - Dec 31 300:00 0 -\n",
         zone: b"Zone Z/C 0 R RST/RDT\n",

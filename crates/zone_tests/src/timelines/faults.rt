@@ -3,7 +3,7 @@
 use super::*;
 use zic_base::{Kind, Place};
 
-/// A zone, and its fault at its Zone line, in the first text.
+/// A zone, and its fault, which is at the Zone line in the first text.
 struct Row {
     rules: &'static [u8],
     zone: &'static [u8],
@@ -11,7 +11,7 @@ struct Row {
     line: u64,
 }
 
-/// Three occurrences within a day of January, in order at offset 0 and out of order 24 hours east.
+/// Three occurrences within a day in January: in order at offset 0, out of order 24 hours east.
 const THREE_OF_JANUARY: &[u8] =
     b"Rule R 2000 max - Dec 31 282:00u 24:00d -\nRule R 2000 max - Jan 12 0:00u 0 -\nRule R 2000 max - Dec 31 300:00 0 -\n";
 
@@ -40,28 +40,29 @@ const ROWS: [Row; 12] = [
         kind: Kind::UntilNotRising,
         line: 1,
     },
-    // Equal in 2009, when 1 March is a Sunday.
+    // Two occurrences coincide in 2009, when 1 March is a Sunday.
     Row {
         rules: b"Rule B 2000 max - Mar 1 0:00 1:00 D\nRule B 2000 max - Mar Sun>=1 0:00 0 S\n",
         zone: b"Zone Z/X 0 B X%sT\n",
         kind: Kind::RulesOutOfOrder,
         line: 3,
     },
-    // Equal in 2124, when 29 February is a Tuesday, 30 years after the last year that is named.
+    // Two occurrences coincide in 2124, when 29 February is a Tuesday. That is 30 years after the
+    // last year that the rules name.
     Row {
         rules: b"Rule C 2000 2094 - Jun 1 0:00 0 -\nRule C 2094 max - Feb 28 24:00 0 -\nRule C 2094 max - Feb lastTue 0:00 1:00 D\n",
         zone: b"Zone Z/C 0 C C%sT\n",
         kind: Kind::RulesOutOfOrder,
         line: 4,
     },
-    // Equal in 2303, by a rule that begins in 2300.
+    // Two occurrences coincide in 2303, because of a rule that begins in 2300.
     Row {
         rules: b"Rule E 2000 max - Mar 1 0:00 0 -\nRule E 2300 max - Mar Sun>=1 0:00 1:00 D\n",
         zone: b"Zone Z/E 0 E E%sT\n",
         kind: Kind::RulesOutOfOrder,
         line: 3,
     },
-    // Of several faults the first in the order of kinds.
+    // Of several faults, the first in the order of the kinds is returned.
     Row {
         rules: THREE_OF_JANUARY,
         zone: b"Zone Z/T 24:00 R RST/RDT\n",

@@ -1,12 +1,12 @@
-//! Tails: what goes on after explicit ends, with outside values.
+//! Tails: the states after explicit ends, compared with expected values.
 
 use super::*;
 use zic_source::Saving;
 
-/// One of these rules goes on for ever, from 2001 on alone.
+/// Of these rules, only the one from 2001 on continues for ever.
 const ONE: &[u8] = b"Rule R 2000 only - Mar 1 0:00u 0 S\nRule R 2001 max - Oct 1 0:00u 1:00 D\n";
 
-/// Returns whether a rule begins this saving and abbreviation.
+/// Returns whether a rule begins a state with this saving and abbreviation.
 fn begins(rule: &TailRule, seconds: i32, daylight: bool, name: &[u8]) -> bool {
     rule.saving == Saving { seconds, daylight } && rule.name.octets() == name
 }
