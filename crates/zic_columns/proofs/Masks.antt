@@ -1,5 +1,5 @@
 -- Masks of 32 bytes.
-use Rattle.std.proofs.Common.{◌≡◌, ◌≢◌, ℕ, ◌+◌, ◌-◌, ◌*◌, ◌%◌, ◌^◌, ◌<◌, ◌≤◌, ◌==◌, ◌||◌, ◌&&◌, not, Bool, true, false, cond, eqb, List, [], ◌∷◌, map, length, get_or, replicate, Some, inl, inr, ◌⊎◌, refl, sym, ap, ap₂, subst, ◌∙◌, arith, w8, w64, bit_and, bit_or}
+use Rattle.std.proofs.Common.{◌≡◌, ℕ, ◌+◌, ◌-◌, ◌*◌, ◌%◌, ◌^◌, ◌<◌, ◌≤◌, ◌==◌, ◌||◌, ◌&&◌, not, Bool, true, false, cond, eqb, List, [], ◌∷◌, map, length, get_or, replicate, Some, inl, inr, ◌⊎◌, refl, sym, ap, ap₂, subst, ◌∙◌, arith, w64, bit_and, bit_or}
 use Rattle.std.specs.Int.{bit_at, trailing_zeros}
 use mir.Val.{bool_byte}
 use Rattle.std.specs.Int.RustNames.{count_ones}
@@ -9,7 +9,7 @@ use Rattle.std.proofs.lemmas.List.{get_or-map, get_or_default, get_or_past, leng
 use Rattle.std.proofs.lemmas.Nat.Bits.{bit_at-trailing_zeros}
 use Rattle.std.proofs.lemmas.Nat.{and_block, and_comm, and-not}
 use Rattle.std.proofs.lemmas.Simd.{bit_mask_l, get_or-chunk, length-chunk, map-map, mask_l-lt, mask_l-mod, none_from_empty_mask, ones-mask_l_cons, zip2_of_maps, zip2_splat}
-use Rattle.memchr.specs.Find.{IsFirst, NoneBefore, Passes}
+use Rattle.memchr.specs.Find.{IsFirst, Passes}
 use Rattle.zic_columns.specs.Column.{HasNoQuote, ends_line}
 use Rattle.zic_columns.specs.code.Block.{ends_field, mask_at, records_ended}
 

@@ -1,5 +1,5 @@
 -- How many records end in bytes without a double quote.
-use Rattle.std.proofs.Common.{◌≡◌, ◌≢◌, ◌⊎◌, ℕ, suc, ◌+◌, ◌-◌, ◌<◌, ◌≤◌, ◌&&◌, not, Bool, true, false, cond, All, List, [], ◌∷◌, ◌++◌, length, take, drop, get_or, inl, inr, refl, sym, ap, subst, ◌∙◌, ⊎_elim, arith, append_assoc, length-append}
+use Rattle.std.proofs.Common.{◌≡◌, ◌≢◌, ◌⊎◌, ℕ, suc, ◌+◌, ◌-◌, ◌<◌, ◌≤◌, Bool, true, false, cond, All, List, [], ◌∷◌, ◌++◌, length, take, drop, get_or, inl, inr, refl, sym, ap, subst, ◌∙◌, ⊎_elim, arith, append_assoc, length-append}
 use Rattle.std.proofs.Math.Seq.{take-add}
 use Rattle.std.specs.Simd.Lanes.{chunk}
 use Rattle.std.proofs.lemmas.Bool.{cases_Bool}
@@ -12,7 +12,7 @@ use Rattle.zic_columns.specs.code.Line.{IsFirstRecord}
 use Rattle.zic_columns.specs.declared.blocks.Passed.{Passed}
 use Rattle.zic_columns.proofs.FirstFacts.{HasPassed, passed_all, passed_record}
 use Rattle.zic_columns.proofs.LineFacts.{later_records, later_records-end, later_records-nil, later_records-within, plain_records-end, plain_records-nil, plain_records-within}
-use Rattle.zic_columns.proofs.SomeRecords.{column_records-nil, joined, plain_read, whole_both, whole_lines}
+use Rattle.zic_columns.proofs.SomeRecords.{joined, plain_read, whole_both, whole_lines}
 
 -- 1 where a record has begun and not ended, and else 0
 abbrev open_records : Bool → List ℕ → ℕ

@@ -1,7 +1,7 @@
 -- Bytes, taken 32 at a time.
-use Rattle.std.specs.Prelude.{◌≡◌, ◌≢◌, ◌+◌, ◌<◌, ◌≤◌, ◌||◌, ◌&&◌, ◌==◌, ℕ, Bool, true, not, if◌then◌else◌, List, [], ◌∷◌, map, length, slice_index, take, IfSome}
+use Rattle.std.specs.Prelude.{◌≡◌, ◌+◌, ◌<◌, ◌≤◌, ◌||◌, ◌&&◌, ◌==◌, ℕ, Bool, true, not, if◌then◌else◌, List, [], ◌∷◌, map, length, slice_index, take}
 use Rattle.std.specs.Simd.Lanes.{chunk, mask_l}
-use Rattle.memchr.specs.Find.{NoneBefore, Nowhere, Passes}
+use Rattle.memchr.specs.Find.{Nowhere, Passes}
 use Rattle.zic_columns.specs.Column.{AreWholeRecords, HasNoQuote, column_records, ends_line, fields_of}
 use Rattle.zic_columns.specs.Record.{IsRecord}
 use Rattle.zic_columns.specs.code.Line.{IsFirstLine}

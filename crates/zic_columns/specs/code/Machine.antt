@@ -4,7 +4,7 @@ use Rattle.csv.specs.Machine.{ends_at_end, is_end, next_record, step}
 use Rattle.csv.specs.Reading.{default_config}
 use Rattle.csv.specs.declared.parser.State.{State}
 use Rattle.csv.specs.declared.parser.State.TheVariants as st
-use Rattle.zic_columns.specs.Column.{column_records, ends_line}
+use Rattle.zic_columns.specs.Column.{ends_line}
 use Rattle.zic_columns.specs.declared.machine.Place.{Place}
 use Rattle.zic_columns.specs.declared.machine.Place.TheVariants as place
 

@@ -1,4 +1,4 @@
-use Rattle.std.proofs.Common.{◌≡◌, ◌+◌, ◌-◌, ◌*◌, ◌^◌, ◌≤◌, ℕ, Bool, cond, true, length, take, sym, ap, subst, ◌∙◌, arith, bit_and}
+use Rattle.std.proofs.Common.{◌≡◌, ◌+◌, ◌-◌, ◌*◌, ◌^◌, ℕ, Bool, cond, true, take, sym, ap, subst, ◌∙◌, arith, bit_and}
 use Rattle.std.specs.Int.RustNames.{count_ones}
 use Rattle.std.specs.Simd.Lanes.{chunk}
 use Rattle.zic_columns.specs.Column.{ends_line}
