@@ -1,12 +1,12 @@
 -- The first records of bytes.
-use Rattle.std.proofs.Common.{◌≡◌, ◌≢◌, ◌⊎◌, ℕ, ◌+◌, ◌-◌, ◌<◌, ◌≤◌, ◌==◌, ◌||◌, Bool, true, false, All, List, [], ◌∷◌, ◌++◌, length, take, drop, get_or, slice_index, Some, None, inl, inr, refl, sym, ap, ◌∙◌, arith, append_assoc, length-append, subst, ⊎_elim}
+use Rattle.std.proofs.Common.{◌≡◌, ◌≢◌, ◌⊎◌, ℕ, ◌+◌, ◌-◌, ◌<◌, ◌≤◌, ◌==◌, ◌||◌, Bool, true, false, All, List, [], ◌∷◌, ◌++◌, length, take, drop, get_or, Some, None, inl, inr, refl, sym, ap, ◌∙◌, arith, append_assoc, length-append, subst, ⊎_elim}
 use Rattle.std.proofs.Math.Seq.{take-append-add}
 use Rattle.std.proofs.lemmas.Bool.{both_ways, eqb-false, ne_eqb}
-use Rattle.std.proofs.lemmas.List.{append-nil, drop_at, drop_all, get_or-take, length-drop, length-take-le, take_all, take_at, take-append-drop, take_more}
+use Rattle.std.proofs.lemmas.List.{append-nil, drop_at, drop_all, get_or-take, length-take-le, take_all, take_at, take-append-drop, take_more}
 use Rattle.std.proofs.lemmas.List.Elements.{All-push, All-weaker}
 use Rattle.memchr.specs.Find.{IsFirstByte, is_byte3}
 use Rattle.csv.specs.declared.parser.State.TheVariants as st
-use Rattle.zic_columns.specs.Column.{AreWholeLines, AreWholeRecords, HasNoQuote, column_records, ends_line, fields_of, plain_records}
+use Rattle.zic_columns.specs.Column.{AreWholeRecords, HasNoQuote, column_records, ends_line, fields_of, plain_records}
 use Rattle.zic_columns.specs.Cut.{AreCutAfter}
 use Rattle.zic_columns.specs.code.Line.{IsAfterLineEnds, IsFirstRecord}
 use Rattle.zic_columns.specs.code.Machine.{BeginsRecord, IsEndOfRecord, ReadsTo, state_at}

@@ -12,3 +12,6 @@ pub mod Cuts
 pub mod Scanned
 pub mod Taking
 pub mod CutLaw
+pub mod Masks
+pub mod RecordCounts
+pub mod Pairs

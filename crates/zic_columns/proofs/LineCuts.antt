@@ -1,8 +1,8 @@
 -- Lines and their records.
-use Rattle.std.proofs.Common.{◌≡◌, ◌⊎◌, ℕ, ◌+◌, ◌-◌, ◌<◌, ◌≤◌, true, false, All, List, [], ◌∷◌, ◌++◌, map, filter, length, take, drop, get_or, slice_index, Some, None, inl, inr, refl, sym, ap, ◌∙◌, arith, append_assoc, length-append, subst, ⊎_elim, zero, suc}
+use Rattle.std.proofs.Common.{◌≡◌, ◌⊎◌, ℕ, ◌+◌, ◌<◌, true, false, All, List, [], ◌∷◌, ◌++◌, map, filter, length, take, drop, get_or, slice_index, Some, None, inl, inr, refl, sym, ap, ◌∙◌, arith, append_assoc, length-append, ⊎_elim, zero, suc}
 use Rattle.std.specs.Iterator.{MakesProgress, at_most}
 use Rattle.std.proofs.lemmas.Bool.{both_ways}
-use Rattle.std.proofs.lemmas.List.{append-nil, drop_at, get_or-append_right, get_or-take, get_or_push, take_at, length-drop, length-take-le, take_all, drop_all, take-append-drop}
+use Rattle.std.proofs.lemmas.List.{append-nil, get_or-take, get_or_push, length-drop, length-take-le, take-append-drop}
 use Rattle.std.proofs.lemmas.List.Elements.{All-head, All-tail}
 use Rattle.std.proofs.lemmas.List.Splits.{slice_split_at, slice_split_none}
 use Rattle.memchr.specs.Find.{IsFirstByte, IsLastByte}

@@ -1,14 +1,14 @@
 -- Whole records among bytes, as they are looked for.
-use Rattle.std.proofs.Common.{◌≡◌, ◌≢◌, ◌⊎◌, ℕ, ◌+◌, ◌-◌, ◌<◌, ◌≤◌, ◌==◌, true, false, All, List, [], ◌∷◌, ◌++◌, length, take, drop, get_or, slice_index, Option, Some, None, MatchOption, inl, inr, refl, sym, ap, ◌∙◌, arith, append_assoc, length-append, subst, ⊎_elim}
-use Rattle.std.proofs.Math.Seq.{take-add, take-append-add}
+use Rattle.std.proofs.Common.{◌≡◌, ◌≢◌, ◌⊎◌, ℕ, ◌+◌, ◌<◌, ◌≤◌, false, All, List, [], ◌∷◌, ◌++◌, length, take, drop, get_or, Some, None, inl, inr, refl, sym, ap, ◌∙◌, arith, append_assoc, length-append, subst, ⊎_elim}
+use Rattle.std.proofs.Math.Seq.{take-add}
 use Rattle.std.proofs.lemmas.Bool.{cases_lt}
-use Rattle.std.proofs.lemmas.List.{append-nil, drop-append-le, drop-drop, drop_all, drop_at, get_or-append_right, get_or-drop, get_or-take, length-drop, length-take-le, nil_from_length, take_all, take_at, take-append-drop, take-append-le, take-take}
+use Rattle.std.proofs.lemmas.List.{drop-append-le, drop-drop, drop_all, drop_at, get_or-drop, get_or-take, length-drop, length-take-le, take_all, take_at, take-append-drop, take-take}
 use Rattle.std.proofs.lemmas.List.Elements.{All-take}
 use Rattle.csv.specs.declared.parser.State.TheVariants as st
-use Rattle.zic_columns.specs.Column.{AreWholeLines, AreWholeRecords, HasNoQuote, IsFirstQuote, column_records, ends_line}
+use Rattle.zic_columns.specs.Column.{AreWholeLines, AreWholeRecords, HasNoQuote, IsFirstQuote, ends_line}
 use Rattle.zic_columns.specs.Cut.{AreCutAfterLines}
 use Rattle.zic_columns.specs.code.Hand.{BeginWithLines, IsScanned}
-use Rattle.zic_columns.specs.code.Machine.{BeginsRecord, EndsWith, IsEndOfRecord, ReadsTo, state_at}
+use Rattle.zic_columns.specs.code.Machine.{BeginsRecord, IsEndOfRecord, ReadsTo, state_at}
 use Rattle.zic_columns.specs.declared.hand.Scan.{Scan}
 use Rattle.zic_columns.specs.declared.machine.Place.{Place}
 use Rattle.zic_columns.proofs.MachineFacts.{ends_both, one_whole, reads_both}

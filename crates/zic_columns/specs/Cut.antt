@@ -2,7 +2,7 @@
 use Rattle.std.specs.Prelude.{◌≡◌, ◌⊎◌, ℕ, false, List, [], ◌++◌, take, drop, All}
 use Rattle.zic_columns.specs.Column.{AreWholeLines, AreWholeRecords, column_records, ends_line}
 
--- the bytes, cut after so many records, or after all where there are fewer
+-- the bytes, cut after the first `count` records, or after all where there are fewer
 pub record AreCutAfter (bytes : List ℕ) (count : ℕ) (first rest : List ℕ) : Type 0 where
   pub parts : bytes ≡ first ++ rest
   pub first_records : column_records first ≡ take count (column_records bytes)

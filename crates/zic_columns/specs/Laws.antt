@@ -14,6 +14,7 @@ RecordsAreOne = (bytes : List ℕ) (a b : List (List (List ℕ))) → AreColumnR
 abbrev pub PlainRecordsAreRead : Type 0
 PlainRecordsAreRead = (bytes : List ℕ) → HasNoQuote bytes → column_records bytes ≡ plain_records bytes
 
--- Wherever a CSV reader stands before a record, the records of the whole are those before and those after.
+-- Wherever a CSV reader stands before a record, the records of the whole are those before and
+-- those after.
 abbrev pub RecordsAreCut : Type 0
 RecordsAreCut = (bytes : List ℕ) → StandsBeforeRecord bytes → AreWholeRecords bytes

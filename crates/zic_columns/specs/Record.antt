@@ -1,4 +1,4 @@
--- What a cursor over a column's bytes gives of each record.
+-- The records that an iterator over a column's bytes gives.
 use Rattle.std.specs.Prelude.{◌≡◌, ◌≢◌, ℕ, List, [], ◌∷◌, Option, length, MatchOption}
 use Rattle.zic_columns.specs.declared.entry.Record.{Record}
 use Rattle.zic_columns.specs.declared.entry.Record.TheVariants.{Pair, Other}

@@ -5,13 +5,13 @@ use Rattle.std.specs.List.{flat_map}
 use Rattle.std.specs.Io.KnownBytes.{prepend_known}
 use Rattle.zic_columns.specs.Column.{column_records}
 
--- the byte that was one too many, if there was one, and then the known bytes
+-- the byte beyond the limit, if there was one, and then the known bytes
 abbrev pub with_past : Option ℕ → Option (List ℕ) → Option (List ℕ)
 with_past None known = known
 with_past (Some byte) known = prepend_known (byte ∷ []) known
 
--- A column, as far as it was taken: the pieces of the round that was taken last, the bytes in hand that no round had, the byte that was
--- one too many, if there was one, and the reader.
+-- A column, as far as it was taken: the pieces of the round that was taken last, the bytes in hand
+-- that no round had, the byte beyond the limit, if there was one, and the reader.
 pub record ColumnOf (R : Type 0) : Type 0 where
   pub round : List (List ℕ)
   pub held : List ℕ
@@ -39,7 +39,7 @@ TakesRound remaining old new =
 abbrev pub HasNoRecord : Option (List ℕ) → Type 0
 HasNoRecord known = IfSome known (λ bytes. column_records bytes ≡ [])
 
--- each piece has so many records, and the last, which has one at least, no more
+-- each piece has `size` records, but for the last, which has 1 to `size`
 abbrev pub ArePiecesOf : ℕ → List (List ℕ) → Type 0
 ArePiecesOf size [] = Unit {0}
 ArePiecesOf size (piece ∷ []) = IsInRange 1 size (length (column_records piece))

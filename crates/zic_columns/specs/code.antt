@@ -1,4 +1,4 @@
--- What only the code and its proofs use. No contract of a public function cites it.
+-- Definitions for the code and its proofs. No contract of a public function cites them.
 pub mod Machine
 pub mod Line
 pub mod Bounded
@@ -7,3 +7,4 @@ pub mod Range
 pub mod Cutting
 pub mod Hand
 pub mod Split
+pub mod Block

@@ -6,18 +6,18 @@ ghost use Rattle.std.specs.Io.KnownBytes.{Consumes, IsAtEnd, Keeps};
 use std::alloc::{AllocError, Global};
 use std::io::{self, Read};
 
-/// How many bytes there is room for at first.
+/// The number of bytes that there is room for at first.
 const FIRST_ROOM: usize = 64 * 1024;
 
-/// Bytes that a reader gave: those that were taken last, and those that are yet to be taken.
+/// Bytes from a reader: those that were taken last, and those that are yet to be taken.
 #[derive(Drop)]
 pub(crate) struct Window {
     bytes: Vec<u8>,
-    /// Where the bytes that were taken last begin.
+    /// The start of the bytes that were taken last.
     last: usize,
-    /// Where the bytes begin that are yet to be taken.
+    /// The start of the bytes that are yet to be taken.
     start: usize,
-    /// Where they end.
+    /// Their end.
     end: usize,
     ghost taken: { last ≤ start },
     ghost ordered: { start ≤ end },
@@ -27,7 +27,7 @@ pub(crate) struct Window {
 impl Window {
     ghost use Rattle.zic_columns.specs.code.Window.{held_bytes, taken_bytes, room};
 
-    /// One without a byte.
+    /// Makes a window without a byte.
     pub(crate) fn new(alloc: Global) -> Window
         ensures { held_bytes result ≡ [] }
     {
@@ -39,21 +39,21 @@ impl Window {
         }
     }
 
-    /// The bytes that are yet to be taken.
+    /// Returns the bytes that are yet to be taken.
     pub(crate) fn held(&self) -> &[u8]
         ensures { result.now ≡ held_bytes self.now }
     {
         &self.bytes[self.start..self.end]
     }
 
-    /// The bytes that were taken last.
+    /// Returns the bytes that were taken last.
     pub(crate) fn taken(&self) -> &[u8]
         ensures { result.now ≡ taken_bytes self.now }
     {
         &self.bytes[self.last..self.start]
     }
 
-    /// Takes so many bytes.
+    /// Takes the first `count` bytes.
     pub(crate) fn take(&mut self, count: usize)
         requires { count ≤ length (held_bytes self.old) }
         ensures taken { taken_bytes self.new ≡ take count (held_bytes self.old) }
@@ -63,7 +63,7 @@ impl Window {
         self.start += count;
     }
 
-    /// Moves the bytes that are yet to be taken to the front, over those that were.
+    /// Moves the bytes that are yet to be taken to the front, over those that were taken.
     fn move_to_front(&mut self)
         ensures held { held_bytes self.new ≡ held_bytes self.old }
         ensures room { room self.new + length (held_bytes self.new) ≡ vec_len self.old.bytes }
@@ -75,10 +75,15 @@ impl Window {
         self.end = end - start;
     }
 
-    /// Makes room for a read where there is none: moves the bytes in hand to the front, or else has room for twice as many bytes. While
-    /// fewer are in hand than are wanted, that is no more than for twice as many as are wanted, or for `FIRST_ROOM`.
+    /// Makes room for a read where there is none: moves the bytes in hand to the front, or else
+    /// doubles the room. While fewer than `wanted` bytes are in hand, the room is at most the
+    /// greater of `2 * wanted` and `FIRST_ROOM` bytes.
     ///
-    /// What was taken may be overwritten.
+    /// The bytes that were taken may be overwritten.
+    ///
+    /// # Errors
+    ///
+    /// Fails where memory is refused.
     pub(crate) fn make_room(&mut self, wanted: usize) -> Result<(), AllocError>
         ensures held { held_bytes self.new ≡ held_bytes self.old }
         ensures room { OnOk result (0 < room self.new) }
@@ -101,12 +106,20 @@ impl Window {
         self.bytes.resize(longer, 0)
     }
 
-    /// Reads once, into the room that there is. How many bytes came: none at the end.
+    /// Reads once, into the room that there is. Returns the number of bytes that came, 0 at the
+    /// end of the reader.
+    ///
+    /// # Errors
+    ///
+    /// Fails where the reader fails.
     pub(crate) fn read_from<R: Read>(&mut self, reader: &mut R) -> io::Result<usize>
-        ensures ok { IfOk result (λ n. (more : List ℕ) × (length more ≡ n) × (held_bytes self.new ≡ held_bytes self.old ++ more)
+        ensures ok { IfOk result (λ n. (more : List ℕ) × (length more ≡ n)
+            × (held_bytes self.new ≡ held_bytes self.old ++ more)
             × Consumes (R.remaining reader.old) (R.remaining reader.new) more) }
-        ensures end { IfOk result (λ n. n ≡ 0 → 0 < room self.old → IsAtEnd (R.remaining reader.new)) }
-        ensures err { OnErr result ((held_bytes self.new ≡ held_bytes self.old) × Keeps (R.remaining reader.old) (R.remaining reader.new)) }
+        ensures end { IfOk result
+            (λ n. n ≡ 0 → 0 < room self.old → IsAtEnd (R.remaining reader.new)) }
+        ensures err { OnErr result ((held_bytes self.new ≡ held_bytes self.old)
+            × Keeps (R.remaining reader.old) (R.remaining reader.new)) }
     {
         let end = self.end;
         let count = reader.read(&mut self.bytes[end..])?;

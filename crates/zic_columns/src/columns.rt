@@ -19,13 +19,15 @@ use std::alloc::{AllocError, Global};
 use std::io::{self, Read};
 use std::marker::Model;
 
-/// A read that gives fewer bytes ends a round: the reader has no more at once.
+/// The number of bytes of a full read. A read that gives fewer ends a round: the reader has no more
+/// for now.
 const FULL_READ: usize = 65_536;
 
-/// How many bytes show whether a column begins with a byte order mark.
+/// The number of bytes that show whether a column begins with a byte order mark.
 const MARK_LEN: usize = 3;
 
-/// A column could not be read on: the reader failed, or gave too many bytes, or memory was refused.
+/// The error of a column that cannot be read on: the reader failed or gave too many bytes, or
+/// memory was refused.
 #[derive(Debug, Drop)]
 pub struct Unread;
 
@@ -41,17 +43,17 @@ impl From<io::Error> for Unread {
     }
 }
 
-/// A column that is read in rounds. Clauses see it as the round that was taken last, the bytes in hand that no round had, and the reader
-/// that gives the others.
+/// A column that is read in rounds. Clauses see it as the round that was taken last, the bytes in
+/// hand that no round had, and the reader that gives the others.
 #[derive(Drop)]
 pub struct Column<R: Read> {
     reader: Bounded<R>,
     window: Window,
-    /// Which of the bytes in hand are whole records.
+    /// The whole records among the bytes in hand.
     scan: Scan,
     /// Whether the last read gave fewer bytes than a full one.
     is_short: bool,
-    /// Where the pieces of the round stand in the bytes that were taken last.
+    /// The places of the round's pieces in the bytes that were taken last.
     ranges: Vec<PieceRange>,
 }
 
@@ -77,9 +79,14 @@ impl<R: Read> Model for Column<R> {
 }
 
 impl<R: Read + Drop> Column<R> {
-    /// The column that the reader gives, of so many bytes at most. Reads its first bytes.
+    /// Begins the column of a reader, of at most `most` bytes. Reads its first bytes.
+    ///
+    /// # Errors
+    ///
+    /// Fails where the reader fails or gives more bytes, or memory is refused.
     pub fn new(alloc: Global, reader: R, most: u64) -> Result<Column<R>, Unread>
-        ensures { IfOk result (λ column. IfSome (R.remaining reader) (λ bytes. unread R.remaining column ≡ Some (strip_bom bytes))) }
+        ensures { IfOk result (λ column. IfSome (R.remaining reader)
+            (λ bytes. unread R.remaining column ≡ Some (strip_bom bytes))) }
     {
         let mut column = Column {
             reader: Bounded::new(reader, most),
@@ -100,16 +107,22 @@ impl<R: Read + Drop> Column<R> {
 }
 
 impl<R: Read> Column<R> {
-    /// Takes the next round, in pieces of so many records each, and of fewer at the end. Whether there is one: there is none at the end of
-    /// the column.
+    /// Takes the next round, in pieces of `size` records each, the last of which may have fewer.
+    /// Returns `false` at the end of the column, where there is no round.
     ///
-    /// A round has all whole records in hand. Reads until so many bytes are in hand, but never again once a read gave fewer than 64 KiB,
-    /// unless no whole record is in hand.
+    /// A round has all whole records in hand. Reads until `wanted` bytes are in hand, but not
+    /// again after a read that gave fewer than 64 KiB, unless no whole record is in hand.
+    ///
+    /// # Errors
+    ///
+    /// Fails where the reader fails or gives more bytes than the column may have, or memory is
+    /// refused.
     pub fn turn(&mut self, alloc: Global, wanted: usize, size: usize) -> Result<bool, Unread>
         requires { 0 < size }
         ensures takes { IfOk result (λ _. TakesRound R.remaining self.old self.new) }
         ensures some { IfOk result (λ some. IsTrue some ↔ (0 < length self.new.round)) }
-        ensures end { IfOk result (λ some. some ≡ false → HasNoRecord (unread R.remaining self.new)) }
+        ensures end { IfOk result
+            (λ some. some ≡ false → HasNoRecord (unread R.remaining self.new)) }
         ensures few { IfOk result (λ _. length self.new.round ≤ MAX_PIECES) }
         ensures cut { IfOk result (λ _. ArePiecesOf size self.new.round) }
     {
@@ -120,7 +133,7 @@ impl<R: Read> Column<R> {
         Ok(some)
     }
 
-    /// The round that was taken last.
+    /// Returns the round that was taken last.
     pub fn round(&self) -> Round<'_>
         ensures { result ≡ self.now.round }
     {
@@ -132,8 +145,10 @@ impl<R: Read> Column<R> {
 
     /// Reads until the bytes in hand show whether the column begins with a byte order mark.
     fn read_mark(&mut self) -> Result<(), Unread>
-        ensures keeps { IfOk result (λ _. Keeps (unread R.remaining self.old) (unread R.remaining self.new)) }
-        ensures shows { IfOk result (λ _. length self.new.held < MARK_LEN → IsAtEnd (to_come R.remaining self.new)) }
+        ensures keeps { IfOk result
+            (λ _. Keeps (unread R.remaining self.old) (unread R.remaining self.new)) }
+        ensures shows { IfOk result
+            (λ _. length self.new.held < MARK_LEN → IsAtEnd (to_come R.remaining self.new)) }
     {
         for _ in 0..MARK_LEN {
             let count = self.read_on(MARK_LEN)?;
@@ -144,9 +159,11 @@ impl<R: Read> Column<R> {
         Ok(())
     }
 
-    /// Reads on until a round is in hand, or the column ends. How many bytes can be cut.
+    /// Reads on until a round is in hand, or the column ends. Returns the number of bytes that can
+    /// be cut.
     fn gather(&mut self, alloc: Global, wanted: usize) -> Result<usize, Unread>
-        ensures takes { IfOk result (λ _. Takes (unread R.remaining self.old) (unread R.remaining self.new) []) }
+        ensures takes { IfOk result
+            (λ _. Takes (unread R.remaining self.old) (unread R.remaining self.new) []) }
         ensures cut { IfOk result (CanBeCut self.new.held (to_come R.remaining self.new)) }
     {
         for _ in 0..u64::MAX {
@@ -162,7 +179,8 @@ impl<R: Read> Column<R> {
         Err(Unread)
     }
 
-    /// How many bytes are whole records, where there is one. Drops lines without a byte, which make no record.
+    /// Returns the number of bytes in whole records, or `None` where there is no record: then drops
+    /// the lines in hand, which are without a byte.
     fn records_at_hand(&mut self, alloc: Global) -> Option<usize>
         ensures takes { Takes (unread R.remaining self.old) (unread R.remaining self.new) [] }
         ensures cut { IfSome result (CanBeCut self.new.held (to_come R.remaining self.new)) }
@@ -175,9 +193,11 @@ impl<R: Read> Column<R> {
         None
     }
 
-    /// Reads once, and lets the round go. How many bytes came: none at the end.
+    /// Drops the round and reads once. Returns the number of bytes that came, 0 at the end of the
+    /// column.
     fn read_on(&mut self, wanted: usize) -> Result<usize, Unread>
-        ensures keeps { IfOk result (λ _. Keeps (unread R.remaining self.old) (unread R.remaining self.new)) }
+        ensures keeps { IfOk result
+            (λ _. Keeps (unread R.remaining self.old) (unread R.remaining self.new)) }
         ensures grows { IfOk result (λ n. length self.new.held ≡ length self.old.held + n) }
         ensures end { IfOk result (λ n. n ≡ 0 → IsAtEnd (to_come R.remaining self.new)) }
     {
@@ -190,7 +210,7 @@ impl<R: Read> Column<R> {
         Ok(count)
     }
 
-    /// Passes over so many bytes, in which these pieces stand.
+    /// Passes over the first `count` bytes, in which these pieces stand.
     fn pass(&mut self, count: usize, ranges: Vec<PieceRange>)
         requires within { count ≤ length self.old.held }
         requires ranges { AreWithin ranges.items count }

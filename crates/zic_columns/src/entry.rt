@@ -5,7 +5,7 @@ ghost use Rattle.zic_columns.specs.Record.{IsRecord};
 
 use memchr::memchr;
 
-/// A record of a column, as far as its fields are the name of a zone and an instant.
+/// A record of a column: the name of a zone and an instant, where it has two fields.
 #[derive(Clone, Copy, Drop)]
 pub enum Record<'a> {
     /// Two fields.
@@ -14,7 +14,7 @@ pub enum Record<'a> {
     Other,
 }
 
-/// The record of a line.
+/// Returns the record of a line without a double quote.
 pub(crate) fn record_of(line: &[u8]) -> Record<'_>
     ensures { IsRecord result (fields_of line.now) }
 {

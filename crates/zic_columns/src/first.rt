@@ -6,11 +6,12 @@ ghost use Rattle.zic_columns.specs.Cut.{AreCutAfter};
 ghost use Rattle.zic_columns.specs.code.Line.{IsFirstRecord};
 ghost use Rattle.zic_columns.specs.code.Machine.{BeginsRecord};
 
+use crate::blocks::pass_records;
 use crate::line::after_line_ends;
 use crate::machine::{Place, record_end};
 use memchr::memchr3;
 
-/// How many bytes the record has with which these bytes begin, by a CSV reader's machine.
+/// Returns the length in bytes of the record at the start of the bytes, by a CSV reader's machine.
 fn quoted_len(bytes: &[u8]) -> usize
     requires { BeginsRecord bytes.now }
     ensures { IsFirstRecord bytes.now result }
@@ -21,7 +22,8 @@ fn quoted_len(bytes: &[u8]) -> usize
     }
 }
 
-/// How many bytes the record has with which these bytes begin. A search finds the end of one without a double quote.
+/// Returns the length in bytes of the record at the start of the bytes. A search finds the end of
+/// a record without a double quote.
 fn record_len(bytes: &[u8]) -> usize
     requires { BeginsRecord bytes.now }
     ensures { IsFirstRecord bytes.now result }
@@ -33,7 +35,8 @@ fn record_len(bytes: &[u8]) -> usize
     }
 }
 
-/// How many bytes the first record has, with the line ends before it and its own; none where there is no record.
+/// Returns the length in bytes of the first record, with the line ends before it and its own, or
+/// `None` where there is no record.
 pub(crate) fn first_record(bytes: &[u8]) -> Option<usize>
     ensures { MatchOption result (column_records bytes.now ≡ []) (IsFirstRecord bytes.now) }
 {
@@ -44,19 +47,24 @@ pub(crate) fn first_record(bytes: &[u8]) -> Option<usize>
     Some(bytes.len() - rest.len() + record_len(rest))
 }
 
-/// The bytes up to the end of the record of this count, and the bytes after it: all, and none, where there are fewer.
+/// Divides the bytes after the first `count` records, or after all where there are fewer.
 ///
-/// A cut may stand between a carriage return and its line feed: the line feed then stands before the first record of the rest, and makes
-/// none.
+/// Lines without a double quote are passed over 32 bytes at a time. A cut may stand between a
+/// carriage return and its line feed: the line feed then stands before the first record of the
+/// rest, and makes none.
 pub(crate) fn split_records(bytes: &[u8], count: usize) -> (&[u8], &[u8])
     ensures { AreCutAfter bytes.now count result.0.now result.1.now }
 {
     let mut rest = bytes;
-    for _ in 0..count {
-        match first_record(rest) {
-            None => return (bytes, &[]),
-            Some(len) => rest = &rest[len..],
-        }
+    let mut left = count;
+    while 0 < left {
+        let passed = pass_records(rest, left);
+        let after = &rest[passed.len..];
+        let Some(len) = first_record(after) else {
+            return (bytes, &[]);
+        };
+        rest = &after[len..];
+        left -= passed.records + 1;
     }
     bytes.split_at(bytes.len() - rest.len())
 }

@@ -9,15 +9,16 @@ use crate::machine::{Place, record_end};
 use crate::quote::first_quote;
 use memchr::memrchr2;
 
-/// How many bytes are whole records, and where a CSV reader stands in the record of the others, if there are any.
+/// The number of bytes that are whole records, and the place of a CSV reader in the record of the
+/// others, if there are any.
 #[derive(Clone, Copy, Drop)]
 pub(crate) struct Scan {
     pub(crate) whole: usize,
     pub(crate) begun: Option<Place>,
 }
 
-/// The bytes up to the last line end and with it, and the bytes of the line that has yet to end.
-fn split_lines(bytes: &[u8]) -> (&[u8], &[u8])
+/// Divides bytes after the last line end.
+pub(crate) fn split_lines(bytes: &[u8]) -> (&[u8], &[u8])
     ensures { AreCutAfterLines bytes.now result.0.now result.1.now }
 {
     match memrchr2(b'\r', b'\n', bytes) {
@@ -26,7 +27,7 @@ fn split_lines(bytes: &[u8]) -> (&[u8], &[u8])
     }
 }
 
-/// How many bytes are whole lines before that of the first double quote.
+/// Returns the number of bytes in whole lines before that of the first double quote.
 fn lines_before_quote(bytes: &[u8]) -> usize
     ensures { BeginWithLines bytes.now result }
 {
@@ -36,9 +37,10 @@ fn lines_before_quote(bytes: &[u8]) -> usize
     }
 }
 
-/// Looks for whole records from an index on at which a CSV reader stands before a record.
+/// Finds whole records from an index on at which a CSV reader stands before a record.
 ///
-/// Lines are passed over at once. From the line of a double quote on the bytes are looked at one by one, up to the end of its record.
+/// Lines are passed over together. From the line of a double quote on, the bytes are read one by
+/// one up to the end of its record.
 pub(crate) fn scan_from(bytes: &[u8], start: usize) -> Scan
     requires within { start ≤ length bytes.now }
     requires whole { AreWholeRecords (take start bytes.now) }
@@ -63,7 +65,7 @@ pub(crate) fn scan_from(bytes: &[u8], start: usize) -> Scan
     Scan { whole, begun: None }
 }
 
-/// Looks on once more bytes came after so many that were scanned.
+/// Scans on where more bytes came after the first `before`, which were scanned.
 pub(crate) fn scan_on(bytes: &[u8], before: usize, scan: Scan) -> Scan
     requires within { before ≤ length bytes.now }
     requires scanned { IsScanned (take before bytes.now) scan }
@@ -81,7 +83,7 @@ pub(crate) fn scan_on(bytes: &[u8], before: usize, scan: Scan) -> Scan
     }
 }
 
-/// The scan of the bytes after so many.
+/// Returns the scan of the bytes after the first `count`.
 pub(crate) fn scan_rest(bytes: &[u8], count: usize, scan: Scan) -> Scan
     requires within { count ≤ length bytes.now }
     requires scanned { IsScanned bytes.now scan }

@@ -1,23 +1,24 @@
-//! Laws about the definitions that the contracts of this crate cite. These functions do nothing.
+//! Laws of the definitions that the contracts of this crate cite. These functions do nothing.
 
 ghost use Rattle.zic_columns.specs.Laws.{ColumnRecordsAreRead, PlainRecordsAreRead, RecordsAreCut, RecordsAreOne};
 
-/// A CSV reader gives bytes their records.
+/// States that a CSV reader gives bytes their records.
 pub fn column_records_are_read()
     ensures { ColumnRecordsAreRead }
 {}
 
-/// A CSV reader gives bytes one list of records.
+/// States that a CSV reader gives bytes one list of records.
 pub fn records_are_one()
     ensures { RecordsAreOne }
 {}
 
-/// Bytes without a double quote have the fields of each line as records.
+/// States that bytes without a double quote have the fields of each line as records.
 pub fn plain_records_are_read()
     ensures { PlainRecordsAreRead }
 {}
 
-/// Wherever a CSV reader stands before a record, the records of the whole are those before and those after.
+/// States that wherever a CSV reader stands before a record, the records of the whole are those
+/// before and those after.
 pub fn records_are_cut()
     ensures { RecordsAreCut }
 {}

@@ -1,11 +1,13 @@
-//! A column, read in rounds of whole records that are cut into pieces for several workers.
+//! Reads a column in rounds of whole records, cut into pieces for several workers.
 //!
-//! The records of a column are those that a CSV reader gives of its bytes, a byte order mark at its start dropped: fields end at commas,
-//! records at a carriage return, a line feed or both, and a line without a byte makes no record. A double quote may keep commas and line
-//! ends from that. A column can be cut wherever a CSV reader stands before a record. The functions of `laws` do nothing: they state what
-//! holds of records.
+//! The records of a column are those that a CSV reader gives of its bytes, without a byte order
+//! mark at its start: fields end at commas, records at a carriage return, a line feed or both, and
+//! a line without a byte makes no record. Between double quotes, commas and line ends are text. A
+//! column can be cut wherever a CSV reader stands before a record. The functions of `laws` do
+//! nothing: their contracts state what holds of records.
 #![tactic(auto)]
 
+mod blocks;
 mod buffer;
 mod columns;
 mod entry;

@@ -5,18 +5,19 @@ ghost use Rattle.std.specs.Option.{ForSome};
 
 use std::io::{self, ErrorKind, Read};
 
-/// A reader that gives so many bytes at most. The read that would give one more fails, and so does each after it. Once the reader under it
-/// ended, it is not read again: a terminal would ask for more.
+/// A reader that gives a limited number of bytes. The read that would give one more fails, and so
+/// does each after it. Once the reader below it ended, it is not read again: a terminal would ask
+/// for more.
 ///
-/// Every error is one at which no caller tries again, also where the reader under it was interrupted.
+/// Every error is one at which no caller tries again, also where the reader below was interrupted.
 #[derive(Drop)]
 pub(crate) struct Bounded<R: Read> {
     pub(crate) inner: R,
-    /// How many bytes it may still give.
+    /// The number of bytes that it may still give.
     left: u64,
-    /// The byte that was one too many.
+    /// The byte beyond the limit, once it was read.
     pub(crate) past: Option<u8>,
-    /// Whether a read gave none of the bytes that there was room for.
+    /// Whether the reader below gave no byte where there was room.
     pub(crate) ended: bool,
     ghost at_end: { IsTrue ended → ForSome (R.remaining inner) (λ bytes. bytes ≡ []) },
 }
@@ -24,7 +25,7 @@ pub(crate) struct Bounded<R: Read> {
 impl<R: Read> Bounded<R> {
     ghost use Rattle.zic_columns.specs.code.Bounded.{bytes_left, ReadsNone};
 
-    /// A reader of so many bytes at most.
+    /// Makes a reader of at most `most` bytes.
     pub(crate) fn new(inner: R, most: u64) -> Bounded<R>
         ensures inner { result.inner ≡ inner }
         ensures none { result.past ≡ None }
@@ -37,11 +38,12 @@ impl<R: Read> Bounded<R> {
         }
     }
 
-    /// Reads on where no byte may be given: there is none, or the one that is there is kept.
+    /// Reads on where no more bytes may be given, and keeps the byte that comes.
     fn read_past(&mut self) -> io::Result<usize>
         requires none { self.old.past ≡ None }
         requires goes_on { self.old.ended ≡ false }
-        ensures { ReadsNone (bytes_left R.remaining self.old) (bytes_left R.remaining self.new) result }
+        ensures { ReadsNone
+            (bytes_left R.remaining self.old) (bytes_left R.remaining self.new) result }
     {
         let mut one = [0u8];
         match self.inner.read(&mut one) {

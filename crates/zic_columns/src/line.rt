@@ -6,14 +6,14 @@ ghost use Rattle.zic_columns.specs.code.Line.{IsAfterLineEnds, IsFirstLine};
 
 use memchr::memchr2;
 
-/// Whether a byte ends a line.
+/// Returns whether a byte ends a line: a carriage return or a line feed.
 pub(crate) fn ends_line(byte: u8) -> bool
     ensures { result ≡ ends_line byte }
 {
     byte == b'\r' || byte == b'\n'
 }
 
-/// The bytes from the first that ends no line.
+/// Returns the bytes from the first that ends no line.
 pub(crate) fn after_line_ends(bytes: &[u8]) -> &[u8]
     ensures { IsAfterLineEnds bytes.now result.now }
 {
@@ -25,7 +25,8 @@ pub(crate) fn after_line_ends(bytes: &[u8]) -> &[u8]
     &[]
 }
 
-/// The first line that has a byte, and what follows its end; none where no line has a byte.
+/// Returns the first line that has a byte, and what follows its end, or `None` where no line has a
+/// byte.
 pub(crate) fn first_line(bytes: &[u8]) -> Option<(&[u8], &[u8])>
     ensures { MatchOption result (plain_records bytes.now ≡ [])
         (λ parts. IsFirstLine bytes.now parts.0.now parts.1.now) }

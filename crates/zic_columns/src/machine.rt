@@ -1,11 +1,11 @@
-//! How a CSV reader reads a record.
+//! The machine by which a CSV reader reads a record.
 
 ghost use Rattle.std.specs.Prelude.{MatchOption, MatchResult};
 ghost use Rattle.zic_columns.specs.code.Machine.{EndsRecord, GoesOn, IsEndOfRecord, ReadsTo, state_at};
 
 use crate::line::ends_line;
 
-/// Where a CSV reader stands in a record.
+/// A place of a CSV reader in a record.
 #[derive(Clone, Copy, Drop)]
 pub(crate) enum Place {
     /// At the start of a field.
@@ -18,7 +18,7 @@ pub(crate) enum Place {
     QuoteSeen,
 }
 
-/// Where a CSV reader stands after a byte of a record, or none where the byte ends the record.
+/// Returns the place after a byte of a record, or `None` where the byte ends the record.
 fn place_after(place: Place, byte: u8) -> Option<Place>
     ensures { MatchOption result (EndsRecord (state_at place) byte)
         (λ next. GoesOn (state_at place) byte (state_at next)) }
@@ -42,7 +42,11 @@ fn place_after(place: Place, byte: u8) -> Option<Place>
     Some(Place::Plain)
 }
 
-/// How many of the bytes are left of a record, its line end among them, or where a CSV reader stands after all of them.
+/// Returns the number of bytes up to the end of a record and with its line end.
+///
+/// # Errors
+///
+/// Returns the place after all bytes where none of them ends the record.
 pub(crate) fn record_end(place: Place, bytes: &[u8]) -> Result<usize, Place>
     ensures { MatchResult result (IsEndOfRecord (state_at place) bytes.now)
         (λ next. ReadsTo (state_at place) bytes.now (state_at next)) }

@@ -6,25 +6,25 @@ ghost use Rattle.zic_columns.specs.code.Cutting.{IsCut};
 use crate::first::{first_record, split_records};
 use std::alloc::{AllocError, Global};
 
-/// The most pieces of a round.
+/// The greatest number of pieces in a round.
 pub const MAX_PIECES: usize = 4_294_967_296;
 
-/// Where a piece stands: from its start up to its end.
+/// The place of a piece: from its start up to its end.
 #[derive(Clone, Copy, Drop)]
 pub(crate) struct PieceRange {
     pub(crate) start: usize,
     pub(crate) end: usize,
 }
 
-/// Where pieces stand, and how many bytes were cut.
+/// The places of pieces, and the number of bytes that were cut.
 #[derive(Drop)]
 pub(crate) struct Cut {
     pub(crate) ranges: Vec<PieceRange>,
     pub(crate) len: usize,
 }
 
-/// Cuts pieces of so many records each, and of fewer at the end. The bytes after the last piece make no record, unless there are more
-/// pieces than a round may have.
+/// Cuts bytes into pieces of `size` records each, the last of which may have fewer. The bytes
+/// after the last piece make no record, unless there are more than `MAX_PIECES` pieces.
 pub(crate) fn cut_pieces(alloc: Global, bytes: &[u8], size: usize) -> Result<Cut, AllocError>
     requires { 0 < size }
     ensures { IfOk result (IsCut bytes.now size) }

@@ -5,9 +5,9 @@ ghost use Rattle.zic_columns.specs.Column.{HasNoQuote, IsFirstQuote};
 
 use memchr::memchr;
 
-/// The index of the first double quote.
+/// Returns the index of the first double quote.
 ///
-/// Whole lines before it have plain records; from the line that it stands in on the column is for a CSV reader.
+/// Whole lines before it have plain records. From its line on, the column is for a CSV reader.
 pub fn first_quote(bytes: &[u8]) -> Option<usize>
     ensures { MatchOption result (HasNoQuote bytes.now) (λ at. IsFirstQuote bytes.now at) }
 {

@@ -11,9 +11,10 @@ use crate::mark::without_mark;
 use csv::{ByteRecord, ReaderBuilder};
 use std::alloc::{AllocError, Global};
 
-/// The records of a text, a byte order mark at its start dropped.
+/// Returns the records of a text, without a byte order mark at its start.
 fn records_of_text(alloc: Global, text: &[u8]) -> Result<Vec<ByteRecord>, csv::Error>
-    ensures { IfOk result (λ records. map fields_of records.items ≡ column_records (strip_bom text.now)) }
+    ensures { IfOk result
+        (λ records. map fields_of records.items ≡ column_records (strip_bom text.now)) }
 {
     let rdr = ReaderBuilder::new()
         .has_headers(false)
@@ -28,7 +29,7 @@ fn records_of_text(alloc: Global, text: &[u8]) -> Result<Vec<ByteRecord>, csv::E
     Ok(rows)
 }
 
-/// The records of bytes that stand within a column, where no byte order mark is dropped.
+/// Returns the records of bytes within a column, where a byte order mark is text.
 pub(crate) fn read_records(alloc: Global, bytes: &[u8]) -> Result<Vec<ByteRecord>, AllocError>
     ensures { IfOk result (λ records. map fields_of records.items ≡ column_records bytes.now) }
 {
@@ -38,7 +39,7 @@ pub(crate) fn read_records(alloc: Global, bytes: &[u8]) -> Result<Vec<ByteRecord
         };
         return Ok(records);
     }
-    // A line feed makes no record, and the mark after it is none of the start.
+    // A line feed makes no record, and a mark after it is not at the start.
     let mut text = Vec::with_capacity(alloc, bytes.len().saturating_add(1))?;
     text.push(b'\n')?;
     text.extend_from_slice(bytes)?;
@@ -48,9 +49,10 @@ pub(crate) fn read_records(alloc: Global, bytes: &[u8]) -> Result<Vec<ByteRecord
     Ok(records)
 }
 
-/// The two fields of a record that has no other.
+/// Returns the fields of a record that has two.
 fn two_fields(fields: &ByteRecord) -> Option<(&[u8], &[u8])>
-    ensures { MatchOption result (length (fields_of fields.now) ≢ 2) (λ two. fields_of fields.now ≡ two.0.now ∷ two.1.now ∷ []) }
+    ensures { MatchOption result (length (fields_of fields.now) ≢ 2)
+        (λ two. fields_of fields.now ≡ two.0.now ∷ two.1.now ∷ []) }
 {
     if fields.len() != 2 {
         return None;
@@ -58,7 +60,7 @@ fn two_fields(fields: &ByteRecord) -> Option<(&[u8], &[u8])>
     Some((fields.get(0)?, fields.get(1)?))
 }
 
-/// The record of these fields, as far as they are a name and an instant.
+/// Returns the record of these fields.
 pub(crate) fn record_of_fields(fields: &ByteRecord) -> Record<'_>
     ensures { IsRecord result (fields_of fields.now) }
 {

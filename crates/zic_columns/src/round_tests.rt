@@ -5,10 +5,10 @@ use std::alloc::Global;
 use std::io::{self, ErrorKind, Read};
 use std::test::Fail;
 
-/// How many bytes a read gives at most.
+/// The greatest numbers of bytes that a read gives.
 const STEPS: [usize; 6] = [1, 2, 3, 5, 8, 1000];
 
-/// A reader that gives so many bytes of a text at a time, and then ends or fails.
+/// A reader that gives at most `step` bytes of a text at a time, and then ends or fails.
 #[derive(Drop)]
 struct Device<'a> {
     rest: &'a [u8],
@@ -31,7 +31,8 @@ impl Read for Device<'_> {
     }
 }
 
-/// A reader that counts its reads, and fails at each after one that gave none: there a terminal would ask for more.
+/// A reader that counts its reads, and fails at each after one that gave no byte: there a terminal
+/// would ask for more.
 #[derive(Drop)]
 struct Terminal<'a> {
     device: Device<'a>,
@@ -40,7 +41,7 @@ struct Terminal<'a> {
 }
 
 impl<'a> Terminal<'a> {
-    /// One that gives so many bytes of a text at a time.
+    /// Makes a reader that gives at most `step` bytes of a text at a time.
     fn new(rest: &'a [u8], step: usize) -> Terminal<'a> {
         Terminal {
             device: Device {
@@ -66,8 +67,8 @@ impl Read for Terminal<'_> {
     }
 }
 
-/// The records of a column, `|` after each, and how many rounds there are. None where it could not be read. No piece has more than so
-/// many records.
+/// Returns the records of a column, with `|` after each, and the number of rounds, or `None` where
+/// the column could not be read or a piece has more than `size` records.
 fn shown<R: Read + Drop>(
     alloc: Global,
     reader: R,

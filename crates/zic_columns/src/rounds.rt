@@ -9,11 +9,12 @@ use crate::splits::Split;
 use std::alloc::{AllocError, Global};
 use std::marker::Model;
 
-/// Whole records of a column, cut into pieces, which several threads may read. Clauses see the bytes of each piece.
+/// Whole records of a column, cut into pieces that several threads may read. Clauses see the bytes
+/// of each piece.
 #[derive(Drop)]
 pub struct Round<'a> {
     pub(crate) bytes: &'a [u8],
-    /// Where each piece stands.
+    /// The place of each piece.
     pub(crate) ranges: &'a [PieceRange],
 }
 
@@ -30,14 +31,14 @@ impl<'a> Model for Round<'a> {
 }
 
 impl<'a> Round<'a> {
-    /// How many pieces there are.
+    /// Returns the number of pieces.
     pub fn len(&self) -> usize
         ensures { result ≡ length self.now }
     {
         self.ranges.len()
     }
 
-    /// The first pieces, so many.
+    /// Returns a round of the first `count` pieces.
     pub fn front(&self, count: usize) -> Round<'_>
         requires { count ≤ length self.now }
         ensures { result ≡ take count self.now }
@@ -48,7 +49,7 @@ impl<'a> Round<'a> {
         }
     }
 
-    /// The bytes of the piece of this index.
+    /// Returns the bytes of the piece with this index.
     pub fn piece(&self, index: usize) -> &'a [u8]
         requires { index < length self.now }
         ensures { slice_get self.now index ≡ Some result.now }
@@ -58,10 +59,15 @@ impl<'a> Round<'a> {
         &self.bytes[range.start..range.end]
     }
 
-    /// The piece of this index, split into records.
+    /// Divides the piece with this index into records.
+    ///
+    /// # Errors
+    ///
+    /// Fails where memory is refused.
     pub fn split(&self, alloc: Global, index: usize) -> Result<Split<'a>, AllocError>
         requires { index < length self.now }
-        ensures { IfOk result (λ split. IfSome (slice_get self.now index) (λ piece. split ≡ column_records piece)) }
+        ensures { IfOk result
+            (λ split. IfSome (slice_get self.now index) (λ piece. split ≡ column_records piece)) }
     {
         Split::new(alloc, self.piece(index))
     }

@@ -13,14 +13,15 @@ use csv::ByteRecord;
 use std::alloc::{AllocError, Global};
 use std::marker::Model;
 
-/// What the records of a piece are read from: lines without a double quote, or records that a CSV reader gave.
+/// The source of the records of a piece: lines without a double quote, or records that a CSV
+/// reader gave.
 #[derive(Drop)]
 enum Found<'a> {
     Lines(&'a [u8]),
     Read(Vec<ByteRecord>),
 }
 
-/// A piece of a column, split into records. Clauses see the fields of each record.
+/// A piece of a column, divided into records. Clauses see the fields of each record.
 #[derive(Drop)]
 pub struct Split<'a> {
     found: Found<'a>,
@@ -43,7 +44,7 @@ enum Left<'a> {
     Read(&'a [ByteRecord]),
 }
 
-/// The records of a piece, one after the other.
+/// An iterator over the records of a piece.
 #[derive(Drop)]
 pub struct Records<'a> {
     left: Left<'a>,
@@ -60,7 +61,12 @@ impl<'a> Model for Records<'a> {
 }
 
 impl<'a> Split<'a> {
-    /// The records of bytes that stand within a column: the fields of each line, or where there is a double quote what a CSV reader gives.
+    /// Divides bytes within a column into records: the fields of each line, or where there is a
+    /// double quote what a CSV reader gives.
+    ///
+    /// # Errors
+    ///
+    /// Fails where memory is refused.
     pub(crate) fn new(alloc: Global, bytes: &'a [u8]) -> Result<Split<'a>, AllocError>
         ensures { IfOk result (λ split. split ≡ column_records bytes.now) }
     {
@@ -75,7 +81,7 @@ impl<'a> Split<'a> {
         })
     }
 
-    /// The records, one after the other.
+    /// Returns an iterator over the records, in their order.
     pub fn records(&self) -> Records<'_>
         ensures { result ≡ self.now }
     {

@@ -9,10 +9,10 @@ use std::alloc::Global;
 use std::process::Abort;
 use std::test::Fail;
 
-/// The bytes that matter to a column, and one that doesn't.
+/// The bytes with a meaning in a column, and one without.
 const BYTES: [u8; 5] = [b'a', b',', b'\n', b'\r', b'"'];
 
-/// The text of this length that a number spells in base 5.
+/// Returns the text of this length that a number spells in base 5.
 fn text(alloc: Global, number: u32, len: u32) -> Result<Vec<u8>, Fail> {
     let mut text = Vec::new(alloc);
     let mut left = number;
@@ -23,7 +23,7 @@ fn text(alloc: Global, number: u32, len: u32) -> Result<Vec<u8>, Fail> {
     Ok(text)
 }
 
-/// Asserts that the records are those of a CSV reader, and counts them.
+/// Asserts that the records are those of a CSV reader, and returns their number.
 fn count_same(rt: &impl Abort, alloc: Global, bytes: &[u8]) -> Result<u32, Fail> {
     let mut reader = ReaderBuilder::new()
         .has_headers(false)
@@ -65,6 +65,39 @@ fn records_are_those_of_a_csv_reader(rt: HostRuntime) -> Result<(), Fail> {
             let after = Split::new(rt.alloc(), rest)?.records().count();
             assert_eq!(rt; before, (all as usize).min(1), "{text:?}");
             assert_eq!(rt; before.wrapping_add(after), all as usize, "{text:?}");
+        }
+    }
+    Ok(())
+}
+
+/// Lines of all kinds, the last of which have double quotes.
+const LINES: [&[u8]; 9] = [
+    b"Europe/Berlin,1000000000\n",
+    b"a,0\r\n",
+    b"\n",
+    b"America/Argentina/ComodRivadavia,-2000000000\n",
+    b"UTC,5\r",
+    b"a,b,c\n",
+    b"no more than one field of more than thirty-two bytes\n",
+    b"\"b\r\nc\",\"1\"\n",
+    b"America/New_York,\"2\"\n",
+];
+
+#[test]
+fn long_columns_are_cut(rt: HostRuntime) -> Result<(), Fail> {
+    for kinds in [1usize, 4, 7, 9] {
+        let mut text = Vec::new(rt.alloc());
+        for number in 0..60usize {
+            let line = number.wrapping_mul(5).wrapping_add(number / 8) % kinds.max(1);
+            text.extend_from_slice(LINES[line % 9])?;
+        }
+        let all = count_same(&rt, rt.alloc(), &text)? as usize;
+        for count in 0..70usize {
+            let (first, rest) = split_records(&text, count);
+            let before = Split::new(rt.alloc(), first)?.records().count();
+            let after = Split::new(rt.alloc(), rest)?.records().count();
+            assert_eq!(rt; before, all.min(count), "of {kinds} kinds");
+            assert_eq!(rt; before.wrapping_add(after), all, "of {kinds} kinds");
         }
     }
     Ok(())

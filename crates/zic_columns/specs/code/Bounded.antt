@@ -1,4 +1,4 @@
--- What a reader with a limit has left.
+-- The bytes that a reader with a limit has left.
 use Rattle.std.specs.Prelude.{◌≡◌, ℕ, List, Option, Result, Ok, Err}
 use Rattle.std.specs.Io.KnownBytes.{IsAtEnd, Keeps}
 use Rattle.std.specs.declared.io.traits.Read.{Ghosts}

@@ -6,7 +6,7 @@ use Rattle.zic_columns.specs.code.Range.{AreWithin, pieces_at}
 use Rattle.zic_columns.specs.declared.pieces.Cut.{Cut}
 use Rattle.zic_columns.specs.declared.pieces.TheConstants.{MAX_PIECES}
 
--- pieces of so many records each, which have the records before the cut
+-- pieces of `size` records each, which have the records before the cut
 pub record IsCut (bytes : List ℕ) (size : ℕ) (cut : Cut) : Type 0 where
   pub within : cut.len ≤ length bytes
   pub ranges : AreWithin cut.ranges.items cut.len

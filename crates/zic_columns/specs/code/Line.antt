@@ -17,7 +17,7 @@ pub record IsFirstLine (bytes line rest : List ℕ) : Type 0 where
   pub whole : (rest ≡ []) ⊎ AreWholeLines before
   pub shorter : length rest < length bytes
 
--- so many bytes hold the first record, and are whole records or all
+-- the first `len` bytes hold the first record, and are whole records or all bytes
 pub record IsFirstRecord (bytes : List ℕ) (len : ℕ) : Type 0 where
   pub some : 0 < len
   pub within : len ≤ length bytes

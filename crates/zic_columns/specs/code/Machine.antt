@@ -4,7 +4,7 @@ use Rattle.csv.specs.Machine.{ends_at_end, is_end, next_record, step}
 use Rattle.csv.specs.Reading.{default_config}
 use Rattle.csv.specs.declared.parser.State.{State}
 use Rattle.csv.specs.declared.parser.State.TheVariants as st
-use Rattle.zic_columns.specs.Column.{column_records, ends_line}
+use Rattle.zic_columns.specs.Column.{ends_line}
 use Rattle.zic_columns.specs.declared.machine.Place.{Place}
 use Rattle.zic_columns.specs.declared.machine.Place.TheVariants as place
 
@@ -23,13 +23,15 @@ EndsRecord s byte = is_end (step default_config s byte).1 ≡ true
 abbrev pub GoesOn : State → ℕ → State → Type 0
 GoesOn s byte t = (is_end (step default_config s byte).1 ≡ false) × ((step default_config s byte).0 ≡ t)
 
--- Whatever it has read of a record before, the machine reads these bytes of the record, and goes on in another state.
+-- Whatever it has read of a record before, the machine reads these bytes of the record, and goes on
+-- in another state.
 abbrev pub ReadsTo : State → List ℕ → State → Type 0
 ReadsTo s bytes t =
     (fields : List (List ℕ)) (field : List ℕ) → (others : List (List ℕ)) × (other : List ℕ)
     × ((more : List ℕ) → next_record default_config s fields field (bytes ++ more) ≡ next_record default_config t others other more)
 
--- Whatever it has read of a record before, with the last of these bytes the machine has read the record.
+-- Whatever it has read of a record before, with the last of these bytes the machine has read the
+-- record.
 abbrev pub EndsWith : State → List ℕ → Type 0
 EndsWith s bytes =
     (fields : List (List ℕ)) (field : List ℕ) → (all : List (List ℕ)) × (t : State) × (ends_at_end t ≡ false)
@@ -40,7 +42,7 @@ pub record BeginsRecord (bytes : List ℕ) : Type 0 where
   pub some : 0 < length bytes
   pub begins : ends_line (slice_index bytes 0) ≡ false
 
--- the record ends with the last of so many bytes
+-- the record ends with the last of the first `len` bytes
 pub record IsEndOfRecord (s : State) (bytes : List ℕ) (len : ℕ) : Type 0 where
   pub some : 0 < len
   pub within : len ≤ length bytes

@@ -2,7 +2,7 @@
 use Rattle.std.specs.Prelude.{◌≤◌, ℕ, List, map, slice_range, All}
 use Rattle.zic_columns.specs.declared.pieces.PieceRange.{PieceRange}
 
--- each stands within so many bytes
+-- each stands within the first `most` bytes
 abbrev pub AreWithin : List PieceRange → ℕ → Type 0
 AreWithin ranges most = All (λ range. (range.start ≤ range.end) × (range.end ≤ most)) ranges
 

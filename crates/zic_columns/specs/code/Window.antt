@@ -1,4 +1,4 @@
--- What a clause reads of the bytes in hand.
+-- Bytes in hand, as clauses see them.
 use Rattle.std.specs.Prelude.{ℕ, ◌-◌, List, slice_range, vec_len}
 use Rattle.zic_columns.specs.declared.buffer.Window.{Window}
 

@@ -1,23 +1,41 @@
-use Rattle.std.proofs.Common.{◌≡◌, ◌+◌, ℕ, arith, subst, sym}
+use Rattle.std.proofs.Common.{◌≡◌, ◌-◌, ℕ, drop, length, take, ap, arith, length-append, subst}
 use Rattle.std.proofs.lemmas.List.{take_rest}
-use Rattle.zic_columns.proofs.FirstFacts.{HasPassed, passed_all, passed_cut, passed_none, passed_record}
+use Rattle.zic_columns.proofs.FirstFacts.{HasPassed, passed_cut, passed_none}
+use Rattle.zic_columns.proofs.RecordCounts.{passed_on, passed_to_end}
 use Rattle.zic_columns.proofs.first.split_records.Goals as goal
 
-pub loop-init : goal.loop-init
-loop-init c = passed_none c.args.bytes.now
+pub loop-left-init : goal.loop-left-init
+loop-left-init c =
+    let bytes = c.args.bytes.now in
+    record { few = omega arith; passed = subst (λ (n : ℕ). HasPassed bytes n bytes) (omega arith) (passed_none bytes) }
 
-pub loop-preserved : goal.loop-preserved
-loop-preserved c =
-    let rest = c.loop.rest.now in
-    let len = c.in-Some.len in
-    subst (HasPassed c.args.bytes.now (c.loop.counter + 1)) (sym (take_rest rest len)) (passed_record c.args.bytes.now c.loop.counter rest len c.loop.invariant c.in-Some.ensures)
+pub returns-in_default : goal.returns-in_default
+returns-in_default c =
+    let rest = c.loop-left.rest.now in
+    let len = c.pass_records-passed.result.len in
+    passed_to_end c.args.bytes.now c.args.count c.loop-left.left rest c.pass_records-passed.result (take (length rest - len) (drop len rest))
+    c.loop-left.invariant.few c.loop-left.invariant.passed c.pass_records-passed.ensures (take_rest rest len) c.in_default.ensures
 
-pub returns-in-None : goal.returns-in-None
-returns-in-None c = passed_all c.args.bytes.now c.loop.counter c.args.count c.loop.rest.now c.loop.invariant (omega (arith, c.loop-test.true)) c.in-None.ensures
+pub loop-left-preserved : goal.loop-left-preserved
+loop-left-preserved c =
+    let rest = c.loop-left.rest.now in
+    let len = c.pass_records-passed.result.len in
+    let after = take (length rest - len) (drop len rest) in
+    record {
+      few = omega (arith, c.loop-left.invariant.few);
+      passed = passed_on c.args.bytes.now c.args.count c.loop-left.left rest c.pass_records-passed.result after c.loop-left.invariant.few
+          c.loop-left.invariant.passed c.pass_records-passed.ensures (take_rest rest len) c.in-Some.len (take (length after - c.in-Some.len) (drop c.in-Some.len after))
+          c.in-Some.ensures (take_rest after c.in-Some.len);
+    }
+
+pub overflow_sub-bytes : goal.overflow_sub-bytes
+overflow_sub-bytes c =
+    let passed = c.loop-left.invariant.passed in
+    omega (arith, ap length passed.parts, length-append passed.first c.loop-left.rest.now)
 
 pub returns : goal.returns
 returns c =
     let bytes = c.args.bytes.now in
-    let rest = c.loop.rest.now in
-    let all : c.loop.counter ≡ c.args.count = omega (arith, c.loop-test.false, c.loop.auto.counter-end) in
-    rw (c.split_at.ensures.front, c.split_at.ensures.back) (passed_cut bytes c.args.count rest (subst (λ (n : ℕ). HasPassed bytes n rest) all c.loop.invariant))
+    let rest = c.loop-left.rest.now in
+    let all : c.args.count - c.loop-left.left ≡ c.args.count = omega (arith, c.loop-left-test.false) in
+    rw (c.split_at.ensures.front, c.split_at.ensures.back) (passed_cut bytes c.args.count rest (subst (λ (n : ℕ). HasPassed bytes n rest) all c.loop-left.invariant.passed))

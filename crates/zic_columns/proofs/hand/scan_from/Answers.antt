@@ -1,8 +1,6 @@
-use Rattle.std.proofs.Common.{◌≡◌, ◌≤◌, ◌<◌, ◌+◌, ◌-◌, ℕ, List, drop, length, take, sym, arith}
+use Rattle.std.proofs.Common.{◌<◌, ◌+◌, drop, length, sym, arith}
 use Rattle.std.proofs.lemmas.List.{length-drop, take_rest}
-use Rattle.zic_columns.specs.Column.{AreWholeRecords}
 use Rattle.zic_columns.specs.code.Hand.{BeginWithLines}
-use Rattle.zic_columns.specs.code.Machine.{BeginsRecord}
 use Rattle.zic_columns.proofs.Scanned.{begins_next, more_ends, more_lines, scanned_all, scanned_begun}
 use Rattle.zic_columns.proofs.hand.scan_from.Goals as goal
 

@@ -1,7 +1,4 @@
-use Rattle.std.proofs.Common.{◌≡◌, Option, None, Some, subst, sym}
 use Rattle.std.proofs.lemmas.List.{take_rest}
-use Rattle.zic_columns.specs.code.Hand.{IsScanned}
-use Rattle.zic_columns.specs.declared.machine.Place.{Place}
 use Rattle.zic_columns.proofs.Scanned.{nothing_begun, still_begun, then_whole}
 use Rattle.zic_columns.proofs.hand.scan_on.Goals as goal
 

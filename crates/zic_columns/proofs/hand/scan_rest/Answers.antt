@@ -1,6 +1,4 @@
-use Rattle.std.proofs.Common.{◌≡◌, ℕ, drop, subst, sym}
 use Rattle.std.proofs.lemmas.List.{take_rest}
-use Rattle.zic_columns.specs.code.Hand.{IsScanned}
 use Rattle.zic_columns.proofs.Scanned.{scanned_passed}
 use Rattle.zic_columns.proofs.SomeRecords.{whole_none}
 use Rattle.zic_columns.proofs.hand.scan_rest.Goals as goal

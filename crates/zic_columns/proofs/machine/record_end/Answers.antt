@@ -1,4 +1,4 @@
-use Rattle.std.proofs.Common.{◌≡◌, ◌+◌, ℕ, List, [], ◌∷◌, take, get_or, subst, sym, arith}
+use Rattle.std.proofs.Common.{ℕ, List, [], ◌∷◌, take, get_or, subst, sym, arith}
 use Rattle.std.proofs.lemmas.List.{take_all, take_more}
 use Rattle.zic_columns.specs.code.Machine.{EndsWith, ReadsTo, state_at}
 use Rattle.zic_columns.proofs.MachineFacts.{ends_both, ends_byte, reads_both, reads_byte, reads_none}

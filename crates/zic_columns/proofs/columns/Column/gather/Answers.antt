@@ -1,7 +1,6 @@
-use Rattle.std.proofs.Common.{[]}
 use Rattle.std.proofs.KnownBytes.{Keeps-refl}
 use Rattle.zic_columns.specs.Round.{unread}
-use Rattle.zic_columns.proofs.Taking.{takes_none, takes_next}
+use Rattle.zic_columns.proofs.Taking.{takes_none}
 use Rattle.zic_columns.proofs.columns.Column.gather.Goals as goal
 
 pub loop-init : goal.loop-init

@@ -1,6 +1,5 @@
-use Rattle.std.proofs.Common.{◌≡◌, ◌∙◌, take, ap, sym}
+use Rattle.std.proofs.Common.{◌∙◌, take, ap, sym}
 use Rattle.std.specs.List.{take-map}
-use Rattle.std.proofs.lemmas.List.Elements.{All-take}
 use Rattle.zic_columns.specs.code.Range.{piece_at}
 use Rattle.zic_columns.proofs.rounds.Round.front.Goals as goal
 

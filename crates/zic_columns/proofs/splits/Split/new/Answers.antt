@@ -1,4 +1,4 @@
-use Rattle.std.proofs.Common.{◌≡◌, ℕ, true, false, List, Option, None, Some, sym}
+use Rattle.std.proofs.Common.{◌≡◌, ℕ, false, List, Option, None, Some, sym}
 use Rattle.std.specs.Prelude.{MatchOption, is_some}
 use Rattle.zic_columns.specs.Column.{HasNoQuote, IsFirstQuote}
 use Rattle.zic_columns.proofs.SomeRecords.{plain_read}

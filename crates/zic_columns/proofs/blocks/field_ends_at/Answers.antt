@@ -1,0 +1,5 @@
+use Rattle.zic_columns.proofs.Masks.{field_ends_mask}
+use Rattle.zic_columns.proofs.blocks.field_ends_at.Goals as goal
+
+pub returns : goal.returns
+returns c = field_ends_mask c.args.bytes.now c.args.at c.requires
