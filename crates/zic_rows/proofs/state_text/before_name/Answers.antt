@@ -1,6 +1,6 @@
 use Rattle.std.proofs.Common.{refl, true, false, to_z-of_z}
 use Rattle.zic_rows.proofs.RowTexts.{before_name-of}
-use Rattle.zic_rows.proofs.line.before_name.Goals as goal
+use Rattle.zic_rows.proofs.state_text.before_name.Goals as goal
 
 pub returns-then-daylight : goal.returns-then-daylight
 returns-then-daylight c =
