@@ -1,4 +1,4 @@
--- What a clock tells.
+-- What a cache tells.
 use Rattle.std.proofs.Common.{◌≡◌, ◌≤◌, ◌∙◌, ℕ, ℤ, List, ◌∷◌, [], Bor, Option, Some, Result, Ok, Err, ap, refl, sym, subst}
 use Rattle.std.specs.Result.{IsErrAnd, MatchResult}
 use Rattle.zic_base.specs.State.{Shown}
@@ -7,13 +7,13 @@ use Rattle.zic_plan.specs.declared.stop.RowKind.{RowKind}
 use Rattle.zic_rows.specs.Row.{IsRowState}
 use Rattle.zic_content.specs.Content.{Content}
 use Rattle.zic_tzif.specs.Answer.{Answers}
-use Rattle.zic_convert.specs.code.Clock.{IsShown, IsTold, IsZoneOf, Told}
+use Rattle.zic_convert.specs.code.ZoneCache.{IsShown, IsTold, IsZoneOf, Told}
 use Rattle.zic_convert.specs.code.Query.{IsAsked}
 use Rattle.zic_convert.specs.declared.query.Query.{Query}
 use Rattle.zic_convert.proofs.Faults.{asks_soundly, named_by}
 use Rattle.zic_convert.proofs.Sounds.{row_state, text_of}
 
--- the zone that a clock keeps is that of the name's file
+-- the zone that a cache keeps is that of the name's file
 pub zone_told : (told : Told) (zone : Content) → IsTold told → told.zone ≡ Some zone → IsZoneOf told.files told.name zone
 zone_told told zone is some = rw some at is.zone
 
@@ -21,7 +21,7 @@ zone_told told zone is some = rw some at is.zone
 pub may_answer : (files : List File) (name : List ℕ) (zone : Content) (t : ℤ) (state : Shown) → IsZoneOf files name zone → Answers zone t (Some state) → IsRowState state
 may_answer files name zone t state is answers = row_state state (is.known t (Some state) answers)
 
--- The clock turned to the name of a record, and then asked its zone what the record asks.
+-- The cache turned to the name of a record, and then asked its zone what the record asks.
 pub shown_of : (old new : Told) (most number : ℕ) (name field : Bor (List ℕ)) (zone : Content) (query : Query) → number ≤ most → new.files ≡ old.files
     → IsZoneOf old.files name.now zone → Answers zone query.instant (Some new.state) → query.name ≡ name → query.field ≡ field → IsAsked field.now query.instant
     → IsShown new most number (name.now ∷ field.now ∷ []) query

@@ -1,12 +1,12 @@
 use Rattle.std.proofs.Common.{◌∙◌, FitsSigned, ap, refl, rules, subst, to_z-of_z, w64}
 use Rattle.std.specs.Option.{option_copied}
-use Rattle.zic_convert.specs.code.Clock.{IsZoneOf, Told}
-use Rattle.zic_convert.proofs.Clocks.{passed_on, shown_of, zone_told}
+use Rattle.zic_convert.specs.code.ZoneCache.{IsZoneOf, Told}
+use Rattle.zic_convert.proofs.Caches.{passed_on, shown_of, zone_told}
 use Rattle.zic_convert.proofs.Faults.{fault_of_field, named_by}
-use Rattle.zic_convert.proofs.clock.Clock.query.Goals.{In-Some}
-use Rattle.zic_convert.proofs.clock.Clock.query.Goals as goal
+use Rattle.zic_convert.proofs.zone_cache.ZoneCache.query.Goals.{In-Some}
+use Rattle.zic_convert.proofs.zone_cache.ZoneCache.query.Goals as goal
 
--- the clock has turned to the zone of the record's name
+-- the cache has turned to the zone of the record's name
 turned : (c : In-Some) → IsZoneOf c.args.self.now.files c.in-Pair.name.now c.in-Some.zone.now
 turned c =
     let some = ap option_copied c.in-Some.is in

@@ -4,7 +4,7 @@ ghost use Rattle.std.specs.Prelude.{◌≡◌, ◌++◌, false, Some, OnOk, Matc
 ghost use Rattle.zic_rows.specs.Row.{row_text};
 ghost use Rattle.zic_tzif.specs.Answer.{Answers};
 ghost use Rattle.zic_convert.specs.Rows.{fault_of, is_named};
-ghost use Rattle.zic_convert.specs.code.Clock.{IsShown, IsZoneOf};
+ghost use Rattle.zic_convert.specs.code.ZoneCache.{IsShown, IsZoneOf};
 ghost use Rattle.zic_convert.specs.code.Query.{fields_in};
 
 use crate::query::{Query, row_instant};
@@ -20,10 +20,10 @@ use zic_tzif::{Answer, Instants, Zone};
 /// No instant.
 const NO_INSTANTS: Instants = Instants { first: 0, last: -1 };
 
-/// Tells local time of one row after another, by the files of a source. It keeps what the last row took to find out: the zone of its
-/// name, the instants at which that zone says the same, and the text of what it says.
+/// The zone of the last row, by the files of a source: its name, the instants round the row's at
+/// which it says the same, and the text of what it says. Clauses see them.
 #[derive(Drop)]
-pub(crate) struct Clock<'a> {
+pub(crate) struct ZoneCache<'a> {
     files: &'a Files,
     name: &'a [u8],
     /// Of the file of the name, where there is one.
@@ -33,28 +33,41 @@ pub(crate) struct Clock<'a> {
     writer: RowWriter<'a>,
 }
 
-impl<'a> Model for Clock<'a> {
+impl<'a> Model for ZoneCache<'a> {
     ghost use Rattle.std.specs.Option.{option_copied};
-    ghost use Rattle.zic_convert.specs.code.Clock.{Told, IsTold};
+    ghost use Rattle.zic_convert.specs.code.ZoneCache.{Told, IsTold};
 
     ghost Value = { Told };
 
-    ghost view = { λ c. record { files = c.files.now; name = c.name.now; zone = option_copied c.zone; instants = c.instants; state = c.writer } };
+    ghost view = { λ c. record {
+      files = c.files.now;
+      name = c.name.now;
+      zone = option_copied c.zone;
+      instants = c.instants;
+      state = c.writer;
+    } };
 
-    ghost invariant = { λ c. IsTold (record { files = c.files.now; name = c.name.now; zone = option_copied c.zone; instants = c.instants; state = c.writer }) };
+    ghost invariant = { λ c. IsTold (record {
+      files = c.files.now;
+      name = c.name.now;
+      zone = option_copied c.zone;
+      instants = c.instants;
+      state = c.writer;
+    }) };
 }
 
-/// The zone of the file of this name.
+/// Returns the zone of the file of this name, or `None` where no file has it.
 fn zone_of<'a>(files: &'a Files, name: &[u8]) -> Option<&'a Zone>
-    ensures { MatchOption result (is_named files.now name.now ≡ false) (λ zone. IsZoneOf files.now name.now zone.now) }
+    ensures { MatchOption result (is_named files.now name.now ≡ false)
+        (λ zone. IsZoneOf files.now name.now zone.now) }
 {
     let file = files.find(name)?;
     Some(files.zone(file))
 }
 
-impl<'a> Clock<'a> {
-    /// A clock by these files.
-    pub(crate) fn new(files: &'a Files) -> Clock<'a>
+impl<'a> ZoneCache<'a> {
+    /// Returns a cache by these files.
+    pub(crate) fn new(files: &'a Files) -> ZoneCache<'a>
         ensures { result.files ≡ files.now }
     {
         let state = State {
@@ -62,7 +75,7 @@ impl<'a> Clock<'a> {
             daylight: false,
             name: b"",
         };
-        Clock {
+        ZoneCache {
             files,
             name: b"",
             zone: zone_of(files, b""),
@@ -71,7 +84,7 @@ impl<'a> Clock<'a> {
         }
     }
 
-    /// Turns to the zone of a name, which is sought only where the name is another.
+    /// Turns to the zone of a name, which is looked up only where the name is another.
     #[inline(always)]
     fn turn_to(&mut self, name: &'a [u8])
         ensures files { self.new.files ≡ self.old.files }
@@ -101,7 +114,8 @@ impl<'a> Clock<'a> {
         }
     }
 
-    /// Turns to what the zone says at an instant. The zone is asked only where the instants kept don't have this one.
+    /// Turns to what the zone says at an instant. The zone is asked only where the instants kept
+    /// don't have this one.
     #[inline(always)]
     fn ask(&mut self, zone: &'a Zone, instant: i64)
         requires { self.old.zone ≡ Some zone.now }
@@ -113,8 +127,12 @@ impl<'a> Clock<'a> {
         }
     }
 
-    /// What a record asks for, as the row of this number where there may be so many, or the fault of the row. The clock then shows the
-    /// answer.
+    /// Turns to what a record asks for, and returns that. The record is the row of this number.
+    ///
+    /// # Errors
+    ///
+    /// The first fault of the row: a number above `most`, other than two fields, a name that no
+    /// file has, no instant, or an instant that no row may have.
     #[inline(always)]
     pub(crate) fn query(
         &mut self,
@@ -123,7 +141,8 @@ impl<'a> Clock<'a> {
         line: Record<'a>,
     ) -> Result<Query<'a>, RowKind>
         ensures files { self.new.files ≡ self.old.files }
-        ensures answer { MatchResult result (IsShown self.new most number (fields_in line.entry)) (λ kind. fault_of self.old.files most number (fields_in line.entry) ≡ Some kind) }
+        ensures answer { MatchResult result (IsShown self.new most number (fields_in line.entry))
+            (λ kind. fault_of self.old.files most number (fields_in line.entry) ≡ Some kind) }
     {
         if most < number {
             return Err(RowKind::TooManyRows);
@@ -148,11 +167,13 @@ impl<'a> Clock<'a> {
         })
     }
 
-    /// Appends the row of what a record asks for, where the clock shows the answer. After want of memory a part of the row may be there.
+    /// Appends the row of what a record asks for, to which the cache has turned. Where memory runs
+    /// out, a part of the row may be there.
     #[inline(always)]
     pub(crate) fn push(&mut self, text: &mut Vec<u8>, query: &Query<'_>) -> Result<(), AllocError>
-        ensures clock { self.new ≡ self.old }
-        ensures ok { OnOk result (text.new.items ≡ text.old.items ++ row_text query.now.name.now query.now.instant self.old.state) }
+        ensures cache { self.new ≡ self.old }
+        ensures ok { OnOk result (text.new.items ≡ text.old.items
+            ++ row_text query.now.name.now query.now.instant self.old.state) }
     {
         if !is_plain(query.field) {
             return self.writer.push(text, query.name, query.instant);

@@ -1,8 +1,8 @@
 use Rattle.std.proofs.Common.{◌∙◌, ap, None, FitsSigned, w64, to_z-of_z}
 use Rattle.zic_base.specs.State.{shown}
-use Rattle.zic_convert.specs.code.Clock.{Told}
-use Rattle.zic_convert.proofs.Clocks.{may_answer, zone_told}
-use Rattle.zic_convert.proofs.clock.Clock.renew.Goals as goal
+use Rattle.zic_convert.specs.code.ZoneCache.{Told}
+use Rattle.zic_convert.proofs.Caches.{may_answer, zone_told}
+use Rattle.zic_convert.proofs.zone_cache.ZoneCache.renew.Goals as goal
 
 pub set_state-requires : goal.set_state-requires
 set_state-requires c =

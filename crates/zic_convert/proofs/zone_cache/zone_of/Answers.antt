@@ -1,7 +1,7 @@
 use Rattle.std.proofs.Common.{◌≡◌}
 use Rattle.zic_convert.proofs.Faults.{unnamed}
 use Rattle.zic_convert.proofs.Sounds.{among, file_at, number_within}
-use Rattle.zic_convert.proofs.clock.zone_of.Goals as goal
+use Rattle.zic_convert.proofs.zone_cache.zone_of.Goals as goal
 
 pub returns-in_err-file : goal.returns-in_err-file
 returns-in_err-file c = rw c.from_residual.ensures (unnamed c.args.files.now c.args.name.now c.in_err-file.ensures.missing)

@@ -1,6 +1,6 @@
 use Rattle.std.proofs.Common.{◌∙◌, ap, refl, FitsSigned, w64, to_z-of_z}
-use Rattle.zic_convert.specs.code.Clock.{Told}
-use Rattle.zic_convert.proofs.clock.Clock.ask.Goals as goal
+use Rattle.zic_convert.specs.code.ZoneCache.{Told}
+use Rattle.zic_convert.proofs.zone_cache.ZoneCache.ask.Goals as goal
 
 pub returns-then-not-contains-clause-says : goal.returns-then-not-contains-clause-says
 returns-then-not-contains-clause-says c =

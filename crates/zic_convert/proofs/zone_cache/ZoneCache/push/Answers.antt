@@ -1,8 +1,8 @@
 use Rattle.std.proofs.Common.{ap, refl, rules, FitsSigned, to_z-of_z, w64}
 use Rattle.std.proofs.lemmas.Result.{on_ok_weaker}
 use Rattle.zic_rows.proofs.RowTexts.{row_joined}
-use Rattle.zic_convert.specs.code.Clock.{Told}
-use Rattle.zic_convert.proofs.clock.Clock.push.Goals as goal
+use Rattle.zic_convert.specs.code.ZoneCache.{Told}
+use Rattle.zic_convert.proofs.zone_cache.ZoneCache.push.Goals as goal
 
 pub returns-clause-ok : goal.returns-clause-ok
 returns-clause-ok c =
