@@ -5,7 +5,8 @@ use Rattle.std.proofs.Math.Seq.{take-append_seam}
 use Rattle.std.specs.Io.{StartsWith}
 use Rattle.csv.proofs.WriteFacts.{appends-more}
 use Rattle.zic_counted.specs.Counts.{Counts, HasFailedSince}
-use Rattle.zic_convert.specs.code.Written.{Wrote, FailsWithin}
+use Rattle.zic_counted.specs.Written.{FailsWithin}
+use Rattle.zic_convert.specs.code.Written.{Wrote}
 
 -- a text starts with what stands at its front
 pub starts_with : (part rest : List ℕ) → StartsWith (part ++ rest) part

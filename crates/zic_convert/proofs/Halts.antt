@@ -10,7 +10,8 @@ use Rattle.zic_convert.specs.Convert.{WritesAll, WritesAt, WritesUpTo}
 use Rattle.zic_convert.specs.code.Row.{AreRowsOf, RowsOf}
 use Rattle.zic_convert.specs.code.Pieces.{Pieces}
 use Rattle.zic_convert.specs.code.Progress.{ComeNext, IsSoFar, Takes}
-use Rattle.zic_convert.specs.code.Written.{EndsAtRow, EndsInRound, FailsWithin, Wrote}
+use Rattle.zic_counted.specs.Written.{FailsWithin}
+use Rattle.zic_convert.specs.code.Written.{EndsAtRow, EndsInRound, Wrote}
 use Rattle.std.specs.List.{concat}
 use Rattle.std.specs.Io.KnownBytes.{Appends}
 use Rattle.csv.proofs.WriteFacts.{appends-more}

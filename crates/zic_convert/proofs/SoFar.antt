@@ -9,7 +9,7 @@ use Rattle.zic_columns.specs.declared.entry.Record.{Record}
 use Rattle.zic_columns.specs.declared.entry.Record.TheVariants.{Pair, Other}
 use Rattle.zic_rows.specs.Row.{row_text}
 use Rattle.zic_convert.specs.Rows.{fault_of}
-use Rattle.zic_convert.specs.code.Clock.{IsShown, Told}
+use Rattle.zic_convert.specs.code.ZoneCache.{IsShown, Told}
 use Rattle.zic_convert.specs.code.Query.{fields_in}
 use Rattle.zic_convert.specs.code.Row.{AreRowsOf}
 use Rattle.zic_convert.specs.declared.query.Query.{Query}

@@ -1,15 +1,9 @@
 -- The rows of pieces, as they are written.
-use Rattle.std.proofs.Common.{◌≡◌, ◌<◌, ◌+◌, ◌-◌, ℕ, suc, List, [], ◌∷◌, ◌++◌, length, get_or, take, drop, Option, Some, None, refl, sym, ap, subst, ◌∙◌, append_assoc, arith, drop-cons, take_all}
-use Rattle.std.proofs.lemmas.List.{append-nil, drop_all, length-drop, take-append-drop}
+use Rattle.std.proofs.Common.{◌≡◌, ◌<◌, ◌+◌, ℕ, suc, List, [], ◌∷◌, ◌++◌, length, get_or, drop, Option, Some, None, refl, sym, ap, subst, ◌∙◌, append_assoc, arith, drop-cons}
+use Rattle.std.proofs.lemmas.List.{append-nil, drop_all}
 use Rattle.zic_plan.specs.declared.stop.RowKind.{RowKind}
 use Rattle.zic_convert.specs.code.Row.{RowsOf}
 use Rattle.zic_convert.specs.code.Pieces.{followed_by, joined}
-
--- the rest, after some more of it was written
-pub moved : (done rest all : List ℕ) (n : ℕ) → done ++ rest ≡ all → (done ++ take n rest) ++ take (length rest - n) (drop n rest) ≡ all
-moved done rest all n e =
-    let whole : take (length rest - n) (drop n rest) ≡ drop n rest = take_all (length rest - n) (drop n rest) (omega (arith, length-drop n rest)) in
-    rw whole (append_assoc done (take n rest) (drop n rest) ∙ ap (λ (l : List ℕ). done ++ l) (take-append-drop n rest) ∙ e)
 
 -- all bytes of pieces are those that were written, and then those of the pieces that are left
 pub record IsLeft (all : RowsOf) (done : List ℕ) (so_many : ℕ) (left : RowsOf) : Type 0 where

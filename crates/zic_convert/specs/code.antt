@@ -2,7 +2,7 @@
 pub mod Progress
 pub mod Row
 pub mod Query
-pub mod Clock
+pub mod ZoneCache
 pub mod Pieces
 pub mod Written
 pub mod Halt

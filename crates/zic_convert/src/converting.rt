@@ -21,25 +21,31 @@ use zic_pieces::Gate;
 use zic_plan::{Plan, RunStop};
 use zic_tzif::laws::files_answer_once;
 
-/// How many bytes a round has at least where the column has so many at once, and at most.
+/// The least number of bytes of a round where the column has so many at once.
 const SHORTEST_ROUND: u64 = 65_536;
 
+/// The greatest number of bytes that a round is read to have.
 const LONGEST_ROUND: u64 = 4_194_304;
 
-/// How many pieces a round has for each worker, so that none waits long for the others.
+/// The number of pieces that a round has for each worker, so that none waits long for the others.
 const PIECES_FOR_EACH: u64 = 16;
 
-/// How many bytes a record usually has.
+/// The number of bytes that a record usually has.
 const USUAL_RECORD: u64 = 48;
 
-/// How many bytes a round is to have: some pieces for each worker, of usual records.
+/// Returns the number of bytes that a round is to have: some pieces for each worker, of usual
+/// records.
 fn round_len(plan: &Plan) -> usize {
     let usual = PIECES_FOR_EACH * plan.workers() * plan.row_piece() * USUAL_RECORD;
     usual.clamp(SHORTEST_ROUND, LONGEST_ROUND) as usize
 }
 
-/// Converts a column round by round: takes a round, has it converted, and writes its rows before it reads on. It answers how many rows
-/// there are.
+/// Converts a column round by round: takes a round, has it converted, and writes its rows before it
+/// reads on. Returns the number of rows.
+///
+/// # Errors
+///
+/// `Unread` where the column can't be read on, or what ends a round.
 fn convert_column<T: Threads + Wait + Sync, R: Read + Drop, W: Write, G: Gate + Sync>(
     rt: &T,
     alloc: Global,
@@ -50,13 +56,16 @@ fn convert_column<T: Threads + Wait + Sync, R: Read + Drop, W: Write, G: Gate + 
     gate: &G,
 ) -> Result<u64, Halt>
     ensures all { IfOk result (λ n. IfSome (R.remaining reader)
-        (λ column. WritesAll files.now plan.now.max_rows column n (W.contents writer.old.inner) (W.contents writer.new.inner))) }
+        (λ column. WritesAll files.now plan.now.max_rows column n (W.contents writer.old.inner)
+        (W.contents writer.new.inner))) }
     ensures flushed { IfOk result (λ _. writer.new.failures ≡ writer.old.failures) }
     ensures halt { IfErr result (λ halt. IfSome (R.remaining reader)
-        (λ column. WritesAtHalt files.now plan.now.max_rows column halt (W.contents writer.old.inner) (W.contents writer.new.inner))) }
+        (λ column. WritesAtHalt files.now plan.now.max_rows column halt
+        (W.contents writer.old.inner) (W.contents writer.new.inner))) }
     ensures cause { IfErr result (IsCauseOfHalt writer.old writer.new) }
 {
-    // What is left of a column that can't be read on has rows too: each file answers every instant, as `len` tells.
+    // What is left of a column that can't be read on has rows too: each file answers every instant,
+    // as `len` tells.
     prove!(files.len() <= usize::MAX);
     files_answer_once();
     let mut column = Column::new(alloc, reader, plan.max_bytes())?;
@@ -71,7 +80,8 @@ fn convert_column<T: Threads + Wait + Sync, R: Read + Drop, W: Write, G: Gate + 
     Ok(count)
 }
 
-/// Why a column could not be read on, by what the reader has counted since it had counted so many failures and bytes.
+/// Returns why a column could not be read on, by what the reader has counted since it had counted
+/// so many failures and taken bytes, of which there may be `most` more.
 fn reading_stop<R>(reader: &Counted<R>, failures: u64, taken: u64, most: u64) -> RunStop
     ensures { IsReadingStop reader.now failures taken most result }
 {
@@ -84,26 +94,38 @@ fn reading_stop<R>(reader: &Counted<R>, failures: u64, taken: u64, most: u64) ->
     RunStop::Memory
 }
 
-/// Converts a column of records, each with a zone's name and an instant, to rows of six fields: the name, the instant, local time, UT
-/// offset, daylight flag (0 or 1) and abbreviation. It answers how many rows there are.
+/// Converts a column of records, each with a zone's name and an instant, to rows of six fields: the
+/// name, the instant, local time, UT offset, daylight flag (0 or 1) and abbreviation. Returns the
+/// number of rows.
 ///
-/// The column is read as CSV with commas and double quotes, without a header row; a byte order mark at its start is dropped, and a line
-/// without a byte makes no record. An instant is an optional `-` and 1 to 18 digits: seconds from 1970-01-01T00:00:00 UT without leap
-/// seconds, from -62,135,510,400 to 253,402,214,399. There may be as many rows as the plan has it, and the first row that has a fault
-/// ends the call: `Row` has its number, from 1, and the first of its kinds: a row too many, a record of other than two fields, a name
-/// that no file has, no instant, or an instant out of range. All rows before it were written and flushed.
+/// The column is read as CSV with commas and double quotes, without a header row; a byte order mark
+/// at its start is dropped, and a line without a byte makes no record. An instant is an optional
+/// `-` and 1 to 18 digits: seconds from 1970-01-01T00:00:00 UT without leap seconds, from
+/// -62,135,510,400 to 253,402,214,399.
 ///
-/// The column is read in rounds: all whole records in hand, once so many bytes are that each worker has some pieces, and at once where a
-/// read gives fewer than 64 KiB. The plan's workers convert the pieces of a round, each of so many records as the plan says, and pass the
-/// gate before each; the calling thread is one of them. The rows of a round are written and flushed before the column is read on. None of
-/// this changes an answer. After every refusal other than `Row`, what was written is a part of the text of the rows, from its start on;
-/// how much of the column was read is open.
+/// The column is read in rounds: all whole records in hand, once so many bytes are that each worker
+/// has some pieces, and at once where a read gives fewer than 64 KiB. The plan's workers convert
+/// the pieces of a round, each of so many records as the plan says, and pass the gate before each;
+/// the calling thread is one of them. The rows of a round are written and flushed before the column
+/// is read on. None of this changes an answer. Where all is converted, the reader's count of bytes
+/// rose by no more than the plan allows, and the writer failed nowhere.
 ///
-/// Every error of the reader or writer ends the call, also one at which others try again, and so does a write that takes no byte; a reader
-/// that ended is not read again. `ReadFailed` and `WriteFailed` are answered only where the reader or writer counted a failure, and `ColumnTooLong` only where the
-/// reader gave more bytes than the plan allows, or where they stand at their greatest count. Want of memory is answered as `Memory`.
-/// `Source` and `NoThread` are never answered. Where all is converted, the reader's count of bytes rose by no more than the plan allows,
-/// and the writer failed nowhere; nor did it where a row has a fault.
+/// # Errors
+///
+/// - `Row` at the first row that has a fault, with its number, from 1, and the first of its kinds:
+///   a row more than the plan allows, a record of other than two fields, a name that no file has,
+///   no instant, or an instant out of range. All rows before it were written and flushed, and the
+///   writer failed nowhere.
+/// - `ReadFailed` or `WriteFailed` where the reader or writer counted a failure. Each error of the
+///   reader or writer ends the call, also one at which others try again, and so does a write that
+///   takes no byte. A reader that ended is not read again.
+/// - `ColumnTooLong` where the reader gave more bytes than the plan allows, or its count of bytes
+///   stands at the greatest `u64`.
+/// - `Memory` where memory is refused.
+///
+/// `Source` and `NoThread` are never returned. After every error other than `Row`, what was written
+/// is a part of the text of the rows, from its start on, and how much of the column was read is
+/// open.
 pub fn convert<T: Threads + Wait + Sync, R: Read, W: Write, G: Gate + Sync>(
     rt: &T,
     alloc: Global,
@@ -114,18 +136,22 @@ pub fn convert<T: Threads + Wait + Sync, R: Read, W: Write, G: Gate + Sync>(
     gate: &G,
 ) -> Result<u64, RunStop>
     ensures ok { IfOk result (λ n. IfSome (R.remaining reader.old.inner)
-        (λ column. WritesAll files.now plan.now.max_rows column n (W.contents writer.old.inner) (W.contents writer.new.inner))) }
+        (λ column. WritesAll files.now plan.now.max_rows column n (W.contents writer.old.inner)
+        (W.contents writer.new.inner))) }
     ensures within { IfOk result (λ _. reader.new.taken ≤ reader.old.taken + plan.now.max_bytes) }
     ensures unfailed { IfOk result (λ _. HasFailedSince reader.new reader.old.failures → ⊥) }
     ensures flushed { IfOk result (λ _. writer.new.failures ≡ writer.old.failures) }
     ensures err { IfErr result (λ stop. IfSome (R.remaining reader.old.inner)
-        (λ column. WritesAt files.now plan.now.max_rows column stop (W.contents writer.old.inner) (W.contents writer.new.inner))) }
-    ensures cause { IfErr result (IsCauseOf plan.now.max_bytes reader.old reader.new writer.old writer.new) }
+        (λ column. WritesAt files.now plan.now.max_rows column stop (W.contents writer.old.inner)
+        (W.contents writer.new.inner))) }
+    ensures cause { IfErr result
+        (IsCauseOf plan.now.max_bytes reader.old reader.new writer.old writer.new) }
 {
     let failures = reader.failures();
     let taken = reader.taken();
     match convert_column(rt, alloc, files, &mut *reader, writer, plan, gate) {
-        // No clause of what reads a column says how much it takes, or that no read failed: the reader's own counts decide.
+        // No clause of what reads a column says how much it takes, or that no read failed: the
+        // reader's own counts decide.
         Ok(_) if reader.has_failed_since(failures) => Err(RunStop::ReadFailed),
         Ok(_) if reader.taken().saturating_sub(taken) > plan.max_bytes() => {
             Err(RunStop::ColumnTooLong)

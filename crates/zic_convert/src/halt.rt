@@ -2,10 +2,12 @@
 
 use zic_plan::RunStop;
 
-/// A conversion ends early for reading its column, or else for this.
+/// The reason why a conversion ends early.
 #[derive(Drop)]
 pub(crate) enum Halt {
+    /// The column could not be read on; its reader tells why.
     Unread,
+    /// Another reason.
     Stop(RunStop),
 }
 

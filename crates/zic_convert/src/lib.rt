@@ -1,7 +1,6 @@
 //! Converts a column of zone names and instants by the files of a source.
 #![tactic(auto)]
 
-mod clock;
 mod converting;
 mod halt;
 pub mod laws;
@@ -10,5 +9,6 @@ mod query;
 mod round;
 mod row;
 mod writing;
+mod zone_cache;
 
 pub use converting::convert;

@@ -14,15 +14,25 @@ use zic_files::Files;
 use zic_pieces::{PieceStop, Task};
 use zic_plan::Plan;
 
-/// The records of a round, the number of its first row, how many rows there may be, and how many records a piece has.
+/// The least room for the text of a piece that is taken at once, in bytes.
+const LEAST_ROOM: usize = 256;
+
+/// The greatest room for the text of a piece that is taken at once, in bytes.
+const GREATEST_ROOM: usize = 4_194_304;
+
+/// The records of a round, in pieces that are each a range of its bytes, with the number of the
+/// first row. Clauses see the bytes of each piece.
 #[derive(Drop)]
 pub(crate) struct RowPieces<'a> {
     files: &'a Files,
     round: Round<'a>,
     first: u64,
+    /// The greatest number that a row may have.
     most: u64,
+    /// The number of records of a piece; the last may have fewer.
     size: u64,
-    /// Whether a piece with a fault stops the task. If not, its rows before the fault are its value.
+    /// Whether a piece with a fault stops the task. If not, its rows before the fault are its
+    /// value.
     stops: bool,
 }
 
@@ -31,18 +41,40 @@ impl<'a> Model for RowPieces<'a> {
 
     ghost Value = { Pieces };
 
-    ghost view = { λ p. record { files = p.files.now; pieces = p.round; first = p.first; most = p.most; size = p.size; stops = p.stops } };
+    ghost view = { λ p. record {
+      files = p.files.now;
+      pieces = p.round;
+      first = p.first;
+      most = p.most;
+      size = p.size;
+      stops = p.stops;
+    } };
 
-    ghost invariant = { λ p. ArePieces (record { files = p.files.now; pieces = p.round; first = p.first; most = p.most; size = p.size; stops = p.stops }) };
+    ghost invariant = { λ p. ArePieces (record {
+      files = p.files.now;
+      pieces = p.round;
+      first = p.first;
+      most = p.most;
+      size = p.size;
+      stops = p.stops;
+    }) };
 }
 
 impl<'a> RowPieces<'a> {
-    /// The round, in pieces as the plan has them, as a task that stops at a fault. The first record is the row of this number.
+    /// Returns the pieces of a round, cut as the plan says, as a task that stops at a fault. The
+    /// first record is the row of this number.
     pub(crate) fn new(files: &'a Files, round: Round<'a>, first: u64, plan: &Plan) -> RowPieces<'a>
         requires first { first ≤ MAX_ROWS + 1 }
         requires few { length round ≤ MAX_PIECES }
         requires cut { ArePiecesOf plan.now.row_piece round }
-        ensures pieces { result ≡ record { files = files.now; pieces = round.entry; first = first; most = plan.now.max_rows; size = plan.now.row_piece; stops = true } }
+        ensures pieces { result ≡ record {
+          files = files.now;
+          pieces = round.entry;
+          first = first;
+          most = plan.now.max_rows;
+          size = plan.now.row_piece;
+          stops = true;
+        } }
         ensures sound { ArePieces result }
     {
         RowPieces {
@@ -55,7 +87,7 @@ impl<'a> RowPieces<'a> {
         }
     }
 
-    /// The number of the first row.
+    /// Returns the number of the first row.
     pub(crate) fn first(&self) -> u64
         ensures first { result ≡ self.now.first }
         ensures sound { ArePieces self.now }
@@ -63,10 +95,13 @@ impl<'a> RowPieces<'a> {
         self.first
     }
 
-    /// The pieces up to one that has a fault, as a task that goes on there.
+    /// Returns the pieces up to one that has a fault, as a task that doesn't stop there.
     pub(crate) fn up_to(&self, i: u64) -> RowPieces<'_>
         requires { i < length self.now.pieces }
-        ensures { result ≡ record self.now { pieces = take (i + 1) self.now.pieces; stops = false } }
+        ensures { result ≡ record self.now {
+          pieces = take (i + 1) self.now.pieces;
+          stops = false;
+        } }
     {
         RowPieces {
             files: self.files,
@@ -100,7 +135,8 @@ impl<'a> Task for RowPieces<'a> {
             return Err(PieceStop::Memory);
         };
         let first = self.first + i * self.size;
-        let Ok(rows) = rows_of(alloc, self.files, self.most, first, split.records()) else {
+        let room = room_for(self.round.piece(i as usize).len());
+        let Ok(rows) = rows_of(alloc, self.files, self.most, first, room, split.records()) else {
             return Err(PieceStop::Memory);
         };
         if self.stops && rows.fault.is_some() {
@@ -108,4 +144,12 @@ impl<'a> Task for RowPieces<'a> {
         }
         Ok(rows)
     }
+}
+
+/// Returns the number of bytes to take at once for the rows of a piece of so many bytes. Rows
+/// mostly have less than three bytes for each of their records.
+fn room_for(len: usize) -> usize {
+    len.min(GREATEST_ROOM)
+        .saturating_mul(3)
+        .clamp(LEAST_ROOM, GREATEST_ROOM)
 }

@@ -6,7 +6,8 @@ ghost use Rattle.zic_convert.specs.code.Query.{IsAsked, IsFaultOfField};
 use zic_plan::RowKind;
 use zic_rows::{FIRST_INSTANT, LAST_INSTANT, parse_instant};
 
-/// What a record asks for: local time of the zone of a name, at an instant that a row may have. The field names the instant.
+/// What a record asks for: local time of the zone of a name, at an instant that a row may have. The
+/// field names the instant.
 #[derive(Clone, Copy)]
 pub(crate) struct Query<'a> {
     pub(crate) name: &'a [u8],
@@ -15,7 +16,11 @@ pub(crate) struct Query<'a> {
     ghost asked: { IsAsked field.now instant },
 }
 
-/// The instant that a field names, if a row may have it, or the fault of the row.
+/// Returns the instant that a field names, in seconds from 1970-01-01T00:00:00 UT.
+///
+/// # Errors
+///
+/// `RowInstant` where the field names none, and `RowRange` where no row may have it.
 #[inline(always)]
 pub(crate) fn row_instant(field: &[u8]) -> Result<i64, RowKind>
     ensures { MatchResult result (λ instant. IsAsked field.now instant) (IsFaultOfField field.now) }

@@ -17,7 +17,11 @@ use zic_counted::Counted;
 use zic_pieces::{Gate, TaskStop, run_task};
 use zic_plan::{Plan, RunStop};
 
-/// Writes the rows of a round, by those of its pieces.
+/// Writes the rows of a round, by those of its pieces, and returns their number.
+///
+/// # Errors
+///
+/// `Row` for the first fault, once the rows before it are written, or `WriteFailed`.
 fn write_round<W: Write>(
     writer: &mut Counted<W>,
     pieces: &RowPieces<'_>,
@@ -30,7 +34,12 @@ fn write_round<W: Write>(
     write_rows(writer, pieces.first(), rows)
 }
 
-/// Converts the pieces up to the fault of the last of them, as a task of their own, and writes the rows before it.
+/// Converts the pieces up to the fault of the last of them, as a task of their own, and writes the
+/// rows before it.
+///
+/// # Errors
+///
+/// As [`write_round`], and `Memory`.
 fn convert_again<T: Threads + Wait + Sync, W: Write, G: Gate + Sync>(
     rt: &T,
     alloc: Global,
@@ -51,10 +60,15 @@ fn convert_again<T: Threads + Wait + Sync, W: Write, G: Gate + Sync>(
     }
 }
 
-/// Converts the pieces of a round by the plan's workers, and writes their rows. It answers how many rows there are.
+/// Converts the pieces of a round by the plan's workers, writes their rows, and returns their
+/// number.
 ///
-/// The least piece with a fault ends the task, and later ones need not be converted. The rows before the fault are then converted once
-/// more.
+/// The first piece with a fault ends the task, and later ones need not be converted. The rows
+/// before the fault are then converted once more.
+///
+/// # Errors
+///
+/// As [`write_round`], and `Memory`.
 pub(crate) fn convert_round<T: Threads + Wait + Sync, W: Write, G: Gate + Sync>(
     rt: &T,
     alloc: Global,

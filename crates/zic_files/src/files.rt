@@ -99,7 +99,7 @@ impl Files {
             (λ i. IsSomeAnd (slice_get self.now i) (λ file. file.name ≡ name.now)) }
         ensures missing { IfNone result (All (λ file. file.name ≢ name.now) self.now) }
     {
-        self.names.number(name)
+        self.names.number(&self.entries, name)
     }
 
     /// Returns the image of a file.

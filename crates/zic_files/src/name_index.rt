@@ -1,16 +1,20 @@
 //! An index of files by name.
 
-ghost use Rattle.std.specs.Prelude.{◌≡◌, ◌<◌, ℕ, List, Some, length, IfOk, IfErr, OnOk, if◌then◌else◌, bytes_eq};
-ghost use Rattle.zic_files.specs.code.NameIndex.{number_of, AreNumbersOf};
+ghost use Rattle.std.specs.Prelude.{◌≡◌, ◌≢◌, ◌+◌, ◌<◌, length, slice_get, slice_index, All, IfSome, IfNone, IfOk, IfErr, OnOk, IsSomeAnd};
+ghost use Rattle.zic_files.specs.code.NameIndex.{bucket_of, AreLinked, AreNumbersOf};
 
 use crate::entry::Entry;
 use std::alloc::{AllocError, Global};
-use std::collections::HashMap;
 
-/// The numbers of files by their names.
+/// The number of buckets: some seven for each name of the tz database, so that few names share one.
+const BUCKETS: usize = 4096;
+
+/// The numbers of files by their names: of each bucket of names the last file, and of each file the
+/// one before it in its bucket. Both are a number from 1, or 0 where there is none.
 #[derive(Debug, Drop)]
 pub(crate) struct NameIndex {
-    numbers: HashMap<Vec<u8>, usize>,
+    last: Vec<u32>,
+    before: Vec<u32>,
 }
 
 impl NameIndex {
@@ -19,29 +23,79 @@ impl NameIndex {
         ensures ok { IfOk result (AreNumbersOf entries.now) }
         ensures memory { IfErr result (λ _. 0 < length entries.now) }
     {
-        let mut index = NameIndex {
-            numbers: HashMap::new(alloc),
-        };
-        for number in 0..entries.len() {
-            index.give(alloc, entries[number].name.octets(), number)?;
+        let count = entries.len();
+        if count == 0 {
+            return Ok(NameIndex {
+                last: Vec::new(alloc),
+                before: Vec::new(alloc),
+            });
+        }
+        let last = vec![in alloc; 0; BUCKETS]?;
+        let before = Vec::new(alloc);
+        let mut index = NameIndex { last, before };
+        for number in 0..count {
+            index.add(entries, number)?;
         }
         Ok(index)
     }
 
     /// Returns the number of the file of this name.
-    pub(crate) fn number(&self, name: &[u8]) -> Option<usize>
-        ensures { result ≡ number_of self.now name.now }
+    pub(crate) fn number(&self, entries: &[Entry], name: &[u8]) -> Option<usize>
+        requires { AreNumbersOf entries.now self.now }
+        ensures found { IfSome result
+            (λ i. IsSomeAnd (slice_get entries.now i) (λ entry. entry.name ≡ name.now)) }
+        ensures missing { IfNone result (All (λ entry. entry.name ≢ name.now) entries.now) }
     {
-        self.numbers.get(name).copied()
+        let mut rest = self.last_in(bucket_of(name));
+        while rest > 0 {
+            let number = rest - 1;
+            if entries[number].name.octets() == name {
+                return Some(number);
+            }
+            rest = self.before[number] as usize;
+        }
+        None
     }
 
-    /// Gives the name to the file of this number.
-    fn give(&mut self, alloc: Global, name: &[u8], number: usize) -> Result<(), AllocError>
-        ensures { OnOk result ((other : List ℕ) → number_of self.new other ≡
-            (if bytes_eq name.now other then Some number else number_of self.old other)) }
+    /// Returns the last file of a bucket, as a number from 1, or 0 where there is none.
+    fn last_in(&self, bucket: usize) -> usize
+        ensures { result ≡ slice_index self.now.last.items bucket }
     {
-        let name = Vec::from_slice(alloc, name)?;
-        self.numbers.insert(name, number)?;
+        match self.last.get(bucket) {
+            Some(last) => *last as usize,
+            None => 0,
+        }
+    }
+
+    /// Adds the file of this number, after all before it.
+    fn add(&mut self, entries: &[Entry], number: usize) -> Result<(), AllocError>
+        requires within { number < length entries.now }
+        requires linked { AreLinked entries.now number self.old.last.items self.old.before.items }
+        requires long { length self.old.last.items ≡ BUCKETS }
+        ensures ok { OnOk result
+            (AreLinked entries.now (number + 1) self.new.last.items self.new.before.items) }
+        ensures long { length self.new.last.items ≡ BUCKETS }
+    {
+        if number >= u32::MAX as usize {
+            return Err(AllocError);
+        }
+        let bucket = bucket_of(entries[number].name.octets());
+        self.before.push(self.last[bucket])?;
+        self.last[bucket] = (number + 1) as u32;
         Ok(())
     }
+}
+
+/// Returns the bucket of a name, by its length, its last three bytes and the one in its middle.
+fn bucket_of(name: &[u8]) -> usize
+    ensures value { result ≡ bucket_of name.now }
+    ensures within { result < BUCKETS }
+{
+    let len = name.len();
+    if len < 3 {
+        return len;
+    }
+    let end = name[len - 1] as usize * 2267 + name[len - 2] as usize * 1465;
+    let middle = name[len - 3] as usize * 2213 + name[len / 2] as usize * 3827;
+    (len % 256 * 1143 + end + middle) % BUCKETS
 }

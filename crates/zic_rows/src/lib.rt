@@ -6,8 +6,8 @@ mod date;
 mod instant;
 pub mod laws;
 mod limit;
-mod line;
 mod row;
+mod state_text;
 
 pub use instant::{is_plain, parse_instant};
 pub use limit::{FARTHEST_OFFSET, FIRST_INSTANT, LAST_INSTANT, MAX_DIGITS};

@@ -5,12 +5,13 @@ ghost use Rattle.zic_base.specs.State.{shown};
 ghost use Rattle.zic_rows.specs.Instant.{IsRowInstant, IsRowOffset};
 ghost use Rattle.zic_rows.specs.Row.{row_text, rest_text, IsRowState};
 
+use crate::date::KeptDate;
 use crate::limit::{DAY, DAYS, DAYS_TO_1970};
-use crate::line::KeptLine;
+use crate::state_text::StateText;
 use itoa::Buffer;
 use std::alloc::AllocError;
 use std::marker::Model;
-use zic_base::State;
+use zic_base::{State, clock_text};
 
 /// Appends the text of a row: the name, the instant in plain decimals, its local time, the UT
 /// offset, the daylight flag and the abbreviation, between commas, and a newline. The instant is
@@ -34,7 +35,8 @@ pub fn push_row(
 /// the state's text. Clauses see the state.
 #[derive(Drop)]
 pub struct RowWriter<'a> {
-    line: KeptLine<'a>,
+    state: StateText<'a>,
+    date: KeptDate,
 }
 
 impl<'a> Model for RowWriter<'a> {
@@ -42,7 +44,7 @@ impl<'a> Model for RowWriter<'a> {
 
     ghost Value = { Shown };
 
-    ghost view = { λ w. shown w.line.state };
+    ghost view = { λ w. shown w.state.state };
 }
 
 impl<'a> RowWriter<'a> {
@@ -53,7 +55,8 @@ impl<'a> RowWriter<'a> {
         ensures { result ≡ shown state.entry }
     {
         RowWriter {
-            line: KeptLine::new(state),
+            state: StateText::new(state),
+            date: KeptDate::new(DAYS_TO_1970),
         }
     }
 
@@ -62,7 +65,7 @@ impl<'a> RowWriter<'a> {
         requires { IsRowState (shown state) }
         ensures { self.new ≡ shown state.entry }
     {
-        self.line.set_state(state);
+        self.state = StateText::new(state);
     }
 
     /// Appends the text of a row. The instant is one that a row may have. Where memory runs out, a
@@ -88,9 +91,11 @@ impl<'a> RowWriter<'a> {
         ensures state { self.new ≡ self.old }
         ensures ok { OnOk result (text.new.items ≡ text.old.items ++ rest_text instant self.old) }
     {
-        let seconds = local_seconds(instant, self.line.offset());
-        self.line.turn_to((seconds / DAY as u64) as u32);
-        self.line.push(text, (seconds % DAY as u64) as u32)
+        let seconds = local_seconds(instant, self.state.offset());
+        self.date.turn_to((seconds / DAY as u64) as u32);
+        text.extend_from_slice(self.date.octets())?;
+        text.extend_from_slice(&clock_text((seconds % DAY as u64) as u32))?;
+        self.state.push(text)
     }
 }
 

@@ -189,6 +189,7 @@ fn rows_alone(rt: HostRuntime) -> Result<(), Fail> {
 const TOGETHER: &str = "Z/NY,1173596399,2007-03-11T01:59:59,-05:00:00,0,EST
 Z/NY,1173596400,2007-03-11T03:00:00,-04:00:00,1,EDT
 Z/NY,1194155999,2007-11-04T01:59:59,-04:00:00,1,EDT
+Z/NY,1194156000,2007-11-04T01:00:00,-05:00:00,0,EST
 ";
 
 #[test]
@@ -210,6 +211,8 @@ fn rows_together(rt: HostRuntime) -> Result<(), Fail> {
     writer.push(&mut text, b"Z/NY", 1_173_596_400)?;
     text.extend_from_slice(b"Z/NY,1194155999")?;
     writer.push_rest(&mut text, 1_194_155_999)?;
+    writer.set_state(standard);
+    writer.push(&mut text, b"Z/NY", 1_194_156_000)?;
     assert_eq!(rt; text.as_slice(), TOGETHER.as_bytes());
     Ok(())
 }

@@ -1,8 +1,8 @@
 -- What was written.
 use Rattle.std.specs.Prelude.{◌≡◌, ℕ, ◌+◌, ◌⊎◌, List, Option, Some, None}
-use Rattle.std.specs.Io.{StartsWith}
 use Rattle.std.specs.Io.KnownBytes.{Appends}
-use Rattle.zic_counted.specs.Counts.{Counts, HasFailedSince}
+use Rattle.zic_counted.specs.Counts.{Counts}
+use Rattle.zic_counted.specs.Written.{FailsWithin}
 use Rattle.zic_plan.specs.declared.stop.RunStop.{RunStop}
 use Rattle.zic_plan.specs.declared.stop.RunStop.TheVariants as stop
 use Rattle.zic_columns.specs.Round.{records_of}
@@ -12,13 +12,6 @@ use Rattle.zic_convert.specs.code.Pieces.{Pieces}
 -- what the writer holds, where that is known, grew by these bytes, and nothing failed
 abbrev pub Wrote : {W : Type 0} → (W → Option (List ℕ)) → Counts W → Counts W → List ℕ → Type 0
 Wrote contents old new bytes = Appends (contents old.inner) (contents new.inner) bytes × (new.failures ≡ old.failures)
-
--- what the writer holds grew by a part of these bytes, and then it failed
-pub record FailsWithin {W : Type 0} (contents : W → Option (List ℕ)) (old new : Counts W) (bytes : List ℕ) : Type 0 where
-  pub part : List ℕ
-  pub starts : StartsWith bytes part
-  pub wrote : Appends (contents old.inner) (contents new.inner) part
-  pub failed : HasFailedSince new old.failures
 
 -- all rows were written, and this is their count
 abbrev pub WritesRows : {W : Type 0} → (W → Option (List ℕ)) → Counts W → Counts W → RowsOf → ℕ → Type 0

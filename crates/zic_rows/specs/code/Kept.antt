@@ -1,5 +1,5 @@
 -- What a writer of rows keeps from row to row; no public contract cites it.
-use Rattle.std.specs.Prelude.{◌≡◌, ℕ, ◌≤◌, ℤ, pos, ◌-ℤ◌, Bool, if◌then◌else◌, List, [], ◌∷◌, ◌++◌, take, drop}
+use Rattle.std.specs.Prelude.{◌≡◌, ℕ, ◌≤◌, ℤ, pos, ◌-ℤ◌, Bool, if◌then◌else◌, List, [], ◌∷◌, ◌++◌, take}
 use Rattle.zic_base.specs.Digits.{offset_text}
 use Rattle.zic_base.specs.State.{shown}
 use Rattle.zic_base.specs.declared.state.State.{State}
@@ -15,9 +15,8 @@ kept_date day = 44 ∷ (date_text (civil_of (pos day -ℤ pos DAYS_TO_1970) 0) +
 unfoldable pub before_name : ℤ → Bool → List ℕ
 before_name offset daylight = 44 ∷ (offset_text offset ++ 44 ∷ (if daylight then 49 else 48) ∷ 44 ∷ [])
 
--- the bytes of a line: the date first, and after a time of day the text of the state, which a row may have
-pub record IsKeptLine (state : State) (day : ℕ) (octets : List ℕ) (len : ℕ) : Type 0 where
+-- Of these bytes so many are the text of the state, which a row may have.
+pub record IsTextOf (state : State) (octets : List ℕ) (len : ℕ) : Type 0 where
   pub may : IsRowState (shown state)
-  pub date : take 12 octets ≡ kept_date day
-  pub text : take len (drop 20 octets) ≡ state_text (shown state)
+  pub text : take len octets ≡ state_text (shown state)
   pub fits : len ≤ 32

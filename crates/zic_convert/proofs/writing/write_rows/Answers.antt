@@ -3,7 +3,8 @@ use Rattle.std.proofs.lemmas.List.{append-nil}
 use Rattle.std.proofs.lemmas.Result.{err_from_is_err_and}
 use Rattle.zic_plan.specs.declared.stop.RowKind.{RowKind}
 use Rattle.zic_convert.specs.code.Row.{RowsOf}
-use Rattle.zic_convert.specs.code.Written.{FailsWithin, Wrote}
+use Rattle.zic_counted.specs.Written.{FailsWithin}
+use Rattle.zic_convert.specs.code.Written.{Wrote}
 use Rattle.zic_convert.specs.code.Pieces.{joined}
 use Rattle.zic_convert.proofs.Bytes.{wrote_both, wrote_part}
 use Rattle.zic_convert.proofs.Writings.{IsLeft, next_part, next_left, piece_done, fault_next}
