@@ -82,7 +82,7 @@ one_state_by : (names : List ℕ) (type : Option LocalType) (a b : Shown) → Is
 one_state_by names None a b is other = absurd is
 one_state_by names (Some t) a b is other = is ∙ sym other
 
-one_state_of_type : (content : Content) (number : ℕ) (a b : Shown) → IsStateOfType content number a → IsStateOfType content number b → a ≡ b
+pub one_state_of_type : (content : Content) (number : ℕ) (a b : Shown) → IsStateOfType content number a → IsStateOfType content number b → a ≡ b
 one_state_of_type content number = one_state_by content.names (slice_get content.types number)
 
 state_at : (names : List ℕ) (type : Option LocalType) (t : LocalType) → type ≡ Some t → (state : Shown) × IsSomeAnd type (λ t. state ≡ type_state names t)
@@ -90,7 +90,7 @@ state_at names None t is = absurd cc
 state_at names (Some u) t is = (type_state names u, refl)
 
 -- a type that is there has a state
-state_of_type : (content : Content) (number : ℕ) → number < length content.types → (state : Shown) × IsStateOfType content number state
+pub state_of_type : (content : Content) (number : ℕ) → number < length content.types → (state : Shown) × IsStateOfType content number state
 state_of_type content number below =
     let none : LocalType = record { offset = pos 0; daylight = false; place = 0 } in
     state_at content.names (slice_get content.types number) (get_or content.types number none) (slice_get-get_or content.types number none below)

@@ -11,6 +11,7 @@ pub mod ReadPieces
 pub mod ReadTransitions
 pub mod Search
 pub mod Spans
+pub mod States
 pub mod Transitions
 pub mod Windows
 pub mod WriteBlock

@@ -4,7 +4,7 @@ ghost use Rattle.std.specs.Prelude.{◌≡◌, ◌<◌, ◌≤◌, length, map, 
 ghost use Rattle.zic_content.specs.Content.{IsLocalType};
 ghost use Rattle.zic_tzif.specs.code.Kept.{name_length};
 
-use crate::designation::{designation, designation_of};
+use crate::designation::designation;
 use crate::stored::Stored;
 use crate::times::Times;
 use std::alloc::{AllocError, Global};
@@ -14,6 +14,7 @@ use zic_content::LocalType;
 use zic_posix::Footer;
 
 mod span;
+mod states;
 
 pub use span::AnswerSpan;
 
@@ -71,7 +72,6 @@ impl Zone {
     ghost use Rattle.zic_base.specs.State.{shown};
     ghost use Rattle.zic_tzif.specs.Answer.{Answers, answered};
     ghost use Rattle.zic_tzif.specs.code.After.{IsNumberAfter, IsStateAfter};
-    ghost use Rattle.zic_content.specs.Content.{IsStateOfType};
     ghost use Rattle.zic_tzif.specs.code.Kept.{IsKept};
     ghost use Rattle.zic_tzif.specs.code.Stored.{stored_content};
 
@@ -88,7 +88,7 @@ impl Zone {
         let lengths = name_lengths(alloc, &stored.names, &stored.types)?;
         Ok(Zone {
             version: stored.version,
-            times: Times::new(stored.times),
+            times: Times::new(alloc, stored.times)?,
             numbers: stored.numbers,
             types: stored.types,
             lengths,
@@ -142,7 +142,7 @@ impl Zone {
     }
 
     /// Returns the number of the type in force after `count` transitions.
-    fn number_after(&self, count: usize) -> u8
+    fn number_after(&self, count: usize) -> usize
         requires { count ≤ length self.now.changes }
         ensures number { IsNumberAfter self.now.changes count result }
         ensures inside { result < length self.now.types }
@@ -151,21 +151,7 @@ impl Zone {
         if count == 0 {
             return 0;
         }
-        numbers[count - 1]
-    }
-
-    /// Returns local time of the type of a number.
-    fn state_of(&self, number: u8) -> State<'_>
-        requires { number < length self.now.types }
-        ensures { IsStateOfType self.now number (shown result) }
-    {
-        let local_type = self.types[number as usize];
-        let length = self.lengths[number as usize];
-        State {
-            offset: local_type.offset,
-            daylight: local_type.daylight,
-            name: designation_of(&self.names, local_type.place, length),
-        }
+        usize::from(numbers[count - 1])
     }
 }
 

@@ -37,7 +37,8 @@ returns-clause-number c =
     let at = number_at times numbers k m as_many (slice_get-get_or numbers k 0 within) in
     let there = subst (λ (content : Content). IsSomeAnd (slice_get content.changes k) (λ c. m ≡ c.number)) c.self.view_is at in
     let after = numbered c.args.self.now.changes c.args.count m k is there in
-    subst (λ (xs : List ℕ). IsNumberAfter c.args.self.now.changes c.args.count (get_or xs k 0)) (sym c.as_slice-numbers.ensures.value) after
+    let read = subst (λ (xs : List ℕ). IsNumberAfter c.args.self.now.changes c.args.count (get_or xs k 0)) (sym c.as_slice-numbers.ensures.value) after in
+    subst (λ (found : ℕ). IsNumberAfter c.args.self.now.changes c.args.count found) (sym c.from.ensures) read
 
 pub returns-clause-inside : goal.returns-clause-inside
 returns-clause-inside c =

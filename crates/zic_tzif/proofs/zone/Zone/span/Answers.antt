@@ -1,4 +1,4 @@
-use Rattle.std.proofs.Common.{◌≡◌, ℕ, ◌≤◌, ℤ, List, length, FitsSigned, w64, to_z-of_z, refl, ap, subst, arith, rules}
+use Rattle.std.proofs.Common.{◌≡◌, ℕ, ◌+◌, ◌≤◌, ◌⊎◌, inl, inr, true, false, ℤ, List, length, FitsSigned, w64, to_z-of_z, refl, ap, subst, arith, rules}
 use Rattle.zic_base.specs.State.{shown}
 use Rattle.zic_posix.specs.declared.instants.Instants.{Instants}
 use Rattle.zic_posix.specs.Instants.{Includes}
@@ -9,8 +9,10 @@ use Rattle.zic_tzif.specs.code.Kept.{IsKept}
 use Rattle.zic_tzif.specs.code.Window.{IsSplit}
 use Rattle.zic_tzif.proofs.Search.{times_rise, kept_footer, kept_none}
 use Rattle.zic_tzif.proofs.Spans.{IsPlaced, placed, type_throughout, changes_before_last, open_throughout, changes_without_footer, asked_of_both, footer_throughout, changes_with_footer}
+use Rattle.zic_tzif.proofs.States.{footer_numbered}
 use Rattle.zic_tzif.proofs.Transitions.{changes_length}
 use Rattle.zic_tzif.proofs.zone.Zone.span.Goals as goal
+use Rattle.zic_tzif.proofs.zone.Zone.span.Goals.{then-span, else-span}
 
 -- there are as many transitions as numbers
 as_long : (times : List ℤ) (numbers : List ℕ) (changes : List Change) → length times ≡ length numbers → changes_at times numbers ≡ changes → length changes ≡ length numbers
@@ -21,8 +23,8 @@ as_long times numbers changes as_many same =
 pub gap_at-gap-requires : goal.gap_at-gap-requires
 gap_at-gap-requires c = times_rise c.self.inside.times.times.items c.self.inside.numbers.items c.self.invariant.as_many c.self.invariant.kept.rising
 
-pub state_after-requires : goal.state_after-requires
-state_after-requires c =
+pub number_after-number-requires : goal.number_after-number-requires
+number_after-number-requires c =
     let times = c.self.inside.times.times.items in
     let numbers = c.self.inside.numbers.items in
     let as_many = c.self.invariant.as_many in
@@ -46,7 +48,8 @@ returns-then-gap-len-clause-answers c =
     let p : IsPlaced content t n gap = placed content times numbers t n gap as_many same split here c.gap_at-gap.ensures.between in
     let long = as_long times numbers content.changes as_many same in
     let inside = c.if-gap-len.true in
-    type_throughout content t n gap p (shown c.state_after.result) (omega (arith, inside, c.len.ensures, long)) c.state_after.ensures
+    type_throughout content t n gap p (shown c.state_of.result) (omega (arith, inside, c.len.ensures, long))
+    (c.number_after-number.result, c.number_after-number.ensures.number, c.state_of.ensures)
 
 pub returns-then-gap-len-clause-changes : goal.returns-then-gap-len-clause-changes
 returns-then-gap-len-clause-changes c =
@@ -65,8 +68,8 @@ returns-then-gap-len-clause-changes c =
     let inside = c.if-gap-len.true in
     changes_before_last content t n gap p (omega (arith, inside, c.len.ensures, long))
 
-pub returns-in-Some : goal.returns-in-Some
-returns-in-Some c =
+pub returns-after-span : goal.returns-after-span
+returns-after-span c =
     let content = c.args.self.now in
     let footer = c.self.inside.footer in
     let t = c.args.t in
@@ -93,10 +96,19 @@ returns-in-Some c =
     let first = rw (to_z-of_z gap_fits, to_z-of_z begin_fits) at c.max-first.ensures.value in
     let instants : Instants = record { first = c.max-first.result; last = span.last } in
     let is_footer = kept_footer content footer f kept.footer_is c.in-Some.is in
+    let means = c.span-span.ensures.means t asked in
+    let types = ap (λ (content : Content). length content.types) c.self.view_is in
+    let shows = (shown c.span-span.result.state).daylight in
+    let number = c.if-span.number in
+    let numbered : ((shows ≡ true) × (number ≡ length content.types + 1)) ⊎ ((shows ≡ false) × (number ≡ length content.types)) = elim c.if-span.branch [
+      | then-span w ↦ let is = w.number-is in inl (w.if-span.true, omega (arith, is, c.len-standard.ensures, types))
+      | else-span w ↦ let is = w.number-is in inr (w.if-span.false, omega (arith, is, c.len-standard.ensures, types))
+    ] in
     rw (to_z-of_z first_fits, to_z-of_z end_fits) (record {
       asked = asked_of_both content t n gap p f span instants all is_footer asked c.span-span.ensures.edges end_fits first refl;
       answers = footer_throughout content t n gap p f span instants all is_footer asked c.span-span.ensures.edges end_fits first refl (shown c.span-span.result.state) c.span-span.ensures.means;
       changes = changes_with_footer content t n gap p f span instants all is_footer asked c.span-span.ensures.edges end_fits first refl;
+      number = footer_numbered content f t (shown c.span-span.result.state) number is_footer.spells means numbered;
     })
 
 pub returns-in-None-clause-changes : goal.returns-in-None-clause-changes
