@@ -18,33 +18,26 @@ awk '
         return text ? "\n" title ":\n" text : ""
     }
 
-    function field(word, text) {
-        printf "        %s: r#\"%s\"#,\n", word, text
-    }
-
     /^;/ || /^$/ { next }
     /^# / { group = name = substr($0, 3); next }
     /^## / { names[++count] = name = substr($0, 4); groups[name] = group; next }
     /^[a-z]+:$/ { word = substr($0, 1, length($0) - 1); next }
+    /[@?]/ { print "errors.txt has @ or ?, which stand between texts: " $0 >"/dev/stderr"; exit 1 }
     { texts[name, word] = texts[name, word] $0 "\n" }
 
     END {
         print "//! The texts of the errors. This file is generated from docs/errors.txt by docs/make-texts.sh.\n"
-        print "use crate::entry::Entry;\n"
-        print "/// All errors, in the order of docs/ERRORS.md."
-        printf "pub(crate) static ENTRIES: [Entry; %d] = [\n", count
+        print "/// All errors, in the order of docs/ERRORS.md, with `@` between two of them, and of each its name,"
+        print "/// the first sentence of its meaning, its meaning, what is expected, and its examples, with `?`"
+        print "/// between two of them."
+        printf "pub(crate) const TEXTS: &str =\n    r#\""
         for (i = 1; i <= count; i++) {
             name = names[i]
-            print "    Entry {"
-            field("name", name)
-            field("meaning", first(texts[name, "says"]))
-            field("says", texts[name, "says"])
-            field("expected", texts[name, "expected"])
             setup = (name, "wrong") in texts ? texts[groups[name], "setup"] : ""
-            field("examples", part("The examples use", setup) part("Wrong", texts[name, "wrong"]) \
+            printf "%s%s?%s?%s?%s?%s", (i > 1 ? "@" : ""), name, first(texts[name, "says"]), texts[name, "says"], \
+                texts[name, "expected"], part("The examples use", setup) part("Wrong", texts[name, "wrong"]) \
                 part("It prints", texts[name, "prints"]) part("Right", texts[name, "right"]) \
-                part("Usual cause", texts[name, "meant"]))
-            print "    },"
+                part("Usual cause", texts[name, "meant"])
         }
-        print "];"
+        print "\"#;"
     }' errors.txt

@@ -270,11 +270,12 @@ fn show(alloc: Global, matches: &ArgMatches<'_>) -> Result<Request, NoRequest> {
 }
 
 fn explain(alloc: Global, matches: &ArgMatches<'_>) -> Result<Request, NoRequest> {
+    let entries = entries(alloc)?;
     let Some(name) = matches.get_str("NAME") else {
-        let text = index(alloc, entries())?;
+        let text = index(alloc, &entries)?;
         return Ok(Request::Explain { text });
     };
-    match explanation(alloc, entries(), name) {
+    match explanation(alloc, &entries, name) {
         Ok(text) => Ok(Request::Explain { text }),
         Err(Unexplained::NoError { nearest }) => Err(no_error(alloc, name, nearest)),
         Err(Unexplained::Memory) => Err(NoRequest::Memory),

@@ -5,7 +5,6 @@ ghost use Rattle.std.specs.List.{flat_map};
 ghost use Rattle.zic_explain.specs.Explanation.{section, explanation_text, index_line, IsExplanation, IsUnexplained, HasName, HasNoName, IsNearest};
 
 use crate::entry::Entry;
-use crate::texts::ENTRIES;
 use std::alloc::{AllocError, Global};
 use strsim::levenshtein;
 
@@ -29,13 +28,6 @@ impl From<AllocError> for Unexplained {
     fn from(_e: AllocError) -> Unexplained {
         Unexplained::Memory
     }
-}
-
-/// Returns what is told of each error that the program prints, in the order of docs/ERRORS.md.
-pub fn entries() -> &'static [Entry]
-    ensures { 0 < length result.now }
-{
-    &ENTRIES
 }
 
 /// Returns the explanation of the error of this name: lines that say what it means, what is

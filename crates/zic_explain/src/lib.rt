@@ -6,5 +6,5 @@ mod entry;
 mod explain;
 mod texts;
 
-pub use entry::Entry;
-pub use explain::{Unexplained, entries, explanation, index};
+pub use entry::{Entry, entries};
+pub use explain::{Unexplained, explanation, index};

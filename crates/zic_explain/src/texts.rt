@@ -1,19 +1,14 @@
 //! The texts of the errors. This file is generated from docs/errors.txt by docs/make-texts.sh.
 
-use crate::entry::Entry;
-
-/// All errors, in the order of docs/ERRORS.md.
-pub(crate) static ENTRIES: [Entry; 61] = [
-    Entry {
-        name: r#"NotAscii"#,
-        meaning: r#"A byte outside a comment is neither white space nor a visible ASCII character."#,
-        says: r#"  A byte outside a comment is neither white space nor a visible ASCII
+/// All errors, in the order of docs/ERRORS.md, with `@` between two of them, and of each its name,
+/// the first sentence of its meaning, its meaning, what is expected, and its examples, with `?`
+/// between two of them.
+pub(crate) const TEXTS: &str =
+    r#"NotAscii?A byte outside a comment is neither white space nor a visible ASCII character.?  A byte outside a comment is neither white space nor a visible ASCII
   character.
-"#,
-        expected: r#"  Fields consist of the bytes 0x21 to 0x7E. White space is space, tab, vertical
+?  Fields consist of the bytes 0x21 to 0x7E. White space is space, tab, vertical
   tab, form feed and carriage return. A comment may contain any byte.
-"#,
-        examples: r#"
+?
 Wrong:
   Zone America/Asunción -4:00 - %z
 
@@ -26,17 +21,10 @@ Right:
 Usual cause:
   A name with an accent, a no-break space or typographic quotes pasted from a
   word processor, or a file saved with a byte order mark or as UTF-16.
-"#,
-    },
-    Entry {
-        name: r#"Quote"#,
-        meaning: r#"A double quote opens a quoted part that isn't closed on the same line."#,
-        says: r#"  A double quote opens a quoted part that isn't closed on the same line.
-"#,
-        expected: r#"  Double quotes in pairs, each pair on one line. A quote itself can't be
+@Quote?A double quote opens a quoted part that isn't closed on the same line.?  A double quote opens a quoted part that isn't closed on the same line.
+?  Double quotes in pairs, each pair on one line. A quote itself can't be
   written in a field.
-"#,
-        examples: r#"
+?
 Wrong:
   Zone "Etc/UTC 0 - UTC
 
@@ -48,16 +36,9 @@ Right:
 
 Usual cause:
   A missing closing quote, or a quote that belongs in a comment.
-"#,
-    },
-    Entry {
-        name: r#"LineTooLong"#,
-        meaning: r#"A line has more than 2,048 bytes."#,
-        says: r#"  A line has more than 2,048 bytes.
-"#,
-        expected: r#"  At most 2,048 bytes before each newline, including any comment.
-"#,
-        examples: r#"
+@LineTooLong?A line has more than 2,048 bytes.?  A line has more than 2,048 bytes.
+?  At most 2,048 bytes before each newline, including any comment.
+?
 Wrong:
   $ printf 'Zone Etc/UTC 0 - UTC #%2048s\n' '' | pzic check -
 
@@ -70,18 +51,11 @@ Right:
 Usual cause:
   A file that isn't a source, such as a compiled file, or a text whose lines
   end with a carriage return alone, which doesn't end a line here.
-"#,
-    },
-    Entry {
-        name: r#"Keyword"#,
-        meaning: r#"The first field of a line isn't Rule, Zone or Link."#,
-        says: r#"  The first field of a line isn't Rule, Zone or Link.
-"#,
-        expected: r#"  `Rule`, `Zone` or `Link`, or an abbreviation of one, in upper or lower case.
+@Keyword?The first field of a line isn't Rule, Zone or Link.?  The first field of a line isn't Rule, Zone or Link.
+?  `Rule`, `Zone` or `Link`, or an abbreviation of one, in upper or lower case.
   A line without a keyword is a continuation, and may follow only a line with
   an UNTIL. Leap and Expires lines aren't supported.
-"#,
-        examples: r#"
+?
 Wrong:
   Zone America/Chicago -5:50:36 - LMT
   -6:00 - CST
@@ -96,18 +70,11 @@ Right:
 Usual cause:
   The UNTIL is missing from the line before a continuation; or the file is a
   list of leap seconds or another table of the tz database, such as zone.tab.
-"#,
-    },
-    Entry {
-        name: r#"FieldCount"#,
-        meaning: r#"A line has too few or too many fields."#,
-        says: r#"  A line has too few or too many fields.
-"#,
-        expected: r#"  10 fields: `Rule NAME FROM TO - IN ON AT SAVE LETTER`; 5 to 9: `Zone NAME
+@FieldCount?A line has too few or too many fields.?  A line has too few or too many fields.
+?  10 fields: `Rule NAME FROM TO - IN ON AT SAVE LETTER`; 5 to 9: `Zone NAME
   STDOFF RULES FORMAT [YEAR [MONTH [DAY [TIME]]]]`; 3 to 7: a continuation,
   which is the same from STDOFF on; 3: `Link TARGET NAME`.
-"#,
-        examples: r#"
+?
 Wrong:
   Rule US 2007 max - Mar Sun>=8 2:00 1:00
 
@@ -120,19 +87,12 @@ Right:
 Usual cause:
   A missing `-` for an empty field, or a space inside a name or in `Sun >= 8`.
   If the line before has an UNTIL, this line was read as its continuation.
-"#,
-    },
-    Entry {
-        name: r#"Name"#,
-        meaning: r#"The name of a zone, a link, a link's target or a rule set isn't allowed."#,
-        says: r#"  The name of a zone, a link, a link's target or a rule set isn't allowed.
-"#,
-        expected: r#"  A zone or link name: 1 to 255 ASCII letters, digits, `_`, `-`, `+`, `.` and
+@Name?The name of a zone, a link, a link's target or a rule set isn't allowed.?  The name of a zone, a link, a link's target or a rule set isn't allowed.
+?  A zone or link name: 1 to 255 ASCII letters, digits, `_`, `-`, `+`, `.` and
   `/`, where no part between slashes is empty, `.` or `..`. The name of a rule
   set: 1 to 255 visible ASCII characters, not beginning with a digit, `-` or
   `+`. `-` alone isn't a name.
-"#,
-        examples: r#"
+?
 Wrong:
   Zone /Etc/UTC 0 - UTC
 
@@ -144,17 +104,10 @@ Right:
 
 Usual cause:
   An absolute path, or a space, for which `_` is used.
-"#,
-    },
-    Entry {
-        name: r#"Year"#,
-        meaning: r#"FROM or TO isn't a year."#,
-        says: r#"  FROM or TO isn't a year.
-"#,
-        expected: r#"  FROM: a year from 1 to 9000. TO: such a year, `only` or `maximum`. These
+@Year?FROM or TO isn't a year.?  FROM or TO isn't a year.
+?  FROM: a year from 1 to 9000. TO: such a year, `only` or `maximum`. These
   words may be abbreviated, `maximum` to no less than `ma`.
-"#,
-        examples: r#"
+?
 Wrong:
   Rule US min max - Mar Sun>=8 2:00 1:00 D
 
@@ -167,16 +120,9 @@ Right:
 Usual cause:
   FROM is `minimum`, which older versions of zic accept: write the year in
   which the rule began. Or a field is missing before FROM.
-"#,
-    },
-    Entry {
-        name: r#"YearOrder"#,
-        meaning: r#"TO is before FROM."#,
-        says: r#"  TO is before FROM.
-"#,
-        expected: r#"  The earlier year first.
-"#,
-        examples: r#"
+@YearOrder?TO is before FROM.?  TO is before FROM.
+?  The earlier year first.
+?
 Wrong:
   Rule US 2006 1987 - Apr Sun>=1 2:00 1:00 D
 
@@ -188,16 +134,9 @@ Right:
 
 Usual cause:
   The two years are swapped.
-"#,
-    },
-    Entry {
-        name: r#"Reserved"#,
-        meaning: r#"The fifth field of a Rule line isn't `-`."#,
-        says: r#"  The fifth field of a Rule line isn't `-`.
-"#,
-        expected: r#"  `-`. In old sources this field was the type of year, such as `even`.
-"#,
-        examples: r#"
+@Reserved?The fifth field of a Rule line isn't `-`.?  The fifth field of a Rule line isn't `-`.
+?  `-`. In old sources this field was the type of year, such as `even`.
+?
 Wrong:
   Rule AN 1986 1989 even Mar Sun>=15 2:00s 0 -
 
@@ -211,17 +150,10 @@ Right:
 Usual cause:
   An old source: write a line for each year. Or the `-` is missing, and IN
   stands in its place.
-"#,
-    },
-    Entry {
-        name: r#"Month"#,
-        meaning: r#"IN isn't a month."#,
-        says: r#"  IN isn't a month.
-"#,
-        expected: r#"  The English name of a month or an unambiguous abbreviation, such as `Ja`,
+@Month?IN isn't a month.?  IN isn't a month.
+?  The English name of a month or an unambiguous abbreviation, such as `Ja`,
   `Mar` or `S`. `M`, `Ma`, `J`, `Ju` and `A` are ambiguous.
-"#,
-        examples: r#"
+?
 Wrong:
   Rule US 2007 max - 3 Sun>=8 2:00 1:00 D
 
@@ -233,20 +165,13 @@ Right:
 
 Usual cause:
   A number instead of a name.
-"#,
-    },
-    Entry {
-        name: r#"Day"#,
-        meaning: r#"ON isn't a day of the month."#,
-        says: r#"  ON isn't a day of the month.
-"#,
-        expected: r#"  A day such as `8`; the last weekday of the month, `lastSun`; the first
+@Day?ON isn't a day of the month.?  ON isn't a day of the month.
+?  A day such as `8`; the last weekday of the month, `lastSun`; the first
   weekday on or after a day, `Sun>=8`; or the last on or before a day,
   `Sun<=25`. The day must exist in that month. `29` in February is allowed
   alone only if FROM and TO are the same leap year, and not after `>=`. `S` and
   `T` are ambiguous weekdays.
-"#,
-        examples: r#"
+?
 Wrong:
   Rule US 2007 max - Mar Sun>8 2:00 1:00 D
 
@@ -258,19 +183,12 @@ Right:
 
 Usual cause:
   `>` instead of `>=`, `last` without a weekday, or February 29 in every year.
-"#,
-    },
-    Entry {
-        name: r#"Time"#,
-        meaning: r#"AT isn't a time."#,
-        says: r#"  AT isn't a time.
-"#,
-        expected: r#"  `h`, `h:mm` or `h:mm:ss`, with an optional fraction of a second, at most
+@Time?AT isn't a time.?  AT isn't a time.
+?  `h`, `h:mm` or `h:mm:ss`, with an optional fraction of a second, at most
   300:00:00. `-` before it means before midnight, and `-` alone is 0:00. A
   letter after it names the clock: `w` for wall clock time (the default), `s`
   for standard time, `u`, `g` or `z` for UT.
-"#,
-        examples: r#"
+?
 Wrong:
   Rule US 2007 max - Mar Sun>=8 2am 1:00 D
 
@@ -282,19 +200,12 @@ Right:
 
 Usual cause:
   `2am` or `2.00` instead of `2:00`, or a `+` sign.
-"#,
-    },
-    Entry {
-        name: r#"Save"#,
-        meaning: r#"SAVE, or an amount in RULES, isn't an amount of time that can be saved."#,
-        says: r#"  SAVE, or an amount in RULES, isn't an amount of time that can be saved.
-"#,
-        expected: r#"  A time as in AT, at most 24:00:00, with `-` before it if it is negative and
+@Save?SAVE, or an amount in RULES, isn't an amount of time that can be saved.?  SAVE, or an amount in RULES, isn't an amount of time that can be saved.
+?  A time as in AT, at most 24:00:00, with `-` before it if it is negative and
   without a `+`. `s` after it means standard time and `d` daylight saving time;
   without a letter 0 is standard time and any other amount daylight saving
   time.
-"#,
-        examples: r#"
+?
 Wrong:
   Rule US 2007 max - Mar Sun>=8 2:00 +1:00 D
 
@@ -307,16 +218,9 @@ Right:
 Usual cause:
   A `+` sign; minutes, although `60` means 60 hours; or, on a Zone line, the
   name of a rule set that begins with a digit.
-"#,
-    },
-    Entry {
-        name: r#"Letter"#,
-        meaning: r#"LETTER can't be part of an abbreviation."#,
-        says: r#"  LETTER can't be part of an abbreviation.
-"#,
-        expected: r#"  `-` for nothing, or 1 to 16 ASCII letters, digits, `+` and `-`.
-"#,
-        examples: r#"
+@Letter?LETTER can't be part of an abbreviation.?  LETTER can't be part of an abbreviation.
+?  `-` for nothing, or 1 to 16 ASCII letters, digits, `+` and `-`.
+?
 Wrong:
   Rule US 2007 max - Mar Sun>=8 2:00 1:00 D/S
 
@@ -328,17 +232,10 @@ Right:
 
 Usual cause:
   Two letters with a slash, which belong in FORMAT.
-"#,
-    },
-    Entry {
-        name: r#"Offset"#,
-        meaning: r#"STDOFF isn't a UT offset."#,
-        says: r#"  STDOFF isn't a UT offset.
-"#,
-        expected: r#"  A time as in AT but without a letter, at most 24:00:00: positive east of
+@Offset?STDOFF isn't a UT offset.?  STDOFF isn't a UT offset.
+?  A time as in AT but without a letter, at most 24:00:00: positive east of
   Greenwich, with `-` west of it, and without a `+`.
-"#,
-        examples: r#"
+?
 Wrong:
   Zone Europe/Dublin 0:00 - GMT 1968
   Zone Etc/UTC 0 - UTC
@@ -355,19 +252,12 @@ Usual cause:
   The line before has an UNTIL, so this line was read as its continuation: add
   the continuation, or drop the UNTIL. Otherwise a `+` sign, or seconds instead
   of hours.
-"#,
-    },
-    Entry {
-        name: r#"Format"#,
-        meaning: r#"FORMAT has a `%` or a `/` in the wrong place."#,
-        says: r#"  FORMAT has a `%` or a `/` in the wrong place.
-"#,
-        expected: r#"  An abbreviation; or one that contains `%s`, which is replaced by LETTER, or
+@Format?FORMAT has a `%` or a `/` in the wrong place.?  FORMAT has a `%` or a `/` in the wrong place.
+?  An abbreviation; or one that contains `%s`, which is replaced by LETTER, or
   `%z`, which is replaced by the UT offset, once and without a `/`; or two
   abbreviations with a `/` between them, the first for standard time. `-` is
   the empty abbreviation.
-"#,
-        examples: r#"
+?
 Wrong:
   Zone Europe/London 0:00 - %s/%s
 
@@ -379,17 +269,10 @@ Right:
 
 Usual cause:
   `%s` on both sides of a slash, or another `%`.
-"#,
-    },
-    Entry {
-        name: r#"Until"#,
-        meaning: r#"A field of an UNTIL is wrong."#,
-        says: r#"  A field of an UNTIL is wrong.
-"#,
-        expected: r#"  `YEAR [MONTH [DAY [TIME]]]`, each as on a Rule line. The defaults are
+@Until?A field of an UNTIL is wrong.?  A field of an UNTIL is wrong.
+?  `YEAR [MONTH [DAY [TIME]]]`, each as on a Rule line. The defaults are
   January, 1 and 0:00. A plain day must exist in that month of that year.
-"#,
-        examples: r#"
+?
 Wrong:
   Zone Etc/Test 0 - AAA 2001 Feb 29
   0 - BBB
@@ -404,17 +287,10 @@ Right:
 Usual cause:
   A day that the month doesn't have, the order day, month, year, or a comment
   without its `#`.
-"#,
-    },
-    Entry {
-        name: r#"NoContinuation"#,
-        meaning: r#"The source ends after a line with an UNTIL."#,
-        says: r#"  The source ends after a line with an UNTIL.
-"#,
-        expected: r#"  A continuation after each line with an UNTIL, in the same source. The message
+@NoContinuation?The source ends after a line with an UNTIL.?  The source ends after a line with an UNTIL.
+?  A continuation after each line with an UNTIL, in the same source. The message
   names the last line with an UNTIL.
-"#,
-        examples: r#"
+?
 Wrong:
   Zone Etc/Test 0 - AAA 2001
 
@@ -428,16 +304,9 @@ Right:
 Usual cause:
   An UNTIL that says how long the data is known: drop it. Or a zone that is cut
   off, or that continues in another file.
-"#,
-    },
-    Entry {
-        name: r#"DuplicateName"#,
-        meaning: r#"A Zone or Link line has the name of an earlier Zone or Link line."#,
-        says: r#"  A Zone or Link line has the name of an earlier Zone or Link line.
-"#,
-        expected: r#"  Each name once in all the sources that are given together.
-"#,
-        examples: r#"
+@DuplicateName?A Zone or Link line has the name of an earlier Zone or Link line.?  A Zone or Link line has the name of an earlier Zone or Link line.
+?  Each name once in all the sources that are given together.
+?
 Wrong:
   Zone Etc/UTC 0 - UTC
   Zone Etc/UTC 0 - UTC
@@ -452,17 +321,10 @@ Right:
 Usual cause:
   The same source given twice; or the tz database's `backzone` given with
   `backward`, which has links for the names of its zones.
-"#,
-    },
-    Entry {
-        name: r#"TooMany"#,
-        meaning: r#"This line exceeds one of the limits on the number of lines."#,
-        says: r#"  This line exceeds one of the limits on the number of lines.
-"#,
-        expected: r#"  At most 1,000 Rule lines of one set, 10,000 Rule lines, 10,000 Zone and
+@TooMany?This line exceeds one of the limits on the number of lines.?  This line exceeds one of the limits on the number of lines.
+?  At most 1,000 Rule lines of one set, 10,000 Rule lines, 10,000 Zone and
   continuation lines together, and 10,000 names of zones and links.
-"#,
-        examples: r#"
+?
 Wrong:
   $ for i in $(seq 10001); do echo "Zone Z/$i 0 - UTC"; done | pzic check -
 
@@ -475,17 +337,10 @@ Right:
 Usual cause:
   A generated source. Build it in parts into one folder, each part with the
   rules and the link targets that it uses.
-"#,
-    },
-    Entry {
-        name: r#"UnknownRules"#,
-        meaning: r#"RULES names a rule set that has no Rule line."#,
-        says: r#"  RULES names a rule set that has no Rule line.
-"#,
-        expected: r#"  A Rule line of that name, before or after the zone, in any of the sources
+@UnknownRules?RULES names a rule set that has no Rule line.?  RULES names a rule set that has no Rule line.
+?  A Rule line of that name, before or after the zone, in any of the sources
   that are given together. Names are case-sensitive.
-"#,
-        examples: r#"
+?
 Wrong:
   Zone Europe/Paris 1:00 EU CE%sT
 
@@ -500,17 +355,10 @@ Right:
 Usual cause:
   One file of the tz database without the file that has its rules: give them
   together. Or a misspelt name.
-"#,
-    },
-    Entry {
-        name: r#"UnknownTarget"#,
-        meaning: r#"A link leads to a name that no Zone or Link line has."#,
-        says: r#"  A link leads to a name that no Zone or Link line has.
-"#,
-        expected: r#"  `Link TARGET NAME`: the existing name first. The target may be another link,
+@UnknownTarget?A link leads to a name that no Zone or Link line has.?  A link leads to a name that no Zone or Link line has.
+?  `Link TARGET NAME`: the existing name first. The target may be another link,
   and may come later.
-"#,
-        examples: r#"
+?
 Wrong:
   Zone Etc/UTC 0 - UTC
   Link UTC Etc/UTC0
@@ -525,16 +373,9 @@ Right:
 Usual cause:
   The two names are swapped, or `backward` was given without the files that
   have its targets.
-"#,
-    },
-    Entry {
-        name: r#"LinkCycle"#,
-        meaning: r#"A link leads back to itself and never to a zone."#,
-        says: r#"  A link leads back to itself and never to a zone.
-"#,
-        expected: r#"  A chain of links that ends at a zone.
-"#,
-        examples: r#"
+@LinkCycle?A link leads back to itself and never to a zone.?  A link leads back to itself and never to a zone.
+?  A chain of links that ends at a zone.
+?
 Wrong:
   Link UTC UCT
   Link UCT UTC
@@ -549,17 +390,10 @@ Right:
 
 Usual cause:
   Two links that name each other.
-"#,
-    },
-    Entry {
-        name: r#"OffsetRange"#,
-        meaning: r#"STDOFF plus the saving exceeds 24:00:00 either way."#,
-        says: r#"  STDOFF plus the saving exceeds 24:00:00 either way.
-"#,
-        expected: r#"  A total within 24:00:00, for the amount in RULES or for the SAVE of every
+@OffsetRange?STDOFF plus the saving exceeds 24:00:00 either way.?  STDOFF plus the saving exceeds 24:00:00 either way.
+?  A total within 24:00:00, for the amount in RULES or for the SAVE of every
   rule of the set, even of one that never applies to this line.
-"#,
-        examples: r#"
+?
 Wrong:
   Zone Etc/Test 23:30 1:00 AAA 2000
   0 - BBB
@@ -573,18 +407,11 @@ Right:
 
 Usual cause:
   Minutes instead of hours: an hour is `1:00` or `1`, and `12` means 12 hours.
-"#,
-    },
-    Entry {
-        name: r#"RulesOutOfOrder"#,
-        meaning: r#"In some year two rules of a set take effect at the same time or in the wrong order."#,
-        says: r#"  In some year two rules of a set take effect at the same time or in the wrong
+@RulesOutOfOrder?In some year two rules of a set take effect at the same time or in the wrong order.?  In some year two rules of a set take effect at the same time or in the wrong
   order.
-"#,
-        expected: r#"  The times of all rules of the set rise strictly, by their own clocks and as
+?  The times of all rules of the set rise strictly, by their own clocks and as
   instants, in every year to come.
-"#,
-        examples: r#"
+?
 Wrong:
   Rule B 2000 max - Mar 1 0:00 1:00 D
   Rule B 2000 max - Mar Sun>=1 0:00 0 S
@@ -601,16 +428,9 @@ Right:
 Usual cause:
   A rule given twice, two days that coincide in some years (here in 2009), or
   two rule sets with the same name.
-"#,
-    },
-    Entry {
-        name: r#"UntilNotRising"#,
-        meaning: r#"An UNTIL isn't later than the one before it."#,
-        says: r#"  An UNTIL isn't later than the one before it.
-"#,
-        expected: r#"  Each UNTIL of a zone is later than the UNTIL of the line before.
-"#,
-        examples: r#"
+@UntilNotRising?An UNTIL isn't later than the one before it.?  An UNTIL isn't later than the one before it.
+?  Each UNTIL of a zone is later than the UNTIL of the line before.
+?
 Wrong:
   Zone Etc/Test 0 - AAA 2000
   0 - BBB 1999
@@ -627,18 +447,11 @@ Right:
 Usual cause:
   Lines in the wrong order, or two changes within an hour, one by wall clock
   time and one in UT.
-"#,
-    },
-    Entry {
-        name: r#"NoLetter"#,
-        meaning: r#"FORMAT has `%s`, and at some instant there is no LETTER for it."#,
-        says: r#"  FORMAT has `%s`, and at some instant there is no LETTER for it.
-"#,
-        expected: r#"  `%s` on lines whose RULES name a set. Before the first rule of the set takes
+@NoLetter?FORMAT has `%s`, and at some instant there is no LETTER for it.?  FORMAT has `%s`, and at some instant there is no LETTER for it.
+?  `%s` on lines whose RULES name a set. Before the first rule of the set takes
   effect, the LETTER is that of its first rule of standard time, so it must
   have one.
-"#,
-        examples: r#"
+?
 Wrong:
   Zone Europe/Paris 1:00 - CE%sT
 
@@ -650,17 +463,10 @@ Right:
 
 Usual cause:
   RULES is `-`, or no rule of the set is of standard time.
-"#,
-    },
-    Entry {
-        name: r#"BadAbbreviation"#,
-        meaning: r#"At some instant the abbreviation is too short, too long or has a character that isn't allowed."#,
-        says: r#"  At some instant the abbreviation is too short, too long or has a character
+@BadAbbreviation?At some instant the abbreviation is too short, too long or has a character that isn't allowed.?  At some instant the abbreviation is too short, too long or has a character
   that isn't allowed.
-"#,
-        expected: r#"  FORMAT and LETTER together give 3 to 16 ASCII letters, digits, `+` and `-`.
-"#,
-        examples: r#"
+?  FORMAT and LETTER together give 3 to 16 ASCII letters, digits, `+` and `-`.
+?
 Wrong:
   Zone Etc/Test 0 - Z
 
@@ -673,18 +479,11 @@ Right:
 Usual cause:
   FORMAT is `-` or a single letter, or `%s` has an empty LETTER. Use `%z` for
   the offset, or `-00` if local time isn't known.
-"#,
-    },
-    Entry {
-        name: r#"NoFooter"#,
-        meaning: r#"No POSIX TZ string continues as the rules of the zone's last line do."#,
-        says: r#"  No POSIX TZ string continues as the rules of the zone's last line do.
-"#,
-        expected: r#"  The set has no rule, one rule or two rules with TO `max`. Two such rules are
+@NoFooter?No POSIX TZ string continues as the rules of the zone's last line do.?  No POSIX TZ string continues as the rules of the zone's last line do.
+?  The set has no rule, one rule or two rules with TO `max`. Two such rules are
   one of standard time and one of daylight saving time, alternate in every
   year, and have days that POSIX can express; `Sun>=29` is none.
-"#,
-        examples: r#"
+?
 Wrong:
   Rule A 2000 max - Mar lastSun 2:00 1:00 D
   Rule A 2000 max - Jun Sun>=1 2:00 2:00 M
@@ -703,16 +502,9 @@ Right:
 Usual cause:
   Some of the rules have ended: give those a last year. If all of them really
   go on, give all of them a last year.
-"#,
-    },
-    Entry {
-        name: r#"PermanentDaylight"#,
-        meaning: r#"From some instant on the zone has daylight saving time for ever."#,
-        says: r#"  From some instant on the zone has daylight saving time for ever.
-"#,
-        expected: r#"  A zone that ends with standard time, or that alternates for ever.
-"#,
-        examples: r#"
+@PermanentDaylight?From some instant on the zone has daylight saving time for ever.?  From some instant on the zone has daylight saving time for ever.
+?  A zone that ends with standard time, or that alternates for ever.
+?
 Wrong:
   Zone Etc/Test 1:00 1:00 XXX
 
@@ -725,17 +517,10 @@ Right:
 Usual cause:
   A zone that stayed on summer time: add a line with the new STDOFF and RULES
   `-`. Or a set whose last rule, in its last year, begins daylight saving time.
-"#,
-    },
-    Entry {
-        name: r#"TooManyChanges"#,
-        meaning: r#"A zone has more than 100,000 transitions."#,
-        says: r#"  A zone has more than 100,000 transitions.
-"#,
-        expected: r#"  At most 100,000. Two rules with TO `max` add only a few transitions after the
+@TooManyChanges?A zone has more than 100,000 transitions.?  A zone has more than 100,000 transitions.
+?  At most 100,000. Two rules with TO `max` add only a few transitions after the
   last year that the zone names.
-"#,
-        examples: r#"
+?
 Wrong:
   $ for m in Jan Mar May Jul Sep Nov; do
   >   echo "Rule R 1 9000 - $m 1 0:00 1:00 D"
@@ -752,17 +537,10 @@ Right:
 
 Usual cause:
   A generated source with rules for thousands of years: use TO `max`.
-"#,
-    },
-    Entry {
-        name: r#"TooManyTypes"#,
-        meaning: r#"A zone has more than 256 local time types."#,
-        says: r#"  A zone has more than 256 local time types.
-"#,
-        expected: r#"  At most 256 different combinations of offset, daylight flag and abbreviation,
+@TooManyTypes?A zone has more than 256 local time types.?  A zone has more than 256 local time types.
+?  At most 256 different combinations of offset, daylight flag and abbreviation,
   which is all that a TZif file can number.
-"#,
-        examples: r#"
+?
 Wrong:
   $ types() { for i in $(seq "$1"); do
   >   echo "0:$((i / 60)):$((i % 60)) - AAA $((1969 + i))"
@@ -777,18 +555,11 @@ Right:
 
 Usual cause:
   A generated source.
-"#,
-    },
-    Entry {
-        name: r#"TooManyChars"#,
-        meaning: r#"The abbreviations of a zone have more than 256 bytes."#,
-        says: r#"  The abbreviations of a zone have more than 256 bytes.
-"#,
-        expected: r#"  At most 256 bytes, where each different abbreviation counts with one byte
+@TooManyChars?The abbreviations of a zone have more than 256 bytes.?  The abbreviations of a zone have more than 256 bytes.
+?  At most 256 bytes, where each different abbreviation counts with one byte
   more than it has letters. So there is room for 64 abbreviations of three
   letters.
-"#,
-        examples: r#"
+?
 Wrong:
   $ names() { for i in $(seq 10 $((9 + $1))); do
   >   echo "0 - A$i $((1969 + i))"
@@ -803,16 +574,9 @@ Right:
 
 Usual cause:
   A generated source with a different abbreviation for each change.
-"#,
-    },
-    Entry {
-        name: r#"RowFields"#,
-        meaning: r#"A record doesn't have two fields."#,
-        says: r#"  A record doesn't have two fields.
-"#,
-        expected: r#"  `NAME,SECONDS` with one comma.
-"#,
-        examples: r#"
+@RowFields?A record doesn't have two fields.?  A record doesn't have two fields.
+?  `NAME,SECONDS` with one comma.
+?
 The examples use:
   $ echo 'Zone Etc/UTC 0 - UTC' >utc.zi
 
@@ -828,16 +592,9 @@ Right:
 Usual cause:
   Another separator, or more fields: `cut -d , -f 1,2` keeps two. In row 1: a
   header with other columns.
-"#,
-    },
-    Entry {
-        name: r#"RowZone"#,
-        meaning: r#"The source has no zone or link of that name."#,
-        says: r#"  The source has no zone or link of that name.
-"#,
-        expected: r#"  A name exactly as in the source, including upper and lower case.
-"#,
-        examples: r#"
+@RowZone?The source has no zone or link of that name.?  The source has no zone or link of that name.
+?  A name exactly as in the source, including upper and lower case.
+?
 The examples use:
   $ echo 'Zone Etc/UTC 0 - UTC' >utc.zi
 
@@ -853,17 +610,10 @@ Right:
 Usual cause:
   In row 1: a header, which `tail -n +2` removes. Otherwise a name of another
   release or of `backward`, or an abbreviation such as `PST`.
-"#,
-    },
-    Entry {
-        name: r#"RowInstant"#,
-        meaning: r#"The second field isn't an instant."#,
-        says: r#"  The second field isn't an instant.
-"#,
-        expected: r#"  Seconds since 1970-01-01T00:00:00 UT: 1 to 18 digits, with `-` before them
+@RowInstant?The second field isn't an instant.?  The second field isn't an instant.
+?  Seconds since 1970-01-01T00:00:00 UT: 1 to 18 digits, with `-` before them
   for earlier instants, without `+`, spaces or a fraction.
-"#,
-        examples: r#"
+?
 The examples use:
   $ echo 'Zone Etc/UTC 0 - UTC' >utc.zi
 
@@ -878,17 +628,10 @@ Right:
 
 Usual cause:
   A date, a number with a fraction, or the two fields swapped.
-"#,
-    },
-    Entry {
-        name: r#"RowRange"#,
-        meaning: r#"The instant is outside the supported range."#,
-        says: r#"  The instant is outside the supported range.
-"#,
-        expected: r#"  -62135510400 to 253402214399, which is 0001-01-02T00:00:00 to
+@RowRange?The instant is outside the supported range.?  The instant is outside the supported range.
+?  -62135510400 to 253402214399, which is 0001-01-02T00:00:00 to
   9999-12-30T23:59:59 UT.
-"#,
-        examples: r#"
+?
 The examples use:
   $ echo 'Zone Etc/UTC 0 - UTC' >utc.zi
 
@@ -903,16 +646,9 @@ Right:
 
 Usual cause:
   Milliseconds: divide by 1,000.
-"#,
-    },
-    Entry {
-        name: r#"TooManyRows"#,
-        meaning: r#"The column has more rows than `--max-rows` allows."#,
-        says: r#"  The column has more rows than `--max-rows` allows.
-"#,
-        expected: r#"  At most 100,000,000 rows, or the number given with the option.
-"#,
-        examples: r#"
+@TooManyRows?The column has more rows than `--max-rows` allows.?  The column has more rows than `--max-rows` allows.
+?  At most 100,000,000 rows, or the number given with the option.
+?
 The examples use:
   $ echo 'Zone Etc/UTC 0 - UTC' >utc.zi
 
@@ -927,18 +663,11 @@ Right:
 
 Usual cause:
   A longer column: convert it in parts (see "Long columns" in USING.md).
-"#,
-    },
-    Entry {
-        name: r#"ColumnTooLong"#,
-        meaning: r#"The column has more bytes than `--max-bytes` allows."#,
-        says: r#"  The column has more bytes than `--max-bytes` allows.
-"#,
-        expected: r#"  At most 4,294,967,296 bytes, or the number given with the option. The message
+@ColumnTooLong?The column has more bytes than `--max-bytes` allows.?  The column has more bytes than `--max-bytes` allows.
+?  At most 4,294,967,296 bytes, or the number given with the option. The message
   has no row number. The rows that were written are the first rows of the
   column.
-"#,
-        examples: r#"
+?
 The examples use:
   $ echo 'Zone Etc/UTC 0 - UTC' >utc.zi
 
@@ -953,17 +682,10 @@ Right:
 
 Usual cause:
   A longer column: convert it in parts. Or an endless input.
-"#,
-    },
-    Entry {
-        name: r#"Short"#,
-        meaning: r#"The file ends before all the data that its headers announce."#,
-        says: r#"  The file ends before all the data that its headers announce.
-"#,
-        expected: r#"  Two headers of 44 bytes with their data blocks, and a footer between two
+@Short?The file ends before all the data that its headers announce.?  The file ends before all the data that its headers announce.
+?  Two headers of 44 bytes with their data blocks, and a footer between two
   newlines.
-"#,
-        examples: r#"
+?
 The examples use:
   $ echo 'Rule US 2007 max - Mar Sun>=8 2:00 1:00 D' >ny.zi
   $ echo 'Rule US 2007 max - Nov Sun>=1 2:00 0 S' >>ny.zi
@@ -985,16 +707,9 @@ Right:
 
 Usual cause:
   A truncated or empty file.
-"#,
-    },
-    Entry {
-        name: r#"Magic"#,
-        meaning: r#"The file doesn't begin with `TZif`."#,
-        says: r#"  The file doesn't begin with `TZif`.
-"#,
-        expected: r#"  A compiled file.
-"#,
-        examples: r#"
+@Magic?The file doesn't begin with `TZif`.?  The file doesn't begin with `TZif`.
+?  A compiled file.
+?
 The examples use:
   $ echo 'Rule US 2007 max - Mar Sun>=8 2:00 1:00 D' >ny.zi
   $ echo 'Rule US 2007 max - Nov Sun>=1 2:00 0 S' >>ny.zi
@@ -1016,16 +731,9 @@ Right:
 
 Usual cause:
   A source, a table such as zone.tab, or a compressed file.
-"#,
-    },
-    Entry {
-        name: r#"Version"#,
-        meaning: r#"The version of the file is neither 2 nor 3."#,
-        says: r#"  The version of the file is neither 2 nor 3.
-"#,
-        expected: r#"  The fifth byte is `2` or `3`.
-"#,
-        examples: r#"
+@Version?The version of the file is neither 2 nor 3.?  The version of the file is neither 2 nor 3.
+?  The fifth byte is `2` or `3`.
+?
 The examples use:
   $ echo 'Rule US 2007 max - Mar Sun>=8 2:00 1:00 D' >ny.zi
   $ echo 'Rule US 2007 max - Nov Sun>=1 2:00 0 S' >>ny.zi
@@ -1048,16 +756,9 @@ Right:
 Usual cause:
   A file of version 1, which has 32-bit times only, or of version 4, which has
   leap seconds. Compile the source again.
-"#,
-    },
-    Entry {
-        name: r#"HeadersDiffer"#,
-        meaning: r#"The second header doesn't begin with the same five bytes as the first."#,
-        says: r#"  The second header doesn't begin with the same five bytes as the first.
-"#,
-        expected: r#"  `TZif` and the same version in both headers.
-"#,
-        examples: r#"
+@HeadersDiffer?The second header doesn't begin with the same five bytes as the first.?  The second header doesn't begin with the same five bytes as the first.
+?  `TZif` and the same version in both headers.
+?
 The examples use:
   $ echo 'Rule US 2007 max - Mar Sun>=8 2:00 1:00 D' >ny.zi
   $ echo 'Rule US 2007 max - Nov Sun>=1 2:00 0 S' >>ny.zi
@@ -1080,17 +781,10 @@ Right:
 Usual cause:
   A damaged file, in which the first data block doesn't have the length that
   its header says.
-"#,
-    },
-    Entry {
-        name: r#"Counts"#,
-        meaning: r#"The counts in the second header are inconsistent."#,
-        says: r#"  The counts in the second header are inconsistent.
-"#,
-        expected: r#"  At least one local time type and one byte of abbreviations; as many
+@Counts?The counts in the second header are inconsistent.?  The counts in the second header are inconsistent.
+?  At least one local time type and one byte of abbreviations; as many
   standard/wall and UT/local indicators as types, or none.
-"#,
-        examples: r#"
+?
 The examples use:
   $ echo 'Rule US 2007 max - Mar Sun>=8 2:00 1:00 D' >ny.zi
   $ echo 'Rule US 2007 max - Nov Sun>=1 2:00 0 S' >>ny.zi
@@ -1112,17 +806,10 @@ Right:
 
 Usual cause:
   A damaged file.
-"#,
-    },
-    Entry {
-        name: r#"LeapSeconds"#,
-        meaning: r#"The file has leap seconds."#,
-        says: r#"  The file has leap seconds.
-"#,
-        expected: r#"  A file without them: instants are POSIX times, which don't count leap
+@LeapSeconds?The file has leap seconds.?  The file has leap seconds.
+?  A file without them: instants are POSIX times, which don't count leap
   seconds.
-"#,
-        examples: r#"
+?
 The examples use:
   $ echo 'Rule US 2007 max - Mar Sun>=8 2:00 1:00 D' >ny.zi
   $ echo 'Rule US 2007 max - Nov Sun>=1 2:00 0 S' >>ny.zi
@@ -1145,16 +832,9 @@ Right:
 Usual cause:
   A file from the folder `right` of a zoneinfo tree. Use the file of the same
   name outside it.
-"#,
-    },
-    Entry {
-        name: r#"TimesNotRising"#,
-        meaning: r#"The transition times don't rise."#,
-        says: r#"  The transition times don't rise.
-"#,
-        expected: r#"  Each transition is later than the one before it.
-"#,
-        examples: r#"
+@TimesNotRising?The transition times don't rise.?  The transition times don't rise.
+?  Each transition is later than the one before it.
+?
 The examples use:
   $ echo 'Rule US 2007 max - Mar Sun>=8 2:00 1:00 D' >ny.zi
   $ echo 'Rule US 2007 max - Nov Sun>=1 2:00 0 S' >>ny.zi
@@ -1176,16 +856,9 @@ Right:
 
 Usual cause:
   A damaged file.
-"#,
-    },
-    Entry {
-        name: r#"TypeIndex"#,
-        meaning: r#"A transition refers to a local time type that doesn't exist."#,
-        says: r#"  A transition refers to a local time type that doesn't exist.
-"#,
-        expected: r#"  Numbers below the number of types.
-"#,
-        examples: r#"
+@TypeIndex?A transition refers to a local time type that doesn't exist.?  A transition refers to a local time type that doesn't exist.
+?  Numbers below the number of types.
+?
 The examples use:
   $ echo 'Rule US 2007 max - Mar Sun>=8 2:00 1:00 D' >ny.zi
   $ echo 'Rule US 2007 max - Nov Sun>=1 2:00 0 S' >>ny.zi
@@ -1207,17 +880,10 @@ Right:
 
 Usual cause:
   A damaged file.
-"#,
-    },
-    Entry {
-        name: r#"Designation"#,
-        meaning: r#"A local time type has no valid abbreviation."#,
-        says: r#"  A local time type has no valid abbreviation.
-"#,
-        expected: r#"  An index into the abbreviations, where ASCII characters from space to `~` end
+@Designation?A local time type has no valid abbreviation.?  A local time type has no valid abbreviation.
+?  An index into the abbreviations, where ASCII characters from space to `~` end
   with a NUL.
-"#,
-        examples: r#"
+?
 The examples use:
   $ echo 'Rule US 2007 max - Mar Sun>=8 2:00 1:00 D' >ny.zi
   $ echo 'Rule US 2007 max - Nov Sun>=1 2:00 0 S' >>ny.zi
@@ -1239,16 +905,9 @@ Right:
 
 Usual cause:
   A damaged file.
-"#,
-    },
-    Entry {
-        name: r#"TypeRecord"#,
-        meaning: r#"A local time type has an invalid daylight flag or offset."#,
-        says: r#"  A local time type has an invalid daylight flag or offset.
-"#,
-        expected: r#"  A flag of 0 or 1, and an offset within 25:59:59 either way.
-"#,
-        examples: r#"
+@TypeRecord?A local time type has an invalid daylight flag or offset.?  A local time type has an invalid daylight flag or offset.
+?  A flag of 0 or 1, and an offset within 25:59:59 either way.
+?
 The examples use:
   $ echo 'Rule US 2007 max - Mar Sun>=8 2:00 1:00 D' >ny.zi
   $ echo 'Rule US 2007 max - Nov Sun>=1 2:00 0 S' >>ny.zi
@@ -1270,16 +929,9 @@ Right:
 
 Usual cause:
   A damaged file.
-"#,
-    },
-    Entry {
-        name: r#"Indicators"#,
-        meaning: r#"A standard/wall or UT/local indicator is neither 0 nor 1."#,
-        says: r#"  A standard/wall or UT/local indicator is neither 0 nor 1.
-"#,
-        expected: r#"  0 or 1.
-"#,
-        examples: r#"
+@Indicators?A standard/wall or UT/local indicator is neither 0 nor 1.?  A standard/wall or UT/local indicator is neither 0 nor 1.
+?  0 or 1.
+?
 The examples use:
   $ echo 'Rule US 2007 max - Mar Sun>=8 2:00 1:00 D' >ny.zi
   $ echo 'Rule US 2007 max - Nov Sun>=1 2:00 0 S' >>ny.zi
@@ -1302,18 +954,11 @@ Right:
 
 Usual cause:
   A damaged file.
-"#,
-    },
-    Entry {
-        name: r#"Footer"#,
-        meaning: r#"The footer is wrong."#,
-        says: r#"  The footer is wrong.
-"#,
-        expected: r#"  A newline, a POSIX TZ string with rules or nothing, and a newline. The string
+@Footer?The footer is wrong.?  The footer is wrong.
+?  A newline, a POSIX TZ string with rules or nothing, and a newline. The string
   must fit the version of the file, and must mean the same offset, flag and
   abbreviation at the last transition as the transition does.
-"#,
-        examples: r#"
+?
 The examples use:
   $ echo 'Rule US 2007 max - Mar Sun>=8 2:00 1:00 D' >ny.zi
   $ echo 'Rule US 2007 max - Nov Sun>=1 2:00 0 S' >>ny.zi
@@ -1336,16 +981,9 @@ Right:
 Usual cause:
   A file of zic 2.36, some of which contradict themselves or would need version
   3 (see ZIC.md), or a TZ string without rules, such as `EST5EDT`.
-"#,
-    },
-    Entry {
-        name: r#"TrailingBytes"#,
-        meaning: r#"The file goes on after the footer."#,
-        says: r#"  The file goes on after the footer.
-"#,
-        expected: r#"  Nothing after the second newline of the footer.
-"#,
-        examples: r#"
+@TrailingBytes?The file goes on after the footer.?  The file goes on after the footer.
+?  Nothing after the second newline of the footer.
+?
 The examples use:
   $ echo 'Rule US 2007 max - Mar Sun>=8 2:00 1:00 D' >ny.zi
   $ echo 'Rule US 2007 max - Nov Sun>=1 2:00 0 S' >>ny.zi
@@ -1367,16 +1005,9 @@ Right:
 
 Usual cause:
   Two files in one, or a newline added by an editor.
-"#,
-    },
-    Entry {
-        name: r#"TooLarge"#,
-        meaning: r#"The file has more than 1,048,576 bytes."#,
-        says: r#"  The file has more than 1,048,576 bytes.
-"#,
-        expected: r#"  A compiled file; most have less than 4,000 bytes.
-"#,
-        examples: r#"
+@TooLarge?The file has more than 1,048,576 bytes.?  The file has more than 1,048,576 bytes.
+?  A compiled file; most have less than 4,000 bytes.
+?
 The examples use:
   $ echo 'Rule US 2007 max - Mar Sun>=8 2:00 1:00 D' >ny.zi
   $ echo 'Rule US 2007 max - Nov Sun>=1 2:00 0 S' >>ny.zi
@@ -1398,17 +1029,10 @@ Right:
 
 Usual cause:
   Some other file.
-"#,
-    },
-    Entry {
-        name: r#"cannot read PATH"#,
-        meaning: r#"The source or the file can't be read."#,
-        says: r#"  The source or the file can't be read. Status 3.
-"#,
-        expected: r#"  The path of a readable file, or `-` for standard input. A source has at most
+@cannot read PATH?The source or the file can't be read.?  The source or the file can't be read. Status 3.
+?  The path of a readable file, or `-` for standard input. A source has at most
   67,108,864 bytes.
-"#,
-        examples: r#"
+?
 The examples use:
   $ echo 'Zone Etc/UTC 0 - UTC' >utc.zi
 
@@ -1423,17 +1047,10 @@ Right:
 
 Usual cause:
   A wrong path, a folder, or missing permissions.
-"#,
-    },
-    Entry {
-        name: r#"cannot read column"#,
-        meaning: r#"Standard input can't be read."#,
-        says: r#"  Standard input can't be read. Status 3. The rows that were written are the
+@cannot read column?Standard input can't be read.?  Standard input can't be read. Status 3. The rows that were written are the
   first rows of the column.
-"#,
-        expected: r#"  Standard input that is open and isn't a folder.
-"#,
-        examples: r#"
+?  Standard input that is open and isn't a folder.
+?
 The examples use:
   $ echo 'Zone Etc/UTC 0 - UTC' >utc.zi
 
@@ -1448,17 +1065,10 @@ Right:
 
 Usual cause:
   A service that runs with its standard input closed.
-"#,
-    },
-    Entry {
-        name: r#"cannot write PATH"#,
-        meaning: r#"The file at PATH, or a folder that it needs, can't be written."#,
-        says: r#"  The file at PATH, or a folder that it needs, can't be written. Status 3. The
+@cannot write PATH?The file at PATH, or a folder that it needs, can't be written.?  The file at PATH, or a folder that it needs, can't be written. Status 3. The
   files of all earlier Zone and Link lines are in place.
-"#,
-        expected: r#"  A folder that can be written to and has room. DIR is not an empty string.
-"#,
-        examples: r#"
+?  A folder that can be written to and has room. DIR is not an empty string.
+?
 The examples use:
   $ echo 'Zone Etc/UTC 0 - UTC' >utc.zi
 
@@ -1474,16 +1084,9 @@ Right:
 Usual cause:
   Missing permissions, a full disk, a file where a folder is needed, or a
   folder where the file belongs.
-"#,
-    },
-    Entry {
-        name: r#"cannot write rows"#,
-        meaning: r#"The converted rows can't be written."#,
-        says: r#"  The converted rows can't be written. Status 3.
-"#,
-        expected: r#"  Standard output that accepts all rows.
-"#,
-        examples: r#"
+@cannot write rows?The converted rows can't be written.?  The converted rows can't be written. Status 3.
+?  Standard output that accepts all rows.
+?
 The examples use:
   $ echo 'Zone Etc/UTC 0 - UTC' >utc.zi
 
@@ -1499,16 +1102,9 @@ Right:
 Usual cause:
   A full disk, or a program at the other end of the pipe, such as `head`, that
   has exited.
-"#,
-    },
-    Entry {
-        name: r#"cannot write output"#,
-        meaning: r#"The output of `check` or `show` can't be written."#,
-        says: r#"  The output of `check` or `show` can't be written. Status 3.
-"#,
-        expected: r#"  Standard output that accepts all of the output.
-"#,
-        examples: r#"
+@cannot write output?The output of `check` or `show` can't be written.?  The output of `check` or `show` can't be written. Status 3.
+?  Standard output that accepts all of the output.
+?
 The examples use:
   $ echo 'Zone Etc/UTC 0 - UTC' >utc.zi
 
@@ -1523,17 +1119,10 @@ Right:
 
 Usual cause:
   A full disk, or a program at the other end of the pipe that has exited.
-"#,
-    },
-    Entry {
-        name: r#"out of memory"#,
-        meaning: r#"The system refused memory."#,
-        says: r#"  The system refused memory. Status 4.
-"#,
-        expected: r#"  A few MB for a release of the tz database, and at most some 60 MB for a
+@out of memory?The system refused memory.?  The system refused memory. Status 4.
+?  A few MB for a release of the tz database, and at most some 60 MB for a
   column with 4 threads.
-"#,
-        examples: r#"
+?
 The examples use:
   $ echo 'Zone Etc/UTC 0 - UTC' >utc.zi
 
@@ -1549,27 +1138,13 @@ Right:
 Usual cause:
   A limit of the shell or of a container. `--workers 1` and a smaller
   `--row-piece` use less memory.
-"#,
-    },
-    Entry {
-        name: r#"no thread"#,
-        meaning: r#"No thread could be started."#,
-        says: r#"  No thread could be started. Status 4. At present no command ends with this
+@no thread?No thread could be started.?  No thread could be started. Status 4. At present no command ends with this
   message: the threads that can be started do all the work.
-"#,
-        expected: r#""#,
-        examples: r#""#,
-    },
-    Entry {
-        name: r#"usage"#,
-        meaning: r#"The command line is wrong or asks for help."#,
-        says: r#"  The command line is wrong or asks for help. Status 2. The message on standard
+??@usage?The command line is wrong or asks for help.?  The command line is wrong or asks for help. Status 2. The message on standard
   error says what is wrong, or is the help text.
-"#,
-        expected: r#"  `pzic --help` lists the commands, and `pzic COMMAND --help` the options of
+?  `pzic --help` lists the commands, and `pzic COMMAND --help` the options of
   one.
-"#,
-        examples: r#"
+?
 The examples use:
   $ echo 'Zone Etc/UTC 0 - UTC' >utc.zi
 
@@ -1585,6 +1160,4 @@ Right:
 Usual cause:
   An INSTANT before 1970 without `--` before it, `-` as the SOURCE of
   `convert`, or an option given twice.
-"#,
-    },
-];
+"#;
