@@ -29,9 +29,9 @@ pub fn entries(alloc: Global) -> Result<Vec<Entry>, AllocError>
     let texts = texts();
     let (first, others) = texts.split_once('@').unwrap_or((texts, ""));
     let mut entries = Vec::new(alloc);
-    entries.push(entry(first))?;
+    entries.push(entry_of(first))?;
     for other in others.split('@') {
-        entries.push(entry(other))?;
+        entries.push(entry_of(other))?;
     }
     Ok(entries)
 }
@@ -42,7 +42,7 @@ fn texts() -> &'static str {
 }
 
 /// Returns what is told of one error, of whose texts each but the last ends with `?`.
-fn entry(texts: &'static str) -> Entry {
+fn entry_of(texts: &'static str) -> Entry {
     let (name, texts) = cut(texts);
     let (meaning, texts) = cut(texts);
     let (says, texts) = cut(texts);
