@@ -3,7 +3,8 @@
 # - runs each command in the `console` blocks of README.md, docs/USING.md and docs/ZIC.md as it is
 #   printed, and compares the output with the lines below it. A block after a comment
 #   `<!-- needs: COMMAND.. -->` is left out if one of the commands is missing;
-# - tries each example of docs/errors.txt, and compares docs/ERRORS.md with what is made of it;
+# - tries each example of docs/errors.txt, and compares docs/ERRORS.md and the texts of `explain`
+#   with what is made of it;
 # - looks for each command and option of docs/help in the manual page and in the completions, and
 #   tries the completions in bash;
 # - checks links, the length of README.md, and the names in docs/PROOF.md.
@@ -188,8 +189,23 @@ try_errors &
 for part in "${parts[@]}" $!; do wait "$part" || differ 'a page or the examples were not run to their end'; done
 cmp -s <(docs/make-errors.sh) docs/ERRORS.md ||
     differ 'docs/ERRORS.md is not what docs/make-errors.sh makes'
-awk 'length > 79 { print; bad = 1 } END { exit bad }' docs/errors.txt >&2 ||
-    differ 'docs/errors.txt has lines of more than 79 characters'
+cmp -s <(docs/make-texts.sh) crates/zic_explain/src/texts.rt ||
+    differ 'crates/zic_explain/src/texts.rt is not what docs/make-texts.sh makes'
+for page in docs/errors.txt docs/help/*.txt; do
+    awk 'length > 79 { print; bad = 1 } END { exit bad }' "$page" >&2 ||
+        differ "$page has lines of more than 79 characters"
+done
+# `explain` lists each of them, and has the words of ERRORS.md for it.
+pzic=crates/zic_main/out/zic_main
+sed -n 's/^## //p' docs/errors.txt | cmp -s - <("$pzic" explain | cut -d : -f 1) ||
+    differ '`pzic explain` has other names than docs/errors.txt'
+while IFS= read -r name; do
+    "$pzic" explain "$name" >"$work/explained" || differ "$name is not explained"
+    [ "$(head -n 1 "$work/explained")" = "$name" ] || differ "the explanation of $name has another name"
+    awk -v "name=$name" '/^#/ { here = substr($0, 4) == name } here && /^  / { print }' docs/errors.txt |
+        grep -vxFf "$work/explained" >"$work/unsaid" || true
+    [ ! -s "$work/unsaid" ] || differ "the explanation of $name lacks: $(head -n 1 "$work/unsaid")"
+done < <(sed -n 's/^## //p' docs/errors.txt)
 # Each name of an error in the sources of the program has an entry.
 kinds=(crates/zic_base/src/fault.rt crates/zic_plan/src/stop.rt crates/zic_tzif/src/reason.rt)
 for kind in $(sed -n 's/^    \([A-Z][A-Za-z]*\) = [0-9]*,$/\1/p' "${kinds[@]}"); do
@@ -205,6 +221,7 @@ options_of() {
 sed 's/\\-/-/g' man/pzic.1 >"$work/manual"
 for page in docs/help/*.txt; do
     name=$(basename "$page" .txt)
+    [ "$name" = version ] || grep -q '^Example:$' "$page" || differ "$page has no example"
     for file in "$work/manual" completions/pzic.bash completions/_pzic; do
         [ "$name" = pzic ] || grep -qw -- "$name" "$file" ||
             differ "${file##*/} doesn't have the command $name"
@@ -227,12 +244,12 @@ completed() {
         _pzic
         printf "%s\n" "${COMPREPLY[@]}"' bash "$@" | sort
 }
-for name in check build convert show; do
+for name in check build convert show explain; do
     words=$(completed pzic "$name" --)
     [ "$words" = "$(options_of "$name")" ] || differ "bash completes 'pzic $name --' by '$words'"
 done
 words=$(completed pzic '')
-[ "$words" = $'build\ncheck\nconvert\nshow' ] || differ "bash completes 'pzic' by '$words'"
+[ "$words" = $'build\ncheck\nconvert\nexplain\nshow' ] || differ "bash completes 'pzic' by '$words'"
 ! has_commands zsh || zsh -n completions/_pzic || differ 'zsh can not read completions/_pzic'
 
 # ------------------------------------------------------------------ the pages themselves

@@ -189,6 +189,14 @@ for word in --version -V; do
     expect 0 "$(cat "$help/version.txt")" '' $word
 done
 expect_usage help
+# what errors mean: .ci/pages.sh compares the texts with the pages
+for word in keyword 'Keyword ' '' --workers; do expect_usage explain "$word"; done
+expect_usage explain Keyword Name
+ask explain RowZon
+[[ $(cat ../err) = *"the nearest is 'RowZone'"* ]] || differ "pzic explain RowZon: '$(cat ../err)'"
+ask explain ColumnTooLong
+[ "$status" = 0 ] && [ ! -s ../err ] && [ "$(head -n 1 ../out)" = ColumnTooLong ] ||
+    differ "pzic explain ColumnTooLong: status $status, '$(head -c 200 ../out)', '$(head -c 200 ../err)'"
 expect_usage frobnicate
 expect_usage check
 expect_usage check --help

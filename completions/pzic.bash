@@ -6,13 +6,20 @@ _pzic() {
     COMPREPLY=()
     if [ "$COMP_CWORD" -eq 1 ]; then
         # shellcheck disable=SC2207
-        COMPREPLY=($(compgen -W "$([[ $current = -* ]] && echo --help --version || echo check build convert show)" -- "$current"))
+        COMPREPLY=($(compgen -W "$([[ $current = -* ]] && echo --help --version || echo check build convert show explain)" -- "$current"))
         return
     fi
     case ${COMP_WORDS[1]} in
     check | build) options='--workers --zone-piece --help' ;;
     convert) options='--workers --zone-piece --row-piece --max-rows --max-bytes --progress --help' ;;
     show) ;;
+    explain)
+        if [[ $current != -* ]]; then
+            # shellcheck disable=SC2207
+            COMPREPLY=($(compgen -W "$(pzic explain | cut -d : -f 1 | grep -v ' ')" -- "$current"))
+            return
+        fi
+        ;;
     *) return ;;
     esac
     case $previous in

@@ -36,7 +36,7 @@ awk '
 
     END {
         print "# Errors\n"
-        print "Every error by name: what it means, an example that causes it, the correct form, what is expected, and the usual cause.\n"
+        print "Every error by name: what it means, an example that causes it, the correct form, what is expected, and the usual cause. `pzic explain NAME` prints the same.\n"
         print "This page is generated from [errors.txt](errors.txt) by `docs/make-errors.sh`. The gate runs every example.\n"
         print "| Name | Meaning |\n|---|---|"
         for (i = 1; i <= count; i++) {

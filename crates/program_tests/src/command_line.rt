@@ -46,7 +46,7 @@ fn asked(alloc: Global, line: &str) -> Result<String, Fail> {
             )?)
         }
         Ok(Request::Show { file, instant }) => Ok(format!(in alloc; "show {file} {instant}")?),
-        Ok(Request::Version { text }) => Ok(text),
+        Ok(Request::Explain { text } | Request::Version { text }) => Ok(text),
         Err(NoRequest::Usage(_)) => Ok(String::from_str(alloc, "usage")?),
         Err(NoRequest::Memory) => Err(Fail::from("out of memory")),
     }
@@ -111,6 +111,9 @@ fn words_are_a_request_or_a_usage_fault(rt: HostRuntime) -> Result<(), Fail> {
         ("pzic build --row-piece 1 D a", "usage"),
         ("pzic check --max-rows 1 a", "usage"),
         ("pzic show --max-bytes 1 f 1", "usage"),
+        ("pzic explain Keyword Name", "usage"),
+        ("pzic explain keyword", "usage"),
+        ("pzic explain --workers 1", "usage"),
         ("pzic --help", "usage"),
         ("pzic check --help", "usage"),
         ("pzic", "usage"),
@@ -140,5 +143,79 @@ fn usage_calls_the_program_pzic(rt: HostRuntime) -> Result<(), Fail> {
         assert!(rt; text.as_str().contains("Usage: pzic"), "at {line:?}");
         assert!(rt; !text.as_str().contains("zic_main"), "at {line:?}");
     }
+    Ok(())
+}
+
+/// Returns the text of the usage fault of these words.
+fn fault(alloc: Global, line: &str) -> Result<String, Fail> {
+    let mut words = Vec::new(alloc);
+    for word in line.split_whitespace() {
+        words.push(String::from_str(alloc, word)?)?;
+    }
+    match parse(alloc, &words) {
+        Err(NoRequest::Usage(text)) => Ok(text),
+        _ => Err(Fail::from("it is no fault of usage")),
+    }
+}
+
+#[test]
+fn a_usage_fault_names_the_word_and_what_is_right(rt: HostRuntime) -> Result<(), Fail> {
+    let cases = [
+        (
+            "pzic check --workers 65 a",
+            "invalid value '65' for '--workers <N>': 65 is not in 1..=64",
+        ),
+        (
+            "pzic convert --row-piece 0 a",
+            "invalid value '0' for '--row-piece <N>': 0 is not in 1..=65536",
+        ),
+        (
+            "pzic convert --max-bytes 4294967297 a",
+            "invalid value '4294967297' for '--max-bytes <N>': 4294967297 is not in 0..=4294967296",
+        ),
+        (
+            "pzic show f 1x",
+            "invalid value '1x' for '<INSTANT>': it is no number of seconds from -9223372036854775808 to 9223372036854775807",
+        ),
+        (
+            "pzic build D - a -",
+            "-, standard input, can be only one SOURCE",
+        ),
+        (
+            "pzic convert -",
+            "standard input is the column, so SOURCE can't be -",
+        ),
+        (
+            "pzic explain keyword",
+            "no error has the name 'keyword'; the nearest is 'Keyword'",
+        ),
+        (
+            "pzic explain RowZon",
+            "no error has the name 'RowZon'; the nearest is 'RowZone'",
+        ),
+    ];
+    for (line, want) in cases {
+        let got = fault(rt.alloc(), line)?;
+        assert!(rt; got.as_str().contains(want), "at {line:?}: {got}");
+    }
+    Ok(())
+}
+
+#[test]
+fn an_error_is_explained_by_the_text_of_its_name(rt: HostRuntime) -> Result<(), Fail> {
+    let got = asked(rt.alloc(), "pzic explain Quote")?;
+    let want =
+        "Quote\n\n  A double quote opens a quoted part that isn't closed on the same line.\n\nExpected:\n  Double quotes in pairs, each pair on one line. A quote itself can't be\n  written in a field.\n\nWrong:\n  Zone \"Etc/UTC 0 - UTC\n\nIt prints:\n  line 1: Quote\n\nRight:\n  Zone \"Etc/UTC\" 0 - UTC\n\nUsual cause:\n  A missing closing quote, or a quote that belongs in a comment.\n";
+    assert_eq!(rt; got.as_str(), want);
+    let names = asked(rt.alloc(), "pzic explain")?;
+    assert_eq!(rt; names.as_str().lines().count(), 61);
+    assert!(rt;
+        names
+            .as_str()
+            .starts_with("NotAscii: A byte outside a comment is ")
+    );
+    assert!(rt;
+        names.as_str().contains("\nRowZone: The source has no zone or link of that name.\n")
+    );
     Ok(())
 }

@@ -6,7 +6,10 @@ use clap::{Arg, ArgAction, ArgMatches, Command, Error, value_parser};
 use std::alloc::{AllocError, Global};
 use std::rt::Env;
 use std::{env, io};
-use zic_plan::{Plan, STANDARD_INPUT, parse_instant_word};
+use zic_explain::{Unexplained, entries, explanation, index};
+use zic_plan::{
+    MAX_BYTES, MAX_OF_PIECE, MAX_ROWS, MAX_WORKERS, Plan, STANDARD_INPUT, parse_instant_word,
+};
 
 /// The version of the program, and the kit that it is proved with.
 const VERSION: &str = "0.1.0\nproved with rattle-kit-13b logic dac8208d650f15bf";
@@ -36,6 +39,10 @@ pub enum Request {
     Show {
         file: String,
         instant: i64,
+    },
+    /// Tell what errors mean.
+    Explain {
+        text: String,
     },
     /// Tell this version.
     Version {
@@ -78,6 +85,7 @@ pub fn parse(alloc: Global, words: &[String]) -> Result<Request, NoRequest> {
         Some(("build", m)) => build(alloc, m),
         Some(("convert", m)) => convert(alloc, m),
         Some(("show", m)) => show(alloc, m),
+        Some(("explain", m)) => explain(alloc, m),
         _ => Err(usage(alloc, "no such command")),
     }
 }
@@ -99,20 +107,25 @@ fn commands<'a>(alloc: Global) -> Result<Command<'a>, AllocError> {
         .bin_name("pzic")?
         .version(VERSION)
         .about("Compiles time zone source text, as zic(8) reads it, to TZif files (RFC 9636)")
+        .after_help(
+            "Example:\n  pzic build ~/zoneinfo /usr/share/zoneinfo/tzdata.zi\n  TZDIR=~/zoneinfo TZ=Europe/Dublin date",
+        )
         .subcommand_required(true)
         .disable_help_subcommand(true)
         .subcommand(check_command(alloc)?)?
         .subcommand(build_command(alloc)?)?
         .subcommand(convert_command(alloc)?)?
-        .subcommand(show_command(alloc)?)
+        .subcommand(show_command(alloc)?)?
+        .subcommand(explain_command(alloc)?)
 }
 
 fn check_command<'a>(alloc: Global) -> Result<Command<'a>, AllocError> {
-    let source = Arg::new(alloc, "SOURCE")
-        .required(true)
-        .help("A file of Rule, Zone and Link lines; - is standard input");
+    let source = Arg::new(alloc, "SOURCE").required(true).help(
+        "A file of Rule, Zone and Link lines, or - for standard input",
+    );
     let command = Command::new(alloc, "check")
-        .about("Compiles a source and lists its files: NAME OCTETS FOOTER")
+        .about("Compiles a source and lists its files: NAME BYTES FOOTER")
+        .after_help("Example:\n  echo 'Zone Etc/UTC 0 - UTC' | pzic check -")
         .arg(source)?;
     with_plan(alloc, command)
 }
@@ -121,38 +134,39 @@ fn build_command<'a>(alloc: Global) -> Result<Command<'a>, AllocError> {
     let folder = Arg::new(alloc, "DIR")
         .required(true)
         .help("The folder for the files; it is made if need be");
-    let sources = Arg::new(alloc, "SOURCE").required(true).num_args(1..).help(
-        "Files of Rule, Zone and Link lines, compiled together; one may be -, standard input",
-    );
+    let sources = Arg::new(alloc, "SOURCE")
+        .required(true)
+        .num_args(1..)
+        .help("Files of Rule, Zone and Link lines; one may be -");
     let command = Command::new(alloc, "build")
-        .about(
-            "Compiles sources and writes a file DIR/NAME for each Zone and Link line, as zic -d DIR does",
-        )
+        .about("Compiles sources together and writes their files, as zic -d DIR does")
+        .after_help("Example:\n  pzic build ~/zoneinfo /usr/share/zoneinfo/tzdata.zi acme.zi")
         .arg(folder)?
         .arg(sources)?;
     with_plan(alloc, command)
 }
 
 fn convert_command<'a>(alloc: Global) -> Result<Command<'a>, AllocError> {
-    let source = Arg::new(alloc, "SOURCE").required(true).help(
-        "A file of Rule, Zone and Link lines; standard input is the column",
+    let source = Arg::new(alloc, "SOURCE")
+        .required(true)
+        .help("A file of Rule, Zone and Link lines");
+    let row_piece = option(alloc, "row-piece", "1024", 1, MAX_OF_PIECE as i64).help(
+        "Rows a thread takes at once, 1 to 65536",
     );
-    let row_piece = option(alloc, "row-piece", "1024").help(
-        "How many rows a thread takes at a time, 1 to 65536",
+    let max_rows = option(alloc, "max-rows", "100000000", 0, MAX_ROWS as i64).help(
+        "The most rows, up to 100000000",
     );
-    let max_rows = option(alloc, "max-rows", "100000000").help(
-        "How many rows there may be, 0 to 100000000",
-    );
-    let max_bytes = option(alloc, "max-bytes", "4294967296").help(
-        "How many bytes the column may have, 0 to 4294967296",
+    let max_bytes = option(alloc, "max-bytes", "4294967296", 0, MAX_BYTES as i64).help(
+        "The most bytes, up to 4294967296",
     );
     let progress = Arg::new(alloc, "progress")
         .long("progress")
         .action(ArgAction::SetTrue)
-        .help("Tells on standard error how many rows are written, and how many a second");
+        .help("Tells on standard error how many rows are written");
     let command = Command::new(alloc, "convert")
-        .about(
-            "Compiles a source and converts the lines NAME,SECONDS of standard input to NAME,SECONDS,LOCAL TIME,OFFSET,DAYLIGHT,ABBREVIATION",
+        .about("Converts lines NAME,SECONDS of standard input to local time")
+        .after_help(
+            "Each row is NAME,SECONDS,LOCAL TIME,OFFSET,DAYLIGHT,ABBREVIATION.\n\nExample:\n  echo Europe/Dublin,0 | pzic convert /usr/share/zoneinfo/tzdata.zi",
         )
         .arg(source)?;
     with_plan(alloc, command)?
@@ -166,32 +180,41 @@ fn show_command<'a>(alloc: Global) -> Result<Command<'a>, AllocError> {
     let file = Arg::new(alloc, "FILE")
         .required(true)
         .help("A TZif file of version 2 or 3");
-    let instant = Arg::new(alloc, "INSTANT").required(true).help(
-        "Seconds from 1970-01-01T00:00:00 UT; one below 0 stands after --",
-    );
+    let instant = Arg::new(alloc, "INSTANT")
+        .required(true)
+        .help("Seconds from 1970-01-01T00:00:00 UT; after -- if below 0");
     Command::new(alloc, "show")
-        .about(
-            "Prints the UT offset, the daylight flag and the abbreviation of a file at an instant",
-        )
+        .about("Prints the offset, daylight flag and abbreviation at an instant")
+        .after_help("Example:\n  pzic show /usr/share/zoneinfo/Europe/Dublin -- -1")
         .arg(file)?
         .arg(instant)
 }
 
+fn explain_command<'a>(alloc: Global) -> Result<Command<'a>, AllocError> {
+    let name = Arg::new(alloc, "NAME").help("The name of an error; without it all are listed");
+    Command::new(alloc, "explain")
+        .about("Explains an error: what it means, examples and what to do")
+        .after_help("Example:\n  pzic explain NoFooter")
+        .arg(name)
+}
+
 /// Returns the command with the options that say how work is shared.
 fn with_plan<'a>(alloc: Global, command: Command<'a>) -> Result<Command<'a>, AllocError> {
-    let workers = option(alloc, "workers", "4").help("How many threads work, 1 to 64");
-    let zone_piece = option(alloc, "zone-piece", "16").help(
-        "How many zones a thread takes at a time, 1 to 65536",
+    let workers = option(alloc, "workers", "4", 1, MAX_WORKERS as i64).help(
+        "Threads that work, 1 to 64",
+    );
+    let zone_piece = option(alloc, "zone-piece", "16", 1, MAX_OF_PIECE as i64).help(
+        "Zones a thread takes at once, 1 to 65536",
     );
     command.arg(workers)?.arg(zone_piece)
 }
 
-/// Returns an option that is a number, with its default.
-fn option<'a>(alloc: Global, name: &'a str, default: &'a str) -> Arg<'a> {
+/// Returns an option that is a number in a range, with its default.
+fn option<'a>(alloc: Global, name: &'a str, default: &'a str, least: i64, most: i64) -> Arg<'a> {
     Arg::new(alloc, name)
         .long(name)
         .value_name("N")
-        .value_parser(value_parser!(u64))
+        .value_parser(value_parser!(u64).range(least..=most))
         .default_value(default)
 }
 
@@ -208,7 +231,7 @@ fn build(alloc: Global, matches: &ArgMatches<'_>) -> Result<Request, NoRequest> 
     };
     let inputs = words.iter().filter(|word| **word == STANDARD_INPUT).count();
     if inputs > 1 {
-        return Err(usage(alloc, "standard input can be one SOURCE only"));
+        return Err(usage(alloc, "-, standard input, can be only one SOURCE"));
     }
     let mut sources = Vec::new(alloc);
     for word in words {
@@ -225,10 +248,7 @@ fn build(alloc: Global, matches: &ArgMatches<'_>) -> Result<Request, NoRequest> 
 fn convert(alloc: Global, matches: &ArgMatches<'_>) -> Result<Request, NoRequest> {
     let source = word(alloc, matches, "SOURCE")?;
     if source.as_str() == STANDARD_INPUT {
-        return Err(usage(
-            alloc,
-            "standard input is the column, and can't be the SOURCE",
-        ));
+        return Err(usage(alloc, "standard input is the column, so SOURCE can't be -"));
     }
     let plan = column_plan(alloc, matches)?;
     Ok(Request::Convert {
@@ -244,9 +264,22 @@ fn show(alloc: Global, matches: &ArgMatches<'_>) -> Result<Request, NoRequest> {
         return Err(usage(alloc, "no INSTANT"));
     };
     let Some(instant) = parse_instant_word(instant) else {
-        return Err(usage(alloc, "INSTANT is no number of seconds"));
+        return Err(bad_instant(alloc, instant));
     };
     Ok(Request::Show { file, instant })
+}
+
+fn explain(alloc: Global, matches: &ArgMatches<'_>) -> Result<Request, NoRequest> {
+    let entries = entries(alloc)?;
+    let Some(name) = matches.get_str("NAME") else {
+        let text = index(alloc, &entries)?;
+        return Ok(Request::Explain { text });
+    };
+    match explanation(alloc, &entries, name) {
+        Ok(text) => Ok(Request::Explain { text }),
+        Err(Unexplained::NoError { nearest }) => Err(no_error(alloc, name, nearest)),
+        Err(Unexplained::Memory) => Err(NoRequest::Memory),
+    }
 }
 
 /// Returns how work is shared, where there is no column.
@@ -255,10 +288,7 @@ fn plan(alloc: Global, matches: &ArgMatches<'_>) -> Result<Plan, NoRequest> {
     let zone_piece = number(alloc, matches, "zone-piece")?;
     match Plan::new(workers, zone_piece, 1, 0, 0) {
         Some(plan) => Ok(plan),
-        None => Err(usage(
-            alloc,
-            "--workers is 1 to 64, and --zone-piece is 1 to 65536",
-        )),
+        None => Err(usage(alloc, "an option has a number outside its range")),
     }
 }
 
@@ -271,10 +301,7 @@ fn column_plan(alloc: Global, matches: &ArgMatches<'_>) -> Result<Plan, NoReques
     let max_bytes = number(alloc, matches, "max-bytes")?;
     match Plan::new(workers, zone_piece, row_piece, max_rows, max_bytes) {
         Some(plan) => Ok(plan),
-        None => Err(usage(
-            alloc,
-            "--workers is 1 to 64, --zone-piece and --row-piece are 1 to 65536, --max-rows is at most 100000000, and --max-bytes is at most 4294967296",
-        )),
+        None => Err(usage(alloc, "an option has a number outside its range")),
     }
 }
 
@@ -298,6 +325,26 @@ fn word(alloc: Global, matches: &ArgMatches<'_>, id: &str) -> Result<String, NoR
 fn usage(alloc: Global, text: &str) -> NoRequest {
     match format!(in alloc; "error: {text}\n\nFor more information, try 'pzic --help'.\n") {
         Ok(text) => NoRequest::Usage(text),
+        Err(_) => NoRequest::Memory,
+    }
+}
+
+/// Returns the refusal of a word that is no instant.
+fn bad_instant(alloc: Global, word: &str) -> NoRequest {
+    match format!(in alloc;
+        "invalid value '{word}' for '<INSTANT>': it is no number of seconds from {} to {}",
+        i64::MIN,
+        i64::MAX
+    ) {
+        Ok(text) => usage(alloc, text.as_str()),
+        Err(_) => NoRequest::Memory,
+    }
+}
+
+/// Returns the refusal of a word that is the name of no error.
+fn no_error(alloc: Global, name: &str, nearest: &str) -> NoRequest {
+    match format!(in alloc; "no error has the name '{name}'; the nearest is '{nearest}'") {
+        Ok(text) => usage(alloc, text.as_str()),
         Err(_) => NoRequest::Memory,
     }
 }

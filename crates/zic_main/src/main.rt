@@ -62,7 +62,7 @@ fn run<
             let bytes = zic_commands::read_file(alloc, rt, file.as_str())?;
             zic_commands::show(alloc, &bytes, instant, &mut output)?
         }
-        Request::Version { text } => tell(text.as_str(), &mut output)?,
+        Request::Explain { text } | Request::Version { text } => tell(text.as_str(), &mut output)?,
     }
     Ok(())
 }

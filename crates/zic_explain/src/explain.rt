@@ -1,0 +1,130 @@
+//! Explains errors.
+
+ghost use Rattle.std.specs.Prelude.{◌≡◌, ◌<◌, ◌++◌, length, string_bytes, IfOk, IfErr, IfSome, IfNone, OnOk};
+ghost use Rattle.std.specs.List.{flat_map};
+ghost use Rattle.zic_explain.specs.Explanation.{section, explanation_text, index_line, IsExplanation, IsUnexplained, HasName, HasNoName, IsNearest};
+
+use crate::entry::Entry;
+use std::alloc::{AllocError, Global};
+use strsim::levenshtein;
+
+/// Why there is no explanation.
+#[derive(Clone, Copy, Debug, PartialEq, Eq)]
+pub enum Unexplained {
+    /// No error has the name.
+    NoError {
+        /// The name of an error that is nearest to it.
+        nearest: &'static str,
+    },
+    /// Memory ran out.
+    Memory,
+}
+
+impl From<AllocError> for Unexplained {
+    ghost use Rattle.zic_explain.specs.declared.explain.Unexplained.TheVariants.{Memory};
+
+    ghost from_gives = { λ _ e. e ≡ Memory };
+
+    fn from(_e: AllocError) -> Unexplained {
+        Unexplained::Memory
+    }
+}
+
+/// Returns the explanation of the error of this name: lines that say what it means, what is
+/// expected, a wrong and a right example, and what people usually meant.
+///
+/// # Errors
+///
+/// No entry has the name, or memory ran out.
+pub fn explanation(alloc: Global, entries: &[Entry], name: &str) -> Result<String, Unexplained>
+    requires { 0 < length entries.now }
+    ensures ok { IfOk result (λ text. IsExplanation entries.now name.now (string_bytes text)) }
+    ensures err { IfErr result (IsUnexplained entries.now name.now) }
+{
+    match find(entries, name) {
+        Some(entry) => Ok(text_of(alloc, &entry)?),
+        None => Err(Unexplained::NoError {
+            nearest: nearest(alloc, entries, name)?,
+        }),
+    }
+}
+
+/// Returns a line for each entry, with its name and the first sentence of what it means.
+pub fn index(alloc: Global, entries: &[Entry]) -> Result<String, AllocError>
+    ensures { IfOk result (λ text. string_bytes text ≡ flat_map index_line entries.now) }
+{
+    let mut text = String::new(alloc);
+    for entry in entries {
+        push_index_line(&mut text, entry)?;
+    }
+    Ok(text)
+}
+
+/// Returns the entry of this name.
+fn find(entries: &[Entry], name: &str) -> Option<Entry>
+    ensures found { IfSome result (HasName entries.now name.now) }
+    ensures none { IfNone result (HasNoName entries.now name.now) }
+{
+    for entry in entries {
+        if entry.name == name {
+            return Some(*entry);
+        }
+    }
+    None
+}
+
+/// Returns the name that takes the fewest edits from this name.
+#[tactic(auto, using(crate::proofs::Names::first_name))]
+fn nearest(alloc: Global, entries: &[Entry], name: &str) -> Result<&'static str, AllocError>
+    requires { 0 < length entries.now }
+    ensures { IfOk result (λ nearest. IsNearest entries.now name.now nearest.now) }
+{
+    let mut nearest = entries[0].name;
+    let mut least = levenshtein(alloc, name, nearest)?;
+    for entry in entries {
+        let edits = levenshtein(alloc, name, entry.name)?;
+        if edits < least {
+            least = edits;
+            nearest = entry.name;
+        }
+    }
+    Ok(nearest)
+}
+
+/// Returns what is told of an error.
+fn text_of(alloc: Global, entry: &Entry) -> Result<String, AllocError>
+    ensures { IfOk result (λ text. string_bytes text ≡ explanation_text entry.now) }
+{
+    let mut text = String::new(alloc);
+    text.push_str(entry.name)?;
+    text.push_str("\n\n")?;
+    text.push_str(entry.says)?;
+    push_section(&mut text, "Expected", entry.expected)?;
+    text.push_str(entry.examples)?;
+    Ok(text)
+}
+
+/// Adds a title and its lines, if there are any.
+fn push_section(text: &mut String, title: &str, lines: &str) -> Result<(), AllocError>
+    ensures { OnOk result
+        (string_bytes text.new ≡ string_bytes text.old ++ section title.now lines.now) }
+{
+    if lines.is_empty() {
+        return Ok(());
+    }
+    text.push_str("\n")?;
+    text.push_str(title)?;
+    text.push_str(":\n")?;
+    text.push_str(lines)
+}
+
+/// Adds the line of an entry.
+fn push_index_line(text: &mut String, entry: &Entry) -> Result<(), AllocError>
+    ensures { OnOk result
+        (string_bytes text.new ≡ string_bytes text.old ++ index_line entry.now) }
+{
+    text.push_str(entry.name)?;
+    text.push_str(": ")?;
+    text.push_str(entry.meaning)?;
+    text.push('\n')
+}
