@@ -3,13 +3,20 @@
 ghost use Rattle.std.specs.Prelude.{◌≡◌, [], ◌∷◌, OnOk, OnErr, Err};
 ghost use Rattle.zic_commands.specs.Tree.{Gains};
 
-use std::alloc::{AllocError, Global};
+use std::alloc::{AllocError, AllocFailed, Global};
+use std::collections::HashSet;
 use std::fs::{self, File, Files as FileSystem};
-use std::io::{self, Write};
+use std::io::{self, ErrorKind, Read, Write};
 
-/// The name under which a file is written in its folder, before it is renamed. No zone can have
-/// it.
+/// The begin of the name under which a file is written in its folder, before it is renamed. A
+/// number follows. No zone can have such a name.
 const TEMPORARY: &str = "~pzic";
+
+/// The greatest number of times that a file is written.
+const TRIES: u32 = 1_000;
+
+/// The number of bytes that are read of a folder's names at a time.
+const BLOCK: usize = 8_192;
 
 /// Why a file isn't placed.
 #[derive(Clone, Copy, Debug, PartialEq, Eq)]
@@ -18,6 +25,26 @@ pub enum Unplaced {
     Refused,
     /// Memory ran out.
     Memory,
+}
+
+impl From<io::Error> for Unplaced {
+    ghost use Rattle.zic_commands.specs.declared.tree.Unplaced.TheVariants.{Refused};
+
+    ghost from_gives = { λ _ e. e ≡ Refused };
+
+    fn from(_e: io::Error) -> Unplaced {
+        Unplaced::Refused
+    }
+}
+
+impl<T: Drop> From<AllocFailed<T>> for Unplaced {
+    ghost use Rattle.zic_commands.specs.declared.tree.Unplaced.TheVariants.{Memory};
+
+    ghost from_gives = { λ _ e. e ≡ Memory };
+
+    fn from(_e: AllocFailed<T>) -> Unplaced {
+        Unplaced::Memory
+    }
 }
 
 impl From<AllocError> for Unplaced {
@@ -52,43 +79,118 @@ pub trait Tree {
 }
 
 /// A tree in a file system, of whose files no contract tells anything.
+///
+/// Several runs may place files in one tree at the same time: each file is that of one of them, and
+/// whole. Each run has temporary names of its own. What a run that was ended left behind is removed
+/// by the next that enters the folder. That may remove a file that another run is writing, which
+/// then writes it again.
 #[derive(Drop)]
 pub struct Disk<'a, F> {
     alloc: Global,
     system: &'a F,
+    /// The number in temporary names.
+    number: u64,
+    /// The folders that were entered.
+    folders: HashSet<String>,
+}
+
+/// What came of writing a file.
+#[derive(Clone, Copy)]
+enum Written {
+    /// It has its name.
+    Placed,
+    /// The temporary name is that of another file.
+    Taken,
+    /// Another run removed the file before it had its name.
+    Removed,
 }
 
 impl<'a, F: FileSystem> Disk<'a, F> {
-    /// Returns the tree of a file system.
-    pub fn new(alloc: Global, system: &'a F) -> Disk<'a, F> {
-        Disk { alloc, system }
+    /// Returns the tree of a file system. Files are first written under temporary names of this
+    /// number, or of the next that is free; runs at the same time have different ones.
+    pub fn new(alloc: Global, system: &'a F, number: u64) -> Disk<'a, F> {
+        Disk {
+            alloc,
+            system,
+            number,
+            folders: HashSet::new(alloc),
+        }
+    }
+
+    /// Makes a folder, or removes the temporary files of other runs from it. Does so once.
+    fn enter(&mut self, folder: &str) -> Result<(), Unplaced> {
+        if self.folders.contains(folder) {
+            return Ok(());
+        }
+        // With the slash a link to a folder is followed.
+        let slashed = format!(in self.alloc; "{folder}/")?;
+        match self.system.open_dir(slashed.as_str()) {
+            Ok(names) => self.clear(folder, names)?,
+            Err(_) => fs::create_dir_all(self.system, folder)?,
+        }
+        self.folders.insert(String::from_str(self.alloc, folder)?)?;
+        Ok(())
+    }
+
+    /// Removes the temporary files from a folder, of which these are the names.
+    fn clear(&self, folder: &str, mut names: F::Dir) -> Result<(), AllocError> {
+        let mut block = [0; BLOCK];
+        for _ in 0..u64::MAX {
+            match names.read(&mut block) {
+                Ok(0) | Err(_) => return Ok(()),
+                Ok(n) => self.remove(folder, &block[..n])?,
+            }
+        }
+        Ok(())
+    }
+
+    /// Removes the temporary files of these names, of which a zero byte ends each, from a folder.
+    fn remove(&self, folder: &str, names: &[u8]) -> Result<(), AllocError> {
+        for name in names.split(|byte| *byte == 0) {
+            if let Some(name) = temporary_name(name) {
+                let path = format!(in self.alloc; "{folder}/{name}")?;
+                // One that can't be removed is left.
+                let _ = fs::remove_file(self.system, path.as_str());
+            }
+        }
+        Ok(())
     }
 
     /// Writes the bytes under the temporary name, and then renames that to the path.
-    fn replace(&self, temporary: &str, path: &str, bytes: &[u8]) -> io::Result<()> {
-        fs::create_dir_all(self.system, parent(path))?;
-        // A run that was ended may have left one.
-        let _ = fs::remove_file(self.system, temporary);
-        let written = write_new(self.system, temporary, bytes);
-        let placed = match written {
+    fn write(&self, temporary: &str, path: &str, bytes: &[u8]) -> io::Result<Written> {
+        let file = match File::create_new(self.system, temporary) {
+            Ok(file) => file,
+            Err(e) if e.kind() == ErrorKind::AlreadyExists => return Ok(Written::Taken),
+            Err(e) => return Err(e),
+        };
+        let placed = match write_and_close(file, bytes) {
             Ok(()) => fs::rename(self.system, temporary, path),
             Err(e) => Err(e),
         };
-        if placed.is_err() {
-            let _ = fs::remove_file(self.system, temporary);
+        match placed {
+            Ok(()) => Ok(Written::Placed),
+            Err(e) if e.kind() == ErrorKind::NotFound => Ok(Written::Removed),
+            Err(e) => {
+                let _ = fs::remove_file(self.system, temporary);
+                Err(e)
+            }
         }
-        placed
     }
 }
 
 impl<'a, F: FileSystem> Tree for Disk<'a, F> {
     fn place(&mut self, path: &str, bytes: &[u8]) -> Result<(), Unplaced> {
-        let parent = parent(path);
-        let temporary = format!(in self.alloc; "{parent}/{TEMPORARY}")?;
-        match self.replace(temporary.as_str(), path, bytes) {
-            Ok(()) => Ok(()),
-            Err(_) => Err(Unplaced::Refused),
+        let folder = parent(path);
+        self.enter(folder)?;
+        for _ in 0..TRIES {
+            let temporary = format!(in self.alloc; "{folder}/{TEMPORARY}{}", self.number)?;
+            match self.write(temporary.as_str(), path, bytes)? {
+                Written::Placed => return Ok(()),
+                Written::Taken => self.number = self.number.wrapping_add(1),
+                Written::Removed => {}
+            }
         }
+        Err(Unplaced::Refused)
     }
 }
 
@@ -100,9 +202,19 @@ fn parent(path: &str) -> &str {
     }
 }
 
-/// Writes a file that isn't there yet.
-fn write_new<F: FileSystem>(system: &F, path: &str, bytes: &[u8]) -> io::Result<()> {
-    let mut file = File::create_new(system, path)?;
+/// Returns the name of a file if it is a temporary one.
+fn temporary_name(name: &[u8]) -> Option<&str> {
+    let name = str::from_utf8(name).ok()?;
+    let number = name.strip_prefix(TEMPORARY)?;
+    if number.bytes().all(|byte| byte.is_ascii_digit()) {
+        Some(name)
+    } else {
+        None
+    }
+}
+
+/// Writes the bytes to a file, and closes it.
+fn write_and_close<W: Write + Drop>(mut file: W, bytes: &[u8]) -> io::Result<()> {
     file.write_all(bytes)?;
     file.flush()
 }

@@ -9,6 +9,7 @@ use failure::Refusal;
 use std::fs::Files;
 use std::io::{self, IsTerminal, Read, Write};
 use std::process::ExitCode;
+use std::random::RandomSource;
 use std::rt::Env;
 use std::sync::Wait;
 use std::thread::Threads;
@@ -30,7 +31,7 @@ fn main(rt: HostRuntime) -> ExitCode {
 
 /// Does what the words of the process ask for.
 fn run<
-    R: Env + Files + Input + Print + Clock + AllocGlobal + Threads + Wait + Sync,
+    R: Env + Files + Input + Print + Clock + RandomSource + AllocGlobal + Threads + Wait + Sync,
     E: Write + IsTerminal + Drop,
 >(rt: &R, errors: E) -> Result<(), Refusal> {
     let alloc = rt.alloc();
@@ -47,7 +48,7 @@ fn run<
             plan,
         } => {
             let texts = zic_commands::read_sources(alloc, rt, &mut input, &sources)?;
-            let mut disk = Disk::new(alloc, rt);
+            let mut disk = Disk::new(alloc, rt, number_of_run(rt));
             zic_commands::build(rt, alloc, &plan, &texts, &mut disk, folder.as_str())?
         }
         Request::Convert {
@@ -65,6 +66,13 @@ fn run<
         Request::Explain { text } | Request::Version { text } => tell(text.as_str(), &mut output)?,
     }
     Ok(())
+}
+
+/// Returns a number that no other run at the same time has: a random one, or 0 where there is none.
+fn number_of_run<R: RandomSource>(rt: &R) -> u64 {
+    let mut bytes = [0; 8];
+    let _ = rt.fill_bytes(&mut bytes);
+    u64::from_le_bytes(bytes)
 }
 
 /// Writes a text.

@@ -11,12 +11,13 @@ use std::thread::Threads;
 use zic_commands::*;
 use zic_counted::Counted;
 
-/// Records calls, one of which fails.
+/// Records calls, one of which fails with an error of this kind: with `Other` each time, else once.
 #[derive(Clone, Copy)]
 struct Log<'a> {
     alloc: Global,
     calls: &'a RefCell<String>,
     fails: &'a str,
+    kind: ErrorKind,
 }
 
 impl<'a> Log<'a> {
@@ -27,18 +28,21 @@ impl<'a> Log<'a> {
         let call = format!(in self.alloc; "{what} {name}")?;
         calls.push_str(call.as_str())?;
         calls.push('\n')?;
-        if call.as_str() == self.fails {
-            return Err(io::Error::from(ErrorKind::Other));
+        let is_first = calls.matches(self.fails).count() == 1;
+        if call.as_str() == self.fails && (is_first || self.kind == ErrorKind::Other) {
+            return Err(io::Error::from(self.kind));
         }
         Ok(())
     }
 }
 
-/// A file system in which every file has the same bytes.
+/// A file system in which each file that is opened has the same bytes, and each folder the same
+/// names, or there is none.
 #[derive(Drop)]
 struct Disk<'a> {
     log: Log<'a>,
     bytes: &'a [u8],
+    names: &'a [u8],
 }
 
 /// An open file of the file system.
@@ -111,8 +115,15 @@ impl<'a> Files for Disk<'a> {
         })
     }
 
-    fn open_dir(&self, _path: &str) -> io::Result<DiskFile<'a>> {
-        Err(io::Error::from(ErrorKind::Unsupported))
+    fn open_dir(&self, path: &str) -> io::Result<DiskFile<'a>> {
+        if self.names.is_empty() {
+            return Err(io::Error::from(ErrorKind::NotFound));
+        }
+        self.log.note("list", path)?;
+        Ok(DiskFile {
+            log: self.log,
+            bytes: self.names,
+        })
     }
 
     fn metadata(&self, _path: &str) -> io::Result<Metadata> {
@@ -157,17 +168,19 @@ fn built<T: Threads + Wait + Sync>(
     folder: &str,
     words: &str,
     input: &str,
-    fails: &str,
+    (fails, kind, names): (&str, ErrorKind, &[u8]),
 ) -> Result<String, Fail> {
     let calls = RefCell::new(String::new(alloc));
     let log = Log {
         alloc,
         calls: &calls,
         fails,
+        kind,
     };
     let disk = Disk {
         log,
         bytes: b"# A source.\n",
+        names,
     };
     let mut sources = Vec::new(alloc);
     for word in words.split_whitespace() {
@@ -194,7 +207,7 @@ fn build_words<T: Threads + Wait + Sync>(
     let plan = plan(2)?;
     Ok(match read_sources(alloc, disk, &mut reader, words) {
         Ok(texts) => {
-            let mut tree = zic_commands::Disk::new(alloc, disk);
+            let mut tree = zic_commands::Disk::new(alloc, disk, 7);
             build(rt, alloc, &plan, &texts, &mut tree, folder)
         }
         Err(failure) => Err(failure),
@@ -206,31 +219,77 @@ fn a_file_is_written_whole_before_it_has_its_name(rt: HostRuntime) -> Result<(),
     let rows = [
         (
             "",
-            "folder D/Etc\nremove D/Etc/~pzic\ncreate D/Etc/~pzic\nwrite 111\nflush \nrename D/Etc/~pzic\nto D/Etc/UTC\n",
+            "folder D/Etc\ncreate D/Etc/~pzic7\nwrite 111\nflush \nrename D/Etc/~pzic7\nto D/Etc/UTC\n",
         ),
         (
             "folder D/Etc",
             "folder D/Etc\ncannot write D/Etc/UTC, status 3",
         ),
         (
-            "create D/Etc/~pzic",
-            "folder D/Etc\nremove D/Etc/~pzic\ncreate D/Etc/~pzic\nremove D/Etc/~pzic\ncannot write D/Etc/UTC, status 3",
+            "create D/Etc/~pzic7",
+            "folder D/Etc\ncreate D/Etc/~pzic7\ncannot write D/Etc/UTC, status 3",
         ),
         (
             "write 111",
-            "folder D/Etc\nremove D/Etc/~pzic\ncreate D/Etc/~pzic\nwrite 111\nremove D/Etc/~pzic\ncannot write D/Etc/UTC, status 3",
+            "folder D/Etc\ncreate D/Etc/~pzic7\nwrite 111\nremove D/Etc/~pzic7\ncannot write D/Etc/UTC, status 3",
         ),
         (
             "flush ",
-            "folder D/Etc\nremove D/Etc/~pzic\ncreate D/Etc/~pzic\nwrite 111\nflush \nremove D/Etc/~pzic\ncannot write D/Etc/UTC, status 3",
+            "folder D/Etc\ncreate D/Etc/~pzic7\nwrite 111\nflush \nremove D/Etc/~pzic7\ncannot write D/Etc/UTC, status 3",
         ),
         (
-            "rename D/Etc/~pzic",
-            "folder D/Etc\nremove D/Etc/~pzic\ncreate D/Etc/~pzic\nwrite 111\nflush \nrename D/Etc/~pzic\nremove D/Etc/~pzic\ncannot write D/Etc/UTC, status 3",
+            "rename D/Etc/~pzic7",
+            "folder D/Etc\ncreate D/Etc/~pzic7\nwrite 111\nflush \nrename D/Etc/~pzic7\nremove D/Etc/~pzic7\ncannot write D/Etc/UTC, status 3",
         ),
     ];
     for (fails, want) in rows {
+        let fails = (fails, ErrorKind::Other, b"".as_slice());
         let got = built(&rt, rt.alloc(), "D", "-", "Zone Etc/UTC 0 - UTC", fails)?;
+        assert_eq!(rt; got.as_str(), want, "where {:?} fails", fails.0);
+    }
+    Ok(())
+}
+
+#[test]
+fn a_folder_is_entered_once_and_other_runs_may_be_in_it(rt: HostRuntime) -> Result<(), Fail> {
+    let rows: [(&str, ErrorKind, &[u8], &str); 4] = [
+        (
+            "",
+            ErrorKind::Other,
+            b".\0..\0UTC\0",
+            "list D/\ncreate D/~pzic7\nwrite 111\nflush \nrename D/~pzic7\nto D/A\n\
+create D/~pzic7\nwrite 111\nflush \nrename D/~pzic7\nto D/B\n",
+        ),
+        // what runs left behind, and other names; one can't be removed
+        (
+            "remove D/~pzic12",
+            ErrorKind::PermissionDenied,
+            b"~pzic\0~pzic12\0~pzic1x\0x~pzic1\0~pzi\0\xff\0~pzic7\0",
+            "list D/\nremove D/~pzic\nremove D/~pzic12\nremove D/~pzic7\n\
+create D/~pzic7\nwrite 111\nflush \nrename D/~pzic7\nto D/A\n\
+create D/~pzic7\nwrite 111\nflush \nrename D/~pzic7\nto D/B\n",
+        ),
+        // another run has a file of the same name
+        (
+            "create D/~pzic7",
+            ErrorKind::AlreadyExists,
+            b"A\0",
+            "list D/\ncreate D/~pzic7\ncreate D/~pzic8\nwrite 111\nflush \nrename D/~pzic8\nto D/A\n\
+create D/~pzic8\nwrite 111\nflush \nrename D/~pzic8\nto D/B\n",
+        ),
+        // another run removed the file
+        (
+            "rename D/~pzic7",
+            ErrorKind::NotFound,
+            b"A\0",
+            "list D/\ncreate D/~pzic7\nwrite 111\nflush \nrename D/~pzic7\n\
+create D/~pzic7\nwrite 111\nflush \nrename D/~pzic7\nto D/A\n\
+create D/~pzic7\nwrite 111\nflush \nrename D/~pzic7\nto D/B\n",
+        ),
+    ];
+    for (fails, kind, names, want) in rows {
+        let source = "Zone A 0 - UTC\nZone B 0 - UTC";
+        let got = built(&rt, rt.alloc(), "D", "-", source, (fails, kind, names))?;
         assert_eq!(rt; got.as_str(), want, "where {fails:?} fails");
     }
     Ok(())
@@ -259,6 +318,7 @@ fn sources_are_read_from_left_to_right_before_anything_is_made(
         ("-", "# No zone.", "folder D", ""),
     ];
     for (words, input, fails, want) in rows {
+        let fails = (fails, ErrorKind::Other, b"".as_slice());
         let got = built(&rt, rt.alloc(), "D", words, input, fails)?;
         assert_eq!(rt; got.as_str(), want, "of {words:?}");
     }
@@ -267,7 +327,8 @@ fn sources_are_read_from_left_to_right_before_anything_is_made(
 
 #[test]
 fn an_empty_word_is_no_path(rt: HostRuntime) -> Result<(), Fail> {
-    let got = built(&rt, rt.alloc(), "", "-", "Zone A 0 - UTC", "")?;
+    let fails = ("", ErrorKind::Other, b"".as_slice());
+    let got = built(&rt, rt.alloc(), "", "-", "Zone A 0 - UTC", fails)?;
     assert_eq!(rt; got.as_str(), "cannot write /A, status 3");
     Ok(())
 }
@@ -319,10 +380,12 @@ fn words_for_sources_and_files_are_opened(rt: HostRuntime) -> Result<(), Fail> {
         alloc,
         calls: &calls,
         fails: "open none",
+        kind: ErrorKind::Other,
     };
     let source = Disk {
         log,
         bytes: b"Zone Etc/UTC 0 - UTC",
+        names: b"",
     };
     let mut out = Counted::new(Vec::new(alloc));
     let mut input = Counted::new(b"Zone A 0 - UTC".as_slice());
@@ -332,6 +395,7 @@ fn words_for_sources_and_files_are_opened(rt: HostRuntime) -> Result<(), Fail> {
     let file = Disk {
         log,
         bytes: UTC_FILE.as_slice(),
+        names: b"",
     };
     for word in ["f", "none"] {
         show_word(alloc, &file, word, &mut out)?;

@@ -1,0 +1,48 @@
+#!/usr/bin/env bash
+# Has two runs of the program build trees of two sources into one folder at once, 200 times over: the system's release of the tz database,
+# and the same with other abbreviations. No run may fail, each file has to be whole, of the one source or the other, also while they run,
+# and nothing may be left over, also where a run before them was killed. Half of the pairs find a tree that is there, and half none.
+set -euo pipefail
+cd "$(dirname "${BASH_SOURCE[0]}")/.."
+. .ci/release.sh
+
+build zic_main check -
+program=$PWD/crates/zic_main/out/zic_main
+sed 's/%s/X%s/; s/LMT/XMT/' "$release" >"$work/other"
+cd "$work"
+"$program" build one "$release"
+"$program" build two other
+
+# the files of a tree that were placed, with their sums
+sums() {
+    (cd "$1" && find . -type f "${@:2}" -exec sha256sum {} + | sort)
+}
+
+stop() {
+    echo "together: pair $pair: $1" >&2
+    exit 1
+}
+
+{ sums one && sums two; } | sort -u >whole
+(cd one && find . -type f | sort) >names
+[ "$(wc -l <whole)" -gt $(($(wc -l <names) * 3 / 2)) ] || { echo 'together: the two sources have the same files' >&2 && exit 1; }
+for ((pair = 1; pair <= 200; pair++)); do
+    [ $((pair % 2)) = 0 ] || rm -rf tree
+    if [ $((pair % 5)) = 0 ]; then
+        "$program" build tree "$release" &
+        sleep "0.0$((pair % 4 + 1))"
+        kill -9 $! 2>/dev/null || true
+        wait $! 2>/dev/null || true
+    fi
+    "$program" build tree "$release" 2>one.err & one=$!
+    "$program" build tree other 2>two.err & two=$!
+    if [ -d tree ]; then sums tree ! -name '~*' >now || true; else : >now; fi
+    wait $one || stop "the first run failed: $(head -c 200 one.err)"
+    wait $two || stop "the second run failed: $(head -c 200 two.err)"
+    torn=$(comm -23 now whole)
+    [ ! "$torn" ] || stop "while they ran these weren't whole: $torn"
+    torn=$(comm -23 <(sums tree) whole)
+    [ ! "$torn" ] || stop "these are left over, or aren't whole: $torn"
+    (cd tree && find . ! -type d | sort) | cmp - names || stop 'these are not the files of the sources'
+done
+echo "together: 200 pairs of runs at once, $(wc -l <names) files each, all of them whole, and nothing left over"
