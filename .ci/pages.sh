@@ -7,6 +7,8 @@
 #   with what is made of it;
 # - looks for each command and option of docs/help in the manual page and in the completions, and
 #   tries the completions in bash;
+# - compares docs/INDEX.md with what is made of the sources, and looks for public functions without an
+#   edit or a test;
 # - checks links, the length of README.md, and the names in docs/PROOF.md.
 set -euo pipefail
 cd "$(dirname "${BASH_SOURCE[0]}")/.."
@@ -264,7 +266,7 @@ anchors_of() {
     sed -n 's/^##* //p' "$1" | tr '[:upper:] ' '[:lower:]-' | tr -cd '[:lower:][:digit:]_\n-'
 }
 for page in README.md docs/*.md; do
-    for link in $(grep -oE '\]\([^): ]+' "$page" | cut -c 3-); do
+    for link in $(grep -oE '\]\([^): ]+' "$page" | cut -c 3- | sort -u); do
         file=${link%%#*}
         file=${file:+$(dirname "$page")/}${file:-$page}
         if [ ! -e "$file" ]; then
@@ -284,6 +286,9 @@ grep -oE "\`($verbs)[A-Za-z]*\`" docs/PROOF.md | tr -d '`' | sort -u |
 for crate in $(sed -n 's/^\(zic_[a-z_]*\).*:.*/\1/p' crates.txt); do
     grep -q "^\*\*$crate\*\*" docs/PROOF.md || differ "docs/PROOF.md tells nothing of $crate"
 done
+cmp -s <(docs/make-index.py) docs/INDEX.md ||
+    differ 'docs/INDEX.md is not what docs/make-index.py makes'
+docs/make-index.py --check >"$work/lacks" || differ "docs/make-index.py finds: $(cat "$work/lacks")"
 
 echo "pages: $(wc -l <"$log") differences"
 [ ! -s "$log" ]
