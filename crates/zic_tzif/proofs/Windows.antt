@@ -1,5 +1,5 @@
 -- Windows of a search among times that rise.
-use Rattle.std.proofs.Common.{◌≡◌, ℕ, ◌+◌, ◌*◌, ◌<◌, ◌≤◌, ◌^◌, ℤ, ◌<ℤ◌, ◌≤ℤ◌, inl, inr, List, length, get_or, AllPairs, Bool, true, false, sym, subst, arith}
+use Rattle.std.proofs.Common.{◌≡◌, ℕ, ◌+◌, ◌-◌, ◌*◌, ◌<◌, ◌≤◌, ◌^◌, ◌⊎◌, ℤ, pos, ◌<ℤ◌, ◌≤ℤ◌, inl, inr, List, length, get_or, AllPairs, Bool, true, false, sym, subst, arith}
 use Rattle.std.specs.Prelude.{int_le}
 use Rattle.std.proofs.lemmas.List.{get_or_default}
 use Rattle.std.proofs.lemmas.Bool.{cases_lt}
@@ -37,6 +37,23 @@ module _ (times : List ℤ) (t : ℤ) (rising : AllPairs (λ a b. a <ℤ b) time
     | inl less ↦ let higher : get_or times place d <ℤ get_or times k d = rising place k d less inside in let low : t <ℤ get_or times place d = here d in omega (arith, ints, higher, low)
     | inr not ↦ let same : place ≡ k = omega (arith, behind, not) in subst (λ (n : ℕ). t <ℤ get_or times n d) same (here d)
   ]
+
+  -- where the time before a place has come, and the one at it hasn't, the times pass
+  pub split_at : (place : ℕ) → place ≤ length times → (0 < place → get_or times (place - 1) (pos 0) ≤ℤ t)
+      → (place ≡ length times) ⊎ (t <ℤ get_or times place (pos 0)) → IsSplit times t place
+  split_at place inside come to_come = record {
+    inside = inside;
+    not_after = λ k below d.
+        let within : place - 1 < length times = omega (arith, below, inside) in
+        let here = λ (e : ℤ). subst (λ (z : ℤ). z ≤ℤ t) (get_or_default times (place - 1) (pos 0) e within) (come (omega (arith, below))) in
+        up_to (place - 1) within here k (omega (arith, below)) d;
+    after = λ k behind last d. elim to_come [
+      | inl end ↦ absurd (omega (arith, behind, last, end))
+      | inr after ↦
+          let there = λ (e : ℤ). subst (λ (z : ℤ). t <ℤ z) (get_or_default times place (pos 0) e (let h : place < length times = omega (arith, behind, last) in h)) after in
+          from place there k behind last d
+    ];
+  }
 
   upper_half : (base level place : ℕ) → IsWindow times t base (level + 1) → place + 1 ≡ base + 2 ^ level → ((d : ℤ) → get_or times place d ≤ℤ t) → IsWindow times t (base + 2 ^ level) level
   upper_half base level place window is here =

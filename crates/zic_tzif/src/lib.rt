@@ -6,6 +6,7 @@ mod data_block;
 mod designation;
 mod gap;
 mod header;
+mod hints;
 pub mod laws;
 mod reader;
 mod reason;

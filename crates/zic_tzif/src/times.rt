@@ -1,7 +1,10 @@
 //! A search among times that rise.
 
-ghost use Rattle.std.specs.Prelude.{◌≡◌, ◌+◌, ◌*◌, ◌<◌, ◌≤◌, ◌^◌, ◌<ℤ◌, length, AllPairs};
+ghost use Rattle.std.specs.Prelude.{◌≡◌, ◌+◌, ◌*◌, ◌<◌, ◌≤◌, ◌^◌, ◌<ℤ◌, length, AllPairs, IfOk, IsTrue};
 ghost use Rattle.zic_tzif.specs.code.Window.{IsWindow, IsSplit, AreLevels};
+
+use crate::hints::Hints;
+use std::alloc::{AllocError, Global};
 
 /// The most halvings, at the end of a search, that the compiler may write out one by one: those of
 /// the zones in use.
@@ -11,6 +14,7 @@ const SHORT: u32 = 7;
 #[derive(Debug, Drop)]
 pub struct Times {
     pub times: Vec<i64>,
+    hints: Hints,
     /// The number of halvings.
     levels: u32,
     ghost levels_are: { AreLevels levels (length times.items) },
@@ -18,15 +22,38 @@ pub struct Times {
 
 impl Times {
     /// Returns these times, ready to be searched.
-    pub fn new(times: Vec<i64>) -> Times
-        ensures { result.times ≡ times }
+    pub fn new(alloc: Global, times: Vec<i64>) -> Result<Times, AllocError>
+        ensures { IfOk result (λ made. made.times ≡ times) }
     {
         let levels = (times.len() + 1).ilog2();
-        Times { times, levels }
+        let hints = Hints::new(alloc, &times)?;
+        Ok(Times {
+            times,
+            hints,
+            levels,
+        })
     }
 
     /// Counts the times that aren't after an instant. The times rise.
     pub fn count_not_after(&self, t: i64) -> usize
+        requires { AllPairs (λ a b. a <ℤ b) self.now.times.items }
+        ensures { IsSplit self.now.times.items t result }
+    {
+        let times = self.times.as_slice();
+        let near = self.hints.count_near(t).min(times.len());
+        let count = if near < times.len() && times[near] <= t {
+            near + 1
+        } else {
+            near
+        };
+        if pass_at(times, count, t) {
+            return count;
+        }
+        self.search(t)
+    }
+
+    /// Counts the times that aren't after an instant, without a hint. The times rise.
+    fn search(&self, t: i64) -> usize
         requires { AllPairs (λ a b. a <ℤ b) self.now.times.items }
         ensures { IsSplit self.now.times.items t result }
     {
@@ -39,6 +66,19 @@ impl Times {
         }
         narrow(times, base, level, t)
     }
+}
+
+/// Returns whether the times pass `t` at a place: the one before it isn't after `t`, and the one at
+/// it is.
+fn pass_at(times: &[i64], place: usize, t: i64) -> bool
+    requires rising { AllPairs (λ a b. a <ℤ b) times.now }
+    requires inside { place ≤ length times.now }
+    ensures { IsTrue result → IsSplit times.now t place }
+{
+    if place > 0 && t < times[place - 1] {
+        return false;
+    }
+    place == times.len() || t < times[place]
 }
 
 /// Returns the window of this many levels, at the front or at the end, in which the times pass

@@ -88,7 +88,7 @@ impl Zone {
         let lengths = name_lengths(alloc, &stored.names, &stored.types)?;
         Ok(Zone {
             version: stored.version,
-            times: Times::new(stored.times),
+            times: Times::new(alloc, stored.times)?,
             numbers: stored.numbers,
             types: stored.types,
             lengths,

@@ -1,6 +1,6 @@
 use Rattle.std.proofs.Common.{◌-◌, ◌<◌}
 use Rattle.zic_tzif.specs.code.Window.{IsWindow}
-use Rattle.zic_tzif.proofs.times.Times.count_not_after.Given as goal
+use Rattle.zic_tzif.proofs.times.Times.search.Given as goal
 
 abbrev pub invariant-loop-level : goal.invariant-loop-level
 invariant-loop-level l = record {
