@@ -14,3 +14,5 @@ pub mod Lasts
 pub mod Meanings
 pub mod Cycles
 pub mod Spans
+pub mod YearKinds
+pub mod YearParts

@@ -40,10 +40,10 @@ standard_from : (standard : ℤ) (dst : Dst) (t a b : ℤ) → IsLastNotAfter (s
 standard_from standard dst t a b start stop h =
     record { year = b; stopped = stop.not_after; last = λ other early. omega (arith, ints, start.last other early) }
 
-not_above : (a b : ℤ) → a ≤ℤ b → int_le a b ≡ true
+pub not_above : (a b : ℤ) → a ≤ℤ b → int_le a b ≡ true
 not_above a b h = grind (arith, ints)
 
-above : (a b : ℤ) → b <ℤ a → int_le a b ≡ false
+pub above : (a b : ℤ) → b <ℤ a → int_le a b ≡ false
 above a b h = grind (arith, ints)
 
 -- the later of the last start and the last end decides, and at a tie the start

@@ -29,7 +29,7 @@ use Rattle.zic_posix.proofs.Cycles.{AreYears, cycles_between, edge_moves, edge_m
 near_second : (day time offset : ℤ) → IsNearSupportedDay day → unsigned_abs time < 604_800 → unsigned_abs offset ≤ 93_599 → IsNear (((pos 86_400 *ℤ day) +ℤ time) -ℤ offset)
 near_second day time offset near small within = omega (arith, ints)
 
-near_instant : (edge : Edge) (offset year : ℤ) → IsEdge edge → unsigned_abs offset ≤ FARTHEST_FILE_OFFSET → pos 1968 ≤ℤ year → year ≤ℤ pos 2371 → IsNear (instant_in edge offset year)
+pub near_instant : (edge : Edge) (offset year : ℤ) → IsEdge edge → unsigned_abs offset ≤ FARTHEST_FILE_OFFSET → pos 1968 ≤ℤ year → year ≤ℤ pos 2371 → IsNear (instant_in edge offset year)
 near_instant edge offset year is within from to =
     near_second (day_in year edge.day) edge.time offset (day_in-near year edge.day (omega (arith, ints), omega (arith, ints)) is.day) is.time within
 

@@ -3,3 +3,5 @@ pub mod Reading
 pub mod Text
 pub mod State
 pub mod Span
+pub mod Inside
+pub mod Years

@@ -8,11 +8,14 @@ mod instants;
 pub mod laws;
 mod limit;
 mod parser;
+mod prepared;
 mod printer;
 mod reader;
 mod span;
 mod state;
 mod word;
+mod year_table;
+mod years;
 
 pub use footer::{Abbr, DayRule, Dst, Edge, Footer};
 pub use grammar_laws::{some_text_spells, spells_at_most_one, spells_within_limits};
@@ -22,5 +25,6 @@ pub use limit::{
     USUAL_TIME,
 };
 pub use parser::{ParseStop, parse};
+pub use prepared::PreparedFooter;
 pub use printer::print;
 pub use span::StateSpan;

@@ -1,17 +1,19 @@
 //! A footer's state at an instant, and the instants round it at which it is the same.
 
-ghost use Rattle.std.specs.Prelude.{◌≤◌, unsigned_abs};
+ghost use Rattle.std.specs.Prelude.{◌≤◌, unsigned_abs, IfSome};
 ghost use Rattle.zic_base.specs.declared.limit.TheConstants.{FARTHEST_FILE_OFFSET};
 ghost use Rattle.zic_base.specs.State.{shown};
 ghost use Rattle.zic_posix.specs.Grammar.{IsEdge, IsOffset, IsDaylight};
 ghost use Rattle.zic_posix.specs.Instants.{Includes, AreBetween};
 ghost use Rattle.zic_posix.specs.Meaning.{HasEdgeAt, MeansThroughout};
 ghost use Rattle.zic_posix.specs.code.Span.{IsAround, IsPhase};
+ghost use Rattle.zic_posix.specs.code.Years.{IsYearTable, IsTableOf};
 ghost use Rattle.zic_posix.specs.code.State.{IsInCycle, IsLatestYear, IsYearOfCycle, instant_in};
 
 use crate::footer::{Dst, Edge, Footer};
 use crate::instants::{Instants, MAX_INSTANT, MIN_INSTANT};
 use crate::state::{CYCLE, daylight_state, instant_in, latest_year};
+use crate::year_table::YearTable;
 use zic_base::State;
 
 /// The state that a footer shows at some instants, at all of them the same.
@@ -30,6 +32,17 @@ impl Footer {
         ensures means { MeansThroughout self.now result.instants (shown result.state) }
         ensures edges { AreBetween (HasEdgeAt self.now) result.instants }
     {
+        self.span_by(None, t)
+    }
+
+    /// Returns the state at an instant and the instants round it, as `span` has them, with the help
+    /// of a table of the years' edges if there is one.
+    pub(crate) fn span_by(&self, years: Option<&YearTable>, t: i64) -> StateSpan<'_>
+        requires { IfSome years (λ table. IsTableOf self.now table.now) }
+        ensures asked { Includes result.instants t }
+        ensures means { MeansThroughout self.now result.instants (shown result.state) }
+        ensures edges { AreBetween (HasEdgeAt self.now) result.instants }
+    {
         let Some(dst) = &self.dst else {
             let instants = Instants {
                 first: MIN_INSTANT,
@@ -41,7 +54,7 @@ impl Footer {
             };
         };
         let in_cycle = t.rem_euclid(CYCLE);
-        let phase = phase_at(self.offset, dst, in_cycle);
+        let phase = phase_by(self.offset, dst, years, in_cycle);
         let instants = Instants {
             first: t.saturating_sub(in_cycle - phase.from),
             last: t.saturating_add(phase.until - in_cycle - 1),
@@ -57,10 +70,25 @@ impl Footer {
 
 /// The time in force at an instant, the edge since which it is, and the edge until which.
 #[derive(Clone, Copy)]
-struct Phase {
-    is_daylight: bool,
-    from: i64,
-    until: i64,
+pub(crate) struct Phase {
+    pub is_daylight: bool,
+    pub from: i64,
+    pub until: i64,
+}
+
+/// Returns the time in force at an instant of the first 400 years from 1970 on, with the help of a
+/// table of the years' edges if there is one.
+fn phase_by(standard: i32, dst: &Dst, years: Option<&YearTable>, t: i64) -> Phase
+    requires standard { IsOffset standard }
+    requires dst { IsDaylight standard dst.now }
+    requires years { IfSome years (λ table. IsYearTable standard dst.now table.now) }
+    requires t { IsInCycle t }
+    ensures { IsPhase standard dst.now t result }
+{
+    match years {
+        Some(table) => table.phase_at(t),
+        None => phase_at(standard, dst, t),
+    }
 }
 
 /// Returns the time in force at an instant of the first 400 years from 1970 on.

@@ -1,9 +1,10 @@
 -- The states of a file by number.
-use Rattle.std.proofs.Common.{◌≡◌, ℕ, ◌+◌, ◌-◌, ◌<◌, ◌≤◌, ◌⊎◌, ◌↔◌, inl, inr, Bool, true, false, List, [], length, ℤ, Option, Some, None, refl, sym, ap, subst, ◌∙◌, arith}
-use Rattle.std.specs.Prelude.{IsSomeAnd, slice_get, is_some}
+use Rattle.std.proofs.Common.{◌≡◌, ℕ, ◌+◌, ◌-◌, ◌<◌, ◌≤◌, ◌⊎◌, inl, inr, true, false, List, [], length, ℤ, Option, Some, None, refl, sym, ap, subst, ◌∙◌, arith}
+use Rattle.std.specs.Prelude.{IsSomeAnd, slice_get, is_some, option_map}
 use Rattle.std.proofs.lemmas.Bool.{cases_lt}
-use Rattle.std.proofs.lemmas.Option.{slice_get_within}
-use Rattle.zic_base.specs.State.{Shown}
+use Rattle.std.proofs.lemmas.Option.{same_Some, slice_get_within}
+use Rattle.zic_base.specs.State.{Shown, shown}
+use Rattle.zic_base.specs.declared.state.State.{State}
 use Rattle.zic_posix.specs.declared.footer.Dst.{Dst}
 use Rattle.zic_posix.specs.Footer.{TzString}
 use Rattle.zic_posix.specs.Grammar.{Spells}
@@ -103,41 +104,48 @@ within_types content number empty has = (states_without_footer content (length c
 
 -- ---- what is shown
 
-abbrev pub standard_shown : ℤ → List ℕ → Shown
-standard_shown offset name = record { offset = offset; daylight = false; name = name }
+-- the daylight part that a state is of, where there is one
+daylight_of : (found : Option State) (o : Option Dst) (state : State) → found ≡ Some state → option_map shown found ≡ option_map daylight_state o
+    → IsSomeAnd o (λ dst. shown state ≡ daylight_state dst)
+daylight_of None o state is same = absurd cc
+daylight_of (Some other) None state is same = absurd cc
+daylight_of (Some other) (Some dst) state is same =
+    ap shown (sym (same_Some other state is)) ∙ same_Some (shown other) (daylight_state dst) same
 
-abbrev pub daylight_shown : ℤ → List ℕ → Shown
-daylight_shown offset name = record { offset = offset; daylight = true; name = name }
+pub has_daylight : (found : Option State) (o : Option Dst) → option_map shown found ≡ option_map daylight_state o → is_some found ≡ is_some o
+has_daylight None None same = refl
+has_daylight None (Some dst) same = absurd cc
+has_daylight (Some state) None same = absurd cc
+has_daylight (Some state) (Some dst) same = refl
 
-standard_is : (f : TzString) (offset : ℤ) (name : List ℕ) → offset ≡ f.offset → name ≡ f.std → standard_shown offset name ≡ standard_state f
-standard_is f offset name same_offset same_name = rw (same_offset, same_name) refl
+at_most_two : (o : Option Dst) → string_states o ≤ 2
+at_most_two None = omega arith
+at_most_two (Some dst) = omega arith
 
-daylight_is : (dst : Dst) (offset : ℤ) (name : List ℕ) → offset ≡ dst.offset → name ≡ dst.name → daylight_shown offset name ≡ daylight_state dst
-daylight_is dst offset name same_offset same_name = rw (same_offset, same_name) refl
-
-module _ (content : Content) (f : TzString) (number : ℕ) (spells : Spells content.version content.text f) (has : HasStateOfNumber content number) where
+module _ (content : Content) (f : TzString) (number : ℕ) (spells : Spells content.version content.text f) (has : HasStateOfNumber content number)
+    (found : Option State) (same : option_map shown found ≡ option_map daylight_state f.dst) where
   below_count : number < length content.types + string_states f.dst
   below_count = (states_with_footer content f (length content.types + string_states f.dst) spells refl number).1 has
 
   -- the number after those of types is standard time's
-  pub standard_numbered : (offset : ℤ) (name : List ℕ) → length content.types ≤ number → (number ≤ length content.types) ⊎ (f.dst ≡ None)
-      → offset ≡ f.offset → name ≡ f.std → IsStateOfNumber content number (standard_shown offset name)
-  standard_numbered offset name from to same_offset same_name =
-      let none = λ (o : Option Dst) (e : o ≡ None). subst (λ (o : Option Dst). string_states o ≡ 1) (sym e) refl in
+  pub standard_numbered : (state : Shown) → length content.types ≤ number → (number ≤ length content.types) ⊎ (found ≡ None) → state ≡ standard_state f
+      → IsStateOfNumber content number state
+  standard_numbered state from to is =
       let at : number ≡ length content.types + 0 = elim to [
-        | inl same ↦ omega (arith, from, same)
-        | inr constant ↦ let below = below_count in let one = none f.dst constant in omega (arith, from, below, one)
+        | inl end ↦ omega (arith, from, end)
+        | inr none ↦
+            let below = below_count in
+            let one = states_of_none f.dst (sym (has_daylight found f.dst same) ∙ ap is_some none) in
+            omega (arith, from, below, one)
       ] in
-      inr (f, spells, (0, at, inl (refl, standard_is f offset name same_offset same_name)))
+      inr (f, spells, (0, at, inl (refl, is)))
 
   -- and the one after that daylight saving time's
-  pub daylight_numbered : (dst : Dst) (offset : ℤ) (name : List ℕ) → length content.types < number → f.dst ≡ Some dst
-      → offset ≡ dst.offset → name ≡ dst.name → IsStateOfNumber content number (daylight_shown offset name)
-  daylight_numbered dst offset name after is same_offset same_name =
+  pub daylight_numbered : (state : State) → length content.types < number → found ≡ Some state → IsStateOfNumber content number (shown state)
+  daylight_numbered state after is =
       let below = below_count in
-      let two : string_states f.dst ≡ 2 = subst (λ (o : Option Dst). string_states o ≡ 2) (sym is) refl in
-      let there = subst (λ (o : Option Dst). IsSomeAnd o (λ dst. daylight_shown offset name ≡ daylight_state dst)) (sym is) (daylight_is dst offset name same_offset same_name) in
-      inr (f, spells, (1, omega (arith, after, below, two), inr (refl, there)))
+      let two = at_most_two f.dst in
+      inr (f, spells, (1, omega (arith, after, below, two), inr (refl, daylight_of found f.dst state is same)))
 
 -- what a string means is one of its two states
 means_place : (f : TzString) (o : Option Dst) (t : ℤ) (state : Shown) → MeansBy f o t state

@@ -11,7 +11,7 @@ use std::alloc::{AllocError, Global};
 use std::marker::Model;
 use zic_base::State;
 use zic_content::LocalType;
-use zic_posix::Footer;
+use zic_posix::{Footer, PreparedFooter};
 
 mod span;
 mod states;
@@ -31,7 +31,7 @@ pub struct Zone {
     lengths: Vec<usize>,
     names: Vec<u8>,
     text: Vec<u8>,
-    footer: Option<Footer>,
+    footer: Option<PreparedFooter>,
 }
 
 impl Model for Zone {
@@ -94,7 +94,7 @@ impl Zone {
             lengths,
             names: stored.names,
             text: stored.text,
-            footer,
+            footer: footer.map(PreparedFooter::new),
         })
     }
 

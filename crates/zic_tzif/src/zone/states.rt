@@ -18,7 +18,7 @@ impl Zone {
     {
         let types = self.types.len();
         match &self.footer {
-            Some(footer) if footer.dst.is_some() => types + 2,
+            Some(footer) if footer.daylight_state().is_some() => types + 2,
             Some(_) => types + 1,
             None => types,
         }
@@ -32,17 +32,9 @@ impl Zone {
     {
         let types = self.types.len();
         match &self.footer {
-            Some(footer) if number >= types => match &footer.dst {
-                Some(dst) if number > types => State {
-                    offset: dst.offset,
-                    daylight: true,
-                    name: dst.name.octets(),
-                },
-                _ => State {
-                    offset: footer.offset,
-                    daylight: false,
-                    name: footer.std.octets(),
-                },
+            Some(footer) if number >= types => match footer.daylight_state() {
+                Some(state) if number > types => state,
+                _ => footer.standard_state(),
             },
             _ => self.state_of(number),
         }

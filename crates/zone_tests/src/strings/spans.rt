@@ -4,6 +4,7 @@
 
 use std::process::Abort;
 use std::test::Fail;
+use zic_base::State;
 use zic_posix::*;
 
 /// An instant, the first and the last instant of its span, and whether it is daylight saving time.
@@ -12,6 +13,7 @@ type Row = (i64, i64, i64, bool);
 /// Checks the spans of a footer.
 fn check(rt: &(impl Abort + AllocGlobal), text: &str, rows: &[Row]) -> Result<(), Fail> {
     let footer = parse(rt.alloc(), text.as_bytes(), 3)?;
+    let prepared = PreparedFooter::new(parse(rt.alloc(), text.as_bytes(), 3)?);
     for (t, first, last, daylight) in rows {
         let span = footer.span(*t);
         let instants = Instants {
@@ -20,6 +22,8 @@ fn check(rt: &(impl Abort + AllocGlobal), text: &str, rows: &[Row]) -> Result<()
         };
         assert!(rt; span.instants == instants, "{text} at {t}");
         assert!(rt; span.state.daylight == *daylight, "{text} at {t}");
+        assert!(rt; prepared.span(*t) == span, "{text} at {t}, prepared");
+        assert!(rt; prepared.state(*t) == span.state, "{text} at {t}, prepared");
     }
     Ok(())
 }
@@ -81,4 +85,26 @@ fn instants_have_both_ends(rt: HostRuntime) {
     let instants = Instants { first: -1, last: 1 };
     assert!(rt; instants.contains(-1) && instants.contains(1));
     assert!(rt; !instants.contains(-2) && !instants.contains(2));
+}
+
+#[test]
+fn a_prepared_footer_tells_its_states(rt: HostRuntime) -> Result<(), Fail> {
+    let text = b"EST5EDT,M3.2.0,M11.1.0";
+    let prepared = PreparedFooter::new(parse(rt.alloc(), text, 3)?);
+    let standard = State {
+        offset: -18_000,
+        daylight: false,
+        name: b"EST",
+    };
+    let daylight = State {
+        offset: -14_400,
+        daylight: true,
+        name: b"EDT",
+    };
+    assert!(rt; prepared.standard_state() == standard);
+    assert!(rt; prepared.daylight_state() == Some(daylight));
+    let prepared = PreparedFooter::new(parse(rt.alloc(), b"EST5", 3)?);
+    assert!(rt; prepared.standard_state() == standard);
+    assert!(rt; prepared.daylight_state().is_none());
+    Ok(())
 }

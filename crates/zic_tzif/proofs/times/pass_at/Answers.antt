@@ -1,4 +1,4 @@
-use Rattle.std.proofs.Common.{◌≡◌, ℕ, ◌-◌, ◌<◌, ◌≤◌, true, false, ℤ, pos, ◌<ℤ◌, ◌≤ℤ◌, inl, inr, length, get_or, FitsSigned, w64, to_z-of_z, arith, rules}
+use Rattle.std.proofs.Common.{◌≡◌, ◌-◌, ◌<◌, true, false, ℤ, pos, ◌<ℤ◌, ◌≤ℤ◌, inl, inr, length, get_or, FitsSigned, w64, to_z-of_z, arith, rules}
 use Rattle.std.specs.Prelude.{int_lt}
 use Rattle.std.proofs.lemmas.Int.{ints}
 use borrow.Author.Differences.{lt-true, lt-false}

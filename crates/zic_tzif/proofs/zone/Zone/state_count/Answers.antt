@@ -1,10 +1,8 @@
-use Rattle.std.proofs.Common.{◌≡◌, ℕ, ◌+◌, length, Option, refl, sym, ap, subst, ◌∙◌, arith}
-use Rattle.zic_posix.specs.declared.footer.Dst.{Dst}
-use Rattle.zic_posix.specs.Footer.{TzString}
+use Rattle.std.proofs.Common.{length, sym, ap, subst, ◌∙◌, arith}
 use Rattle.zic_content.specs.Content.{Content}
 use Rattle.zic_tzif.specs.code.Kept.{IsKept}
 use Rattle.zic_tzif.proofs.Search.{kept_footer, kept_none}
-use Rattle.zic_tzif.proofs.States.{string_states, states_of_some, states_of_none, states_without_footer, states_with_footer}
+use Rattle.zic_tzif.proofs.States.{states_of_some, states_of_none, has_daylight, states_without_footer, states_with_footer}
 use Rattle.zic_tzif.proofs.zone.Zone.state_count.Goals as goal
 
 pub returns-in-Some : goal.returns-in-Some
@@ -14,9 +12,7 @@ returns-in-Some c =
     let f = c.in-Some.footer in
     let kept = subst (λ (content : Content). IsKept content footer) c.self.view_is c.self.invariant.kept in
     let types = ap (λ (content : Content). length content.types) c.self.view_is in
-    let dst : c.footer.inside.dst ≡ f.dst = ap (λ (f : TzString). f.dst) c.footer.view_is in
-    let states : string_states f.dst ≡ 2 =
-    subst (λ (o : Option Dst). string_states o ≡ 2) dst (states_of_some c.footer.inside.dst (sym c.is_some.ensures ∙ c.if-is_some.true)) in
+    let states = states_of_some f.dst (sym (has_daylight c.daylight_state.result f.dst c.daylight_state.ensures) ∙ sym c.is_some.ensures ∙ c.if-is_some.true) in
     states_with_footer content f _ (kept_footer content footer f kept.footer_is c.in-Some.is).spells (omega (arith, c.len-types.ensures, types, states))
 
 pub returns-in-Some-2 : goal.returns-in-Some-2
@@ -26,9 +22,7 @@ returns-in-Some-2 c =
     let f = c.in-Some.footer in
     let kept = subst (λ (content : Content). IsKept content footer) c.self.view_is c.self.invariant.kept in
     let types = ap (λ (content : Content). length content.types) c.self.view_is in
-    let dst : c.footer.inside.dst ≡ f.dst = ap (λ (f : TzString). f.dst) c.footer.view_is in
-    let states : string_states f.dst ≡ 1 =
-    subst (λ (o : Option Dst). string_states o ≡ 1) dst (states_of_none c.footer.inside.dst (sym c.is_some.ensures ∙ c.if-is_some.false)) in
+    let states = states_of_none f.dst (sym (has_daylight c.daylight_state.result f.dst c.daylight_state.ensures) ∙ sym c.is_some.ensures ∙ c.if-is_some.false) in
     states_with_footer content f _ (kept_footer content footer f kept.footer_is c.in-Some.is).spells (omega (arith, c.len-types.ensures, types, states))
 
 pub returns-in-None : goal.returns-in-None

@@ -11,8 +11,8 @@ use Rattle.zic_posix.specs.code.State.{IsInCycle}
 use Rattle.zic_posix.proofs.Cycles.{by_daylight, by_standard}
 use Rattle.zic_posix.proofs.Meanings.{means_throughout}
 use Rattle.zic_posix.proofs.Spans.{asked, between_edges}
-use Rattle.zic_posix.proofs.footer.Footer.span.Goals as goal
-use Rattle.zic_posix.proofs.footer.Footer.span.Goals.{then-phase, else-phase}
+use Rattle.zic_posix.proofs.footer.Footer.span_by.Goals as goal
+use Rattle.zic_posix.proofs.footer.Footer.span_by.Goals.{then-phase, else-phase}
 
 -- the instant of the cycle that the code takes
 abbrev in_cycle : ℤ → ℤ
@@ -44,11 +44,11 @@ last_kept t in_cycle until t_fits cycle_fits until_fits here near =
 
 pub overflow_sub-in_cycle : goal.overflow_sub-in_cycle
 overflow_sub-in_cycle c =
-    omega (arith, ints, c.phase_at-phase.ensures.from_near, c.rem_euclid-in_cycle.ensures.lower_bound, c.rem_euclid-in_cycle.ensures.upper_bound)
+    omega (arith, ints, c.phase_by-phase.ensures.from_near, c.rem_euclid-in_cycle.ensures.lower_bound, c.rem_euclid-in_cycle.ensures.upper_bound)
 
 pub overflow_sub-phase-2 : goal.overflow_sub-phase-2
 overflow_sub-phase-2 c =
-    omega (arith, ints, c.phase_at-phase.ensures.until_near, c.rem_euclid-in_cycle.ensures.lower_bound, c.rem_euclid-in_cycle.ensures.upper_bound)
+    omega (arith, ints, c.phase_by-phase.ensures.until_near, c.rem_euclid-in_cycle.ensures.lower_bound, c.rem_euclid-in_cycle.ensures.upper_bound)
 
 pub returns : goal.returns
 returns c =
@@ -57,7 +57,7 @@ returns c =
     let dst = c.in-Some.dst in
     let t = c.args.t in
     let r = c.rem_euclid-in_cycle.result in
-    let phase = c.phase_at-phase.result in
+    let phase = c.phase_by-phase.result in
     let offset_fits : FitsSigned w32 g.offset = search rules in
     let r_fits : FitsSigned w64 r = search rules in
     let from_fits : FitsSigned w64 phase.from = search rules in
@@ -66,7 +66,7 @@ returns c =
     let last_fits : FitsSigned w64 c.saturating_add.result = search rules in
     let here : IsInCycle r = (omega (arith, ints, c.rem_euclid-in_cycle.ensures.lower_bound), omega (arith, ints, c.rem_euclid-in_cycle.ensures.upper_bound)) in
     let remainder : r ≡ in_cycle t = c.rem_euclid-in_cycle.ensures.value ∙ ap in_cycle (to_z-of_z c.ranges.t) in
-    let is = rw (to_z-of_z offset_fits, to_z-of_z r_fits) at c.phase_at-phase.ensures in
+    let is = rw (to_z-of_z offset_fits, to_z-of_z r_fits) at c.phase_by-phase.ensures in
     let first = c.saturating_sub.ensures ∙ first_kept t r phase.from c.ranges.t r_fits from_fits here is.from_near in
     let last = c.saturating_add.ensures ∙ last_kept t r phase.until c.ranges.t r_fits until_fits here is.until_near in
     let instants : Instants = record { first = c.saturating_sub.result; last = c.saturating_add.result } in
