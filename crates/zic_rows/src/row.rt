@@ -65,7 +65,7 @@ impl<'a> RowWriter<'a> {
         requires { IsRowState (shown state) }
         ensures { self.new ≡ shown state.entry }
     {
-        self.state = StateText::new(state);
+        self.state.turn_to(state);
     }
 
     /// Appends the text of a row. The instant is one that a row may have. Where memory runs out, a

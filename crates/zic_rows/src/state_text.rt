@@ -1,6 +1,6 @@
 //! The text of a state at the end of a row.
 
-ghost use Rattle.std.specs.Prelude.{◌≡◌, ◌++◌, OnOk};
+ghost use Rattle.std.specs.Prelude.{◌≡◌, ◌≤◌, ◌++◌, take, OnOk};
 ghost use Rattle.zic_base.specs.State.{shown};
 ghost use Rattle.zic_rows.specs.Instant.{IsRowOffset};
 ghost use Rattle.zic_rows.specs.Row.{state_text, IsRowState};
@@ -30,17 +30,19 @@ impl<'a> StateText<'a> {
         requires { IsRowState (shown state) }
         ensures { result.state ≡ state.entry }
     {
-        let name = state.name;
-        let end = 13 + name.len();
         let mut octets = [0; ROOM];
-        octets[..13].copy_from_slice(&before_name(state.offset, state.daylight));
-        octets[13..end].copy_from_slice(name);
-        octets[end] = b'\n';
-        StateText {
-            state,
-            octets,
-            len: end + 1,
-        }
+        let len = write_text(&mut octets, &state);
+        StateText { state, octets, len }
+    }
+
+    /// Turns to another state. Its text is written in place, since a copy of it would wait for its
+    /// bytes.
+    pub(crate) fn turn_to(&mut self, state: State<'a>)
+        requires { IsRowState (shown state) }
+        ensures { self.new.state ≡ state.entry }
+    {
+        self.len = write_text(&mut self.octets, &state);
+        self.state = state;
     }
 
     /// Returns the UT offset in seconds, positive east.
@@ -64,6 +66,20 @@ impl<'a> StateText<'a> {
         text.truncate(len);
         Ok(())
     }
+}
+
+/// Writes the text of a state, and returns its length.
+fn write_text(octets: &mut [u8; ROOM], state: &State<'_>) -> usize
+    requires { IsRowState (shown state.now) }
+    ensures text { take result octets.new ≡ state_text (shown state.now) }
+    ensures fits { result ≤ 32 }
+{
+    let name = state.name;
+    let end = 13 + name.len();
+    octets[..13].copy_from_slice(&before_name(state.offset, state.daylight));
+    octets[13..end].copy_from_slice(name);
+    octets[end] = b'\n';
+    end + 1
 }
 
 /// Returns the part of a state's text before the abbreviation.
