@@ -61,8 +61,12 @@ class Index:
     def changed(self, path):
         """Yields the public functions that an edit changes, each with the private one in which it stands, if any."""
         crate, lines = path.relative_to(CRATES).parts[0], path.read_text().splitlines()
-        for file, old in zip(lines[0::3], lines[1::3]):
-            module = self.tree.modules[CRATES / crate / file.removeprefix('file: ')]
+        module = None
+        for old in lines:
+            if old.startswith('file: '):
+                module = self.tree.modules[CRATES / crate / old.removeprefix('file: ')]
+            if not old.startswith('old: '):
+                continue
             place = module.raw.find(old.removeprefix('old: '))
             constant = re.search(r'const (\w+)', old)
             for f in module.functions:
