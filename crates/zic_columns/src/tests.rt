@@ -54,6 +54,16 @@ fn count_same(rt: &impl Abort, alloc: Global, bytes: &[u8]) -> Result<u32, Fail>
     Ok(records)
 }
 
+/// Returns the number of records of bytes within a column.
+fn count_records(alloc: Global, bytes: &[u8]) -> Result<usize, Fail> {
+    let split = Split::new(alloc, bytes)?;
+    let mut count = 0usize;
+    for _ in split.records() {
+        count = count.wrapping_add(1);
+    }
+    Ok(count)
+}
+
 #[test]
 fn records_are_those_of_a_csv_reader(rt: HostRuntime) -> Result<(), Fail> {
     for (len, count) in [(0, 1), (1, 5), (2, 25), (3, 125), (4, 625)] {
@@ -61,8 +71,8 @@ fn records_are_those_of_a_csv_reader(rt: HostRuntime) -> Result<(), Fail> {
             let text = text(rt.alloc(), number, len)?;
             let all = count_same(&rt, rt.alloc(), &text)?;
             let (first, rest) = split_records(&text, 1);
-            let before = Split::new(rt.alloc(), first)?.records().count();
-            let after = Split::new(rt.alloc(), rest)?.records().count();
+            let before = count_records(rt.alloc(), first)?;
+            let after = count_records(rt.alloc(), rest)?;
             assert_eq!(rt; before, (all as usize).min(1), "{text:?}");
             assert_eq!(rt; before.wrapping_add(after), all as usize, "{text:?}");
         }
@@ -94,8 +104,8 @@ fn long_columns_are_cut(rt: HostRuntime) -> Result<(), Fail> {
         let all = count_same(&rt, rt.alloc(), &text)? as usize;
         for count in 0..70usize {
             let (first, rest) = split_records(&text, count);
-            let before = Split::new(rt.alloc(), first)?.records().count();
-            let after = Split::new(rt.alloc(), rest)?.records().count();
+            let before = count_records(rt.alloc(), first)?;
+            let after = count_records(rt.alloc(), rest)?;
             assert_eq!(rt; before, all.min(count), "of {kinds} kinds");
             assert_eq!(rt; before.wrapping_add(after), all, "of {kinds} kinds");
         }
