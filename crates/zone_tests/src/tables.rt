@@ -10,9 +10,18 @@ use zic_footer::make;
 use zic_rules::timeline;
 use zic_source::{Source, read_source};
 use zic_table::*;
+use zic_tzif::write;
 
 /// The place of the faults of the only zone.
 const PLACE: Place = Place { text: 1, line: 3 };
+
+/// The file of `Zone Etc/UTC 0 - UTC`.
+const UTC_FILE: &[u8] = b"TZif2\0\0\0\0\0\0\0\0\0\0\0\0\0\0\0\
+\0\0\0\0\0\0\0\0\0\0\0\0\0\0\0\0\0\0\0\x01\0\0\0\x01\
+\0\0\0\0\0\0\0\
+TZif2\0\0\0\0\0\0\0\0\0\0\0\0\0\0\0\
+\0\0\0\0\0\0\0\0\0\0\0\0\0\0\0\0\0\0\0\x01\0\0\0\x04\
+\0\0\0\0\0\0UTC\0\nUTC0\n";
 
 /// Reads a source text.
 fn read(alloc: Global, parts: &[&[u8]]) -> Result<Source, Fail> {
@@ -42,4 +51,14 @@ fn made(alloc: Global, parts: &[&[u8]]) -> Result<Result<Table, Stop>, Fail> {
         return Err(Fail::from("no footer"));
     };
     Ok(table(alloc, PLACE, &found, &footer))
+}
+
+#[test]
+fn a_table_is_written(rt: HostRuntime) -> Result<(), Fail> {
+    let Ok(found) = made(rt.alloc(), &[b"Zone Etc/UTC 0 - UTC\n"])? else {
+        return Err(Fail::from("no table"));
+    };
+    let octets = write(rt.alloc(), &found)?;
+    assert_eq!(rt; octets.as_slice(), UTC_FILE);
+    Ok(())
 }

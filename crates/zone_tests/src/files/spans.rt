@@ -99,3 +99,15 @@ fn from_the_last_transition(rt: HostRuntime) -> Result<(), Fail> {
     assert_eq!(rt; zone.span(1257058799).instants.last, 1257058799);
     Ok(())
 }
+
+// The types come first, and then the footer's standard time and daylight saving time.
+#[test]
+fn states_by_number(rt: HostRuntime) -> Result<(), Fail> {
+    let zone = read(rt.alloc(), NEW_YORK)?;
+    assert_eq!(rt; zone.state_count(), 4);
+    for number in 0..zone.state_count() {
+        let state = Answer::Known(zone.state(number));
+        assert_eq!(rt; state, new_york(number % 2 == 1), "{number}");
+    }
+    Ok(())
+}
