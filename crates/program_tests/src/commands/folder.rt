@@ -162,13 +162,13 @@ impl<'a> Files for Disk<'a> {
 
 /// Returns the calls that `build` makes for the words, followed by the text and status of its
 /// failure, if it fails. The word `-` stands for `input`.
-fn built<T: Threads + Wait + Sync>(
+fn built<'a, T: Threads + Wait + Sync>(
     rt: &T,
     alloc: Global,
     folder: &str,
     words: &str,
     input: &str,
-    (fails, kind, names): (&str, ErrorKind, &[u8]),
+    (fails, kind, names): (&'a str, ErrorKind, &'a [u8]),
 ) -> Result<String, Fail> {
     let calls = RefCell::new(String::new(alloc));
     let log = Log {
