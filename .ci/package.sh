@@ -120,6 +120,8 @@ install -d "$share/man/man1" "$pages/docs"
 gzip -9n <man/pzic.1 >"$share/man/man1/pzic.1.gz"
 install -m 644 README.md "$pages"
 install -m 644 docs/*.md docs/*.txt "$pages/docs"
+# The sources aren't in the package, so its index has no links to them.
+sed -i 's,\[\([^]]*\)\](\.\./[^)]*),\1,g' "$pages/docs/INDEX.md"
 copyright >"$pages/copyright"
 control >"$work/control"
 install -D -m 644 "$work/control" "$tree/DEBIAN/control"
