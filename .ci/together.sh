@@ -1,7 +1,9 @@
 #!/usr/bin/env bash
-# Has two runs of the program build trees of two sources into one folder at once, 200 times over: the system's release of the tz database,
-# and the same with other abbreviations. No run may fail, each file has to be whole, of the one source or the other, also while they run,
-# and nothing may be left over, also where a run before them was killed. Half of the pairs find a tree that is there, and half none.
+# Has two runs of the program build trees of two sources into one folder at the same time, 200
+# times: the system's release of the tz database, and the same with other abbreviations. No run may
+# fail. Each file must be whole, of the one source or the other, also while the runs write, and
+# nothing may be left over, even if a run before them was killed. Half of the pairs start with an
+# existing tree.
 set -euo pipefail
 cd "$(dirname "${BASH_SOURCE[0]}")/.."
 . .ci/release.sh
@@ -13,11 +15,12 @@ cd "$work"
 "$program" build one "$release"
 "$program" build two other
 
-# the files of a tree that were placed, with their sums
+# sums TREE TEST..: prints the sums of the files below TREE that pass these tests of find.
 sums() {
     (cd "$1" && find . -type f "${@:2}" -exec sha256sum {} + | sort)
 }
 
+# stop TEXT: ends the script, and tells why.
 stop() {
     echo "together: pair $pair: $1" >&2
     exit 1
