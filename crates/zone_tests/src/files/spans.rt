@@ -104,8 +104,9 @@ fn from_the_last_transition(rt: HostRuntime) -> Result<(), Fail> {
 #[test]
 fn states_by_number(rt: HostRuntime) -> Result<(), Fail> {
     let zone = read(rt.alloc(), NEW_YORK)?;
-    assert_eq!(rt; zone.state_count(), 4);
-    for number in 0..zone.state_count() {
+    let count = zone.state_count();
+    assert_eq!(rt; count, 4);
+    for number in 0..count {
         let state = Answer::Known(zone.state(number));
         assert_eq!(rt; state, new_york(number % 2 == 1), "{number}");
     }
