@@ -28,8 +28,8 @@ returns-in_err-source_text-clause-unasked g c =
     let whole = ap (map string_bytes) (parts words l.word-index word (omega arith) (sym c.word-item.is)) ∙ map-append string_bytes (take l.word-index words) (word ∷ drop (l.word-index + 1) words) in
     let unasked = rw c.as_str.ensures.value at c.source_text.ensures.unasked in
     λ files.
-      let split = files_parts (map string_bytes (take l.word-index words)) (string_bytes word) (map string_bytes (drop (l.word-index + 1) words)) (rw whole at files) in
-      unasked split.1 ∙ l.invariant.2 split.0
+    let split = files_parts (map string_bytes (take l.word-index words)) (string_bytes word) (map string_bytes (drop (l.word-index + 1) words)) (rw whole at files) in
+    unasked split.1 ∙ l.invariant.2 split.0
 
 pub returns-in_err-push-clause-unasked : goal.returns-in_err-push-clause-unasked
 returns-in_err-push-clause-unasked g c =
@@ -39,8 +39,8 @@ returns-in_err-push-clause-unasked g c =
     let whole = ap (map string_bytes) (parts words l.word-index word (omega arith) (sym c.word-item.is)) ∙ map-append string_bytes (take l.word-index words) (word ∷ drop (l.word-index + 1) words) in
     let unasked = rw c.as_str.ensures.value at c.source_text.ensures.unasked in
     λ files.
-      let split = files_parts (map string_bytes (take l.word-index words)) (string_bytes word) (map string_bytes (drop (l.word-index + 1) words)) (rw whole at files) in
-      unasked split.1 ∙ l.invariant.2 split.0
+    let split = files_parts (map string_bytes (take l.word-index words)) (string_bytes word) (map string_bytes (drop (l.word-index + 1) words)) (rw whole at files) in
+    unasked split.1 ∙ l.invariant.2 split.0
 
 pub loop-word-preserved : goal.loop-word-preserved
 loop-word-preserved g c =
