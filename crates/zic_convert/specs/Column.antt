@@ -11,7 +11,7 @@ use Rattle.zic_convert.specs.Rows.{ComeTo}
 abbrev pub AreRecordsOf : List ℕ → List (List (List ℕ)) → Type 0
 AreRecordsOf column records = AreRecords default_config state.StartRecord (strip_bom column) records
 
--- The texts of a column's rows up to the first that has a fault, and that fault, or none. Rows count from 1, and there may be so many.
+-- The texts of a column's rows up to the first that has a fault, and that fault, or none. Rows count from 1, and there may be at most this number.
 pub record ConvertsTo (files : List File) (most : ℕ) (column : List ℕ) (texts : List (List ℕ)) (fault : Option RowKind) : Type 0 where
   pub records : List (List (List ℕ))
   pub are : AreRecordsOf column records

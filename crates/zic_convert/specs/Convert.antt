@@ -44,13 +44,13 @@ WritesAt files most column stop.ColumnTooLong old new = WritesPart files most co
 WritesAt files most column stop.Memory old new = WritesPart files most column old new
 WritesAt files most column stop.NoThread old new = WritesPart files most column old new
 
--- more than so many bytes were taken, or as many as can be counted
+-- more bytes than this number were taken, or as many as can be counted
 abbrev pub HasTakenAbove : {R : Type 0} → ℕ → Counts R → Counts R → Type 0
 HasTakenAbove most old new = (old.taken + most < new.taken) ⊎ (new.taken ≡ greatest)
 
 -- A conversion ends for the reader only where a read failed, for the writer only where a write or flush did, and for too long a column
--- only where more than so many bytes were taken. It ends at a row only where no write and no flush failed. It never ends for a fault
--- of a source, or for want of a thread.
+-- only where more bytes than allowed were taken. It ends at a row only where no write and no flush failed. It never ends for a fault
+-- of a source, or for lack of a thread.
 abbrev pub IsCauseOf : {R W : Type 0} → ℕ → Counts R → Counts R → Counts W → Counts W → RunStop → Type 0
 IsCauseOf most reader reader' writer writer' stop.ReadFailed = HasFailedSince reader' reader.failures
 IsCauseOf most reader reader' writer writer' stop.WriteFailed = HasFailedSince writer' writer.failures

@@ -30,7 +30,7 @@ abbrev pub is_row_instant : Option ℤ → Bool
 is_row_instant None = false
 is_row_instant (Some instant) = int_le FIRST_INSTANT instant && int_le instant LAST_INSTANT
 
--- the checks of a record as the row of this number, where there may be so many rows at most
+-- the checks of a record as the row of a number, where there is a greatest number of rows
 abbrev pub checks : List File → ℕ → ℕ → List (List ℕ) → List (Check RowKind)
 checks files most number fields =
     check (nat_le number most) kind.TooManyRows

@@ -21,7 +21,7 @@ use zic_pieces::Gate;
 use zic_plan::{Plan, RunStop};
 use zic_tzif::laws::files_answer_once;
 
-/// The least number of bytes of a round where the column has so many at once.
+/// The least number of bytes of a round, if the column has them at once.
 const SHORTEST_ROUND: u64 = 65_536;
 
 /// The greatest number of bytes that a round is read to have.
@@ -80,8 +80,8 @@ fn convert_column<T: Threads + Wait + Sync, R: Read + Drop, W: Write, G: Gate + 
     Ok(count)
 }
 
-/// Returns why a column could not be read on, by what the reader has counted since it had counted
-/// so many failures and taken bytes, of which there may be `most` more.
+/// Returns why reading the column ended. The reader had counted `failures` failures and `taken`
+/// bytes before, and may have taken `most` bytes since.
 fn reading_stop<R>(reader: &Counted<R>, failures: u64, taken: u64, most: u64) -> RunStop
     ensures { IsReadingStop reader.now failures taken most result }
 {
@@ -103,10 +103,10 @@ fn reading_stop<R>(reader: &Counted<R>, failures: u64, taken: u64, most: u64) ->
 /// `-` and 1 to 18 digits: seconds from 1970-01-01T00:00:00 UT without leap seconds, from
 /// -62,135,510,400 to 253,402,214,399.
 ///
-/// The column is read in rounds: all whole records in hand, once so many bytes are that each worker
-/// has some pieces, and at once where a read gives fewer than 64 KiB. The plan's workers convert
-/// the pieces of a round, each of so many records as the plan says, and pass the gate before each;
-/// the calling thread is one of them. The rows of a round are written and flushed before the column
+/// The column is read in rounds. A round is all whole records in hand, as soon as there are some
+/// pieces for each worker, or a read gives fewer than 64 KiB. The plan's workers convert the pieces
+/// of a round, which have the number of records that the plan says, and pass the gate before each.
+/// The calling thread is one of them. The rows of a round are written and flushed before the column
 /// is read on. None of this changes an answer. Where all is converted, the reader's count of bytes
 /// rose by no more than the plan allows, and the writer failed nowhere.
 ///

@@ -146,8 +146,8 @@ impl<'a> Task for RowPieces<'a> {
     }
 }
 
-/// Returns the number of bytes to take at once for the rows of a piece of so many bytes. Rows
-/// mostly have less than three bytes for each of their records.
+/// Returns the number of bytes to reserve for the rows of a piece of `len` bytes. Rows mostly have
+/// less than three bytes for each of their records.
 fn room_for(len: usize) -> usize {
     len.min(GREATEST_ROOM)
         .saturating_mul(3)

@@ -13,7 +13,7 @@ use std::test::Fail;
 use std::thread;
 use std::thread::Threads;
 
-/// Claims on so many pieces, tried twice: one growth may be refused while a test runs.
+/// Returns claims on this number of pieces. Tries twice, since one growth may be refused in a test.
 fn new_claims(alloc: Global, pieces: u64) -> Result<(Claims, Pass), AllocError>
     requires { pieces ≤ 4294967296 }
     ensures claims { IfOk result (λ r. (r.0.pieces ≡ pieces) × IsOf r.0 r.1) }

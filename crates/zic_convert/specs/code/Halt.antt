@@ -13,7 +13,7 @@ abbrev pub WritesAtHalt : List File → ℕ → List ℕ → Halt → Option (Li
 WritesAtHalt files most column halt.Unread old new = WritesPart files most column old new
 WritesAtHalt files most column (halt.Stop stop) old new = WritesAt files most column stop old new
 
--- a row with a fault where the writer did not fail, a writer that failed, or want of memory
+-- a row with a fault where the writer did not fail, a writer that failed, or memory that ran out
 abbrev pub IsOwnCause : {W : Type 0} → Counts W → Counts W → RunStop → Type 0
 IsOwnCause old new (stop.Row row kind) = new.failures ≡ old.failures
 IsOwnCause old new stop.WriteFailed = HasFailedSince new old.failures
@@ -25,7 +25,7 @@ abbrev pub IsCauseOfHalt : {W : Type 0} → Counts W → Counts W → Halt → T
 IsCauseOfHalt old new halt.Unread = Unit {0}
 IsCauseOfHalt old new (halt.Stop stop) = IsOwnCause old new stop
 
--- why a column could not be read on, by what its reader counted since it had counted so many failures and bytes
+-- why reading a column ended, by what its reader counted since it had these counts of failures and bytes
 abbrev pub IsReadingStop : {R : Type 0} → Counts R → ℕ → ℕ → ℕ → RunStop → Type 0
 IsReadingStop reader failures taken most stop.ReadFailed = HasFailedSince reader failures
 IsReadingStop reader failures taken most stop.ColumnTooLong = (taken + most < reader.taken) ⊎ (reader.taken ≡ greatest)

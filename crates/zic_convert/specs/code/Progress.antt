@@ -15,7 +15,7 @@ Takes old new records = IfSome old (λ bytes. (rest : List ℕ) × (new ≡ Some
 abbrev pub ComeNext : Option (List ℕ) → List (List (List ℕ)) → Type 0
 ComeNext left records = IfSome left (λ bytes. (more : List (List (List ℕ))) × (column_records bytes ≡ records ++ more))
 
--- Of a column with these bytes so many rows were converted and written, none of which has a fault, and these bytes are left of it.
+-- Of a column with these bytes this number of rows was converted and written, none of which has a fault, and these bytes are left of it.
 pub record IsSoFar (files : List File) (most : ℕ) (column : List ℕ) (left : Option (List ℕ)) (so_many : ℕ) (old new : Option (List ℕ)) : Type 0 where
   pub records : List (List (List ℕ))
   pub texts : List (List ℕ)
