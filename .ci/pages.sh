@@ -246,12 +246,12 @@ completed() {
         _pzic
         printf "%s\n" "${COMPREPLY[@]}"' bash "$@" | sort
 }
-for name in check build convert show explain; do
+for name in check build convert show dump explain; do
     words=$(completed pzic "$name" --)
     [ "$words" = "$(options_of "$name")" ] || differ "bash completes 'pzic $name --' by '$words'"
 done
 words=$(completed pzic '')
-[ "$words" = $'build\ncheck\nconvert\nexplain\nshow' ] || differ "bash completes 'pzic' by '$words'"
+[ "$words" = $'build\ncheck\nconvert\ndump\nexplain\nshow' ] || differ "bash completes 'pzic' by '$words'"
 ! has_commands zsh || zsh -n completions/_pzic || differ 'zsh can not read completions/_pzic'
 
 # ------------------------------------------------------------------ the pages themselves

@@ -6,13 +6,14 @@ _pzic() {
     COMPREPLY=()
     if [ "$COMP_CWORD" -eq 1 ]; then
         # shellcheck disable=SC2207
-        COMPREPLY=($(compgen -W "$([[ $current = -* ]] && echo --help --version || echo check build convert show explain)" -- "$current"))
+        COMPREPLY=($(compgen -W "$([[ $current = -* ]] && echo --help --version || echo check build convert show dump explain)" -- "$current"))
         return
     fi
     case ${COMP_WORDS[1]} in
     check | build) options='--workers --zone-piece --help' ;;
     convert) options='--workers --zone-piece --row-piece --max-rows --max-bytes --progress --help' ;;
     show) ;;
+    dump) options='--from --to --help' ;;
     explain)
         if [[ $current != -* ]]; then
             # shellcheck disable=SC2207
@@ -28,7 +29,7 @@ _pzic() {
         COMPREPLY=($(compgen -W '1 2 4 8 16 32 64' -- "$current"))
         return
         ;;
-    --zone-piece | --row-piece | --max-rows | --max-bytes) return ;;
+    --zone-piece | --row-piece | --max-rows | --max-bytes | --from | --to) return ;;
     esac
     if [[ $current = -* ]]; then
         # shellcheck disable=SC2207

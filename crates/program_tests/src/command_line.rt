@@ -46,6 +46,7 @@ fn asked(alloc: Global, line: &str) -> Result<String, Fail> {
             )?)
         }
         Ok(Request::Show { file, instant }) => Ok(format!(in alloc; "show {file} {instant}")?),
+        Ok(Request::Dump { file, years }) => Ok(format!(in alloc; "dump {file} {years:?}")?),
         Ok(Request::Explain { text } | Request::Version { text }) => Ok(text),
         Err(NoRequest::Usage(_)) => Ok(String::from_str(alloc, "usage")?),
         Err(NoRequest::Memory) => Err(Fail::from("out of memory")),
@@ -57,7 +58,7 @@ fn words_are_a_request_or_a_usage_fault(rt: HostRuntime) -> Result<(), Fail> {
     let cases = [
         (
             "pzic --version",
-            "pzic 0.1.0\nproved with rattle-kit-13b logic dac8208d650f15bf\n",
+            "pzic 0.1.0\nproved with rattle-kit-13f logic dac8208d650f15bf\n",
         ),
         ("pzic check -", "check - by 4 of 16"),
         (
@@ -85,6 +86,18 @@ fn words_are_a_request_or_a_usage_fault(rt: HostRuntime) -> Result<(), Fail> {
         ("pzic show f 9223372036854775808", "usage"),
         ("pzic show --workers 1 f 1", "usage"),
         ("pzic show f", "usage"),
+        ("pzic dump f", "dump f Years { from: 2, to: 2500 }"),
+        (
+            "pzic dump --from 9999 f --to=9999",
+            "dump f Years { from: 9999, to: 9999 }",
+        ),
+        ("pzic dump --from 1 f", "usage"),
+        ("pzic dump --to 10000 f", "usage"),
+        ("pzic dump --from 2101 --to 2100 f", "usage"),
+        ("pzic dump --from 2100 --from 2100 f", "usage"),
+        ("pzic dump --workers 1 f", "usage"),
+        ("pzic dump f 0", "usage"),
+        ("pzic dump", "usage"),
         (
             "pzic convert a",
             "convert a by 4 of 16 and 1024, 100000000 rows in 4294967296",

@@ -1,6 +1,7 @@
 //! The commands over readers and writers, compared with expected output.
 
 mod converting;
+mod dumping;
 mod folder;
 mod placing;
 

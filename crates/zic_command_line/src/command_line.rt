@@ -6,13 +6,14 @@ use clap::{Arg, ArgAction, ArgMatches, Command, Error, value_parser};
 use std::alloc::{AllocError, Global};
 use std::rt::Env;
 use std::{env, io};
+use zic_dump::{FIRST_YEAR, LAST_YEAR, Years};
 use zic_explain::{Unexplained, entries, explanation, index};
 use zic_plan::{
     MAX_BYTES, MAX_OF_PIECE, MAX_ROWS, MAX_WORKERS, Plan, STANDARD_INPUT, parse_instant_word,
 };
 
 /// The version of the program, and the kit that it is proved with.
-const VERSION: &str = "0.1.0\nproved with rattle-kit-13b logic dac8208d650f15bf";
+const VERSION: &str = "0.1.0\nproved with rattle-kit-13f logic dac8208d650f15bf";
 
 /// A request to the program.
 #[derive(Debug, Drop)]
@@ -39,6 +40,11 @@ pub enum Request {
     Show {
         file: String,
         instant: i64,
+    },
+    /// List the changes of a file.
+    Dump {
+        file: String,
+        years: Years,
     },
     /// Tell what errors mean.
     Explain {
@@ -85,6 +91,7 @@ pub fn parse(alloc: Global, words: &[String]) -> Result<Request, NoRequest> {
         Some(("build", m)) => build(alloc, m),
         Some(("convert", m)) => convert(alloc, m),
         Some(("show", m)) => show(alloc, m),
+        Some(("dump", m)) => dump(alloc, m),
         Some(("explain", m)) => explain(alloc, m),
         _ => Err(usage(alloc, "no such command")),
     }
@@ -116,6 +123,7 @@ fn commands<'a>(alloc: Global) -> Result<Command<'a>, AllocError> {
         .subcommand(build_command(alloc)?)?
         .subcommand(convert_command(alloc)?)?
         .subcommand(show_command(alloc)?)?
+        .subcommand(dump_command(alloc)?)?
         .subcommand(explain_command(alloc)?)
 }
 
@@ -190,6 +198,20 @@ fn show_command<'a>(alloc: Global) -> Result<Command<'a>, AllocError> {
         .arg(instant)
 }
 
+fn dump_command<'a>(alloc: Global) -> Result<Command<'a>, AllocError> {
+    let file = Arg::new(alloc, "FILE")
+        .required(true)
+        .help("A TZif file of version 2 or 3");
+    let from = year(alloc, "from", "2").help("From the start of which year, 2 to 9999");
+    let to = year(alloc, "to", "2500").help("Up to the start of which year, 2 to 9999");
+    Command::new(alloc, "dump")
+        .about("Lists the changes of local time of a file, as zdump -i does")
+        .after_help("Example:\n  pzic dump --from 2000 --to 2030 /usr/share/zoneinfo/Europe/Dublin")
+        .arg(file)?
+        .arg(from)?
+        .arg(to)
+}
+
 fn explain_command<'a>(alloc: Global) -> Result<Command<'a>, AllocError> {
     let name = Arg::new(alloc, "NAME").help("The name of an error; without it all are listed");
     Command::new(alloc, "explain")
@@ -216,6 +238,12 @@ fn option<'a>(alloc: Global, name: &'a str, default: &'a str, least: i64, most: 
         .value_name("N")
         .value_parser(value_parser!(u64).range(least..=most))
         .default_value(default)
+}
+
+/// Returns an option that is a year, with its default.
+fn year<'a>(alloc: Global, name: &'a str, default: &'a str) -> Arg<'a> {
+    let (least, most) = (FIRST_YEAR as i64, LAST_YEAR as i64);
+    option(alloc, name, default, least, most).value_name("YEAR")
 }
 
 fn check(alloc: Global, matches: &ArgMatches<'_>) -> Result<Request, NoRequest> {
@@ -267,6 +295,16 @@ fn show(alloc: Global, matches: &ArgMatches<'_>) -> Result<Request, NoRequest> {
         return Err(bad_instant(alloc, instant));
     };
     Ok(Request::Show { file, instant })
+}
+
+fn dump(alloc: Global, matches: &ArgMatches<'_>) -> Result<Request, NoRequest> {
+    let file = word(alloc, matches, "FILE")?;
+    let from = number(alloc, matches, "from")?;
+    let to = number(alloc, matches, "to")?;
+    match Years::new(from, to) {
+        Some(years) => Ok(Request::Dump { file, years }),
+        None => Err(usage(alloc, "the year of --from is after that of --to")),
+    }
 }
 
 fn explain(alloc: Global, matches: &ArgMatches<'_>) -> Result<Request, NoRequest> {

@@ -11,6 +11,8 @@ use Rattle.zic_tzif.specs.Reading.{IsFault}
 use Rattle.zic_tzif.specs.declared.reason.Reason.{Reason}
 use Rattle.zic_tzif.specs.declared.reason.ReadStop.{ReadStop}
 use Rattle.zic_tzif.specs.declared.reason.ReadStop.TheVariants as reading
+use Rattle.zic_dump.specs.Text.{IsDump}
+use Rattle.zic_dump.specs.Years.{Between}
 use Rattle.zic_commands.specs.declared.failure.Failure.{Failure}
 use Rattle.zic_commands.specs.declared.failure.Failure.TheVariants as failures
 use Rattle.zic_commands.specs.declared.input.TheConstants.{MAX_SOURCE}
@@ -111,6 +113,13 @@ abbrev pub IsFailureOfShow : {W : Type 0} → (W → Option (List ℕ)) → List
 IsFailureOfShow contents bytes instant old new failure =
     (IsFailureOfFile bytes failure × (new ≡ old))
     ⊎ IsFailureOfOutput contents (IsShowing bytes instant) old new failure
+
+-- why `dump` gives up: there is no text, and nothing is written, or it can't be written
+abbrev pub IsFailureOfDump : {W : Type 0} → (W → Option (List ℕ)) → List ℕ → List ℕ → Between
+    → Counts W → Counts W → Failure → Type 0
+IsFailureOfDump contents path bytes years old new failure =
+    (IsFailureOfFile bytes failure × (new ≡ old))
+    ⊎ IsFailureOfOutput contents (IsDump path bytes years) old new failure
 
 -- this path can't be written
 abbrev pub IsCannotWrite : List ℕ → Failure → Type 0

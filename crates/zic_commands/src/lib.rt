@@ -1,14 +1,16 @@
 //! The commands of the program, over texts, bytes, readers, writers and a tree of files that the
 //! caller gives: compile texts and list their files, or place them in a folder; convert a column
-//! of instants by them; and tell what a file says of an instant. Beside them stands what reads the
-//! texts and files that words name. The tests stand in `program_tests`. A module has the word
-//! `command` where the function that it is named for may not share its name.
+//! of instants by them; and tell what a file says of an instant, or its changes of local time.
+//! Beside them stands what reads the texts and files that words name. The tests stand in
+//! `program_tests`. A module has the word `command` where the function that it is named for may
+//! not share its name.
 #![tactic(auto)]
 
 mod build_command;
 mod check_command;
 mod compiler;
 mod convert_command;
+mod dump_command;
 mod failure;
 mod input;
 mod names;
@@ -21,6 +23,7 @@ mod tree;
 pub use build_command::build;
 pub use check_command::check;
 pub use convert_command::convert;
+pub use dump_command::dump;
 pub use failure::Failure;
 pub use input::{MAX_SOURCE, read_file_bytes, read_source_text};
 pub use names::{kind_name, reason_name, row_kind_name};

@@ -63,6 +63,10 @@ fn run<
             let bytes = zic_commands::read_file(alloc, rt, file.as_str())?;
             zic_commands::show(alloc, &bytes, instant, &mut output)?
         }
+        Request::Dump { file, years } => {
+            let bytes = zic_commands::read_file(alloc, rt, file.as_str())?;
+            zic_commands::dump(alloc, file.as_str(), &bytes, &years, &mut output)?
+        }
         Request::Explain { text } | Request::Version { text } => tell(text.as_str(), &mut output)?,
     }
     Ok(())

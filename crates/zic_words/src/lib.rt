@@ -1,5 +1,5 @@
 //! Words of time zone source text, each one field: times, years, months, days, names and letters.
-//! The tests stand in `source_tests`.
+//! The tests stand in `zone_tests`.
 //!
 //! Memory is taken only by `Name::parse` and `SetName::parse`, where the field is a name, and by
 //! copies of names.

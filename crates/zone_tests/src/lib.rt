@@ -1,5 +1,6 @@
-//! Tests of zones: POSIX TZ strings, occurrences, states, periods, timelines, footers, tables,
-//! files and images. They are a separate crate, because a crate with tests is proved twice.
+//! Tests of sources and zones: words, lines and texts; POSIX TZ strings, occurrences, states,
+//! periods, timelines, footers, tables, files and images. They are a separate crate, because a
+//! crate with tests is proved twice.
 #![tactic(auto)]
 
 #[cfg(test)]
@@ -12,6 +13,8 @@ mod images;
 mod occurrences;
 #[cfg(test)]
 mod periods;
+#[cfg(test)]
+mod sources;
 #[cfg(test)]
 mod states;
 #[cfg(test)]

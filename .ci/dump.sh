@@ -1,0 +1,26 @@
+#!/usr/bin/env bash
+# Compares what `dump` lists with the system's `zdump -i`, for each file of the system's release of
+# the tz database, from 1800 to 2100; and for some without `--from` and `--to`.
+set -euo pipefail
+cd "$(dirname "${BASH_SOURCE[0]}")/.."
+. .ci/release.sh
+command -v zdump >"$work/log" || install libc-bin
+
+build zic_main check -
+program=$PWD/crates/zic_main/out/zic_main
+cd "$work"
+"$program" build "$work/tree" "$release"
+mapfile -t files < <(find "$work/tree" -type f | sort)
+zdump -i -c 1800,2100 "${files[@]}" >wanted
+for file in "${files[@]}"; do
+    "$program" dump --from 1800 --to 2100 "$file"
+done >got
+if ! cmp wanted got; then
+    diff wanted got | head -n 20 >&2
+    exit 1
+fi
+for name in Africa/Casablanca America/New_York Antarctica/Troll Asia/Kathmandu Europe/Dublin; do
+    zdump -i "$work/tree/$name" >wanted
+    "$program" dump "$work/tree/$name" | cmp - wanted
+done
+echo "dump: ${#files[@]} files have the $(grep -c '^[12]' got) changes of zdump -i"

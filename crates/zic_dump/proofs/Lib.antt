@@ -1,0 +1,3 @@
+pub mod ChangeLemmas
+pub mod OffsetLemmas
+pub mod YearLemmas

@@ -1,0 +1,4 @@
+pub mod Changes
+pub mod Text
+pub mod Years
+pub mod code

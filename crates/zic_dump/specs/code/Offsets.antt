@@ -1,0 +1,13 @@
+-- The UT offsets of a file.
+use Rattle.std.specs.Prelude.{◌≤◌, ℤ, unsigned_abs, Option}
+use Rattle.zic_base.specs.State.{Shown}
+use Rattle.zic_base.specs.declared.limit.TheConstants.{FARTHEST_FILE_OFFSET}
+use Rattle.zic_content.specs.Content.{Content}
+use Rattle.zic_tzif.specs.Answer.{Answers}
+use Rattle.zic_dump.specs.Changes.{told}
+
+-- each offset that is shown is within 25:59:59 either way
+abbrev pub HaveOffsets : Content → Type 0
+HaveOffsets content =
+    (t : ℤ) (answer : Option Shown) → Answers content t answer
+    → unsigned_abs (told answer).offset ≤ FARTHEST_FILE_OFFSET

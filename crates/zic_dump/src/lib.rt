@@ -1,0 +1,10 @@
+//! The changes of local time that a TZif file answers, as the text of `zdump -i` (zdump(8)). The
+//! tests stand in `program_tests`.
+#![tactic(auto)]
+
+mod changes;
+mod line;
+mod years;
+
+pub use changes::dump;
+pub use years::{FIRST_YEAR, LAST_YEAR, Years};
