@@ -20,7 +20,7 @@ use Rattle.zic_occurrences.specs.Order.{IsSavedBefore, IsInstant, instant_by}
 
 -- ---- days
 
-near_month : (y : ℤ) (m : ℕ) (f : On) (x : ℤ) → IsNearMonth y m f x → (day_number y m 1 ≤ℤ (x +ℤ pos 6)) × (x ≤ℤ (day_number y m (days_in_month y m) +ℤ pos 6))
+pub near_month : (y : ℤ) (m : ℕ) (f : On) (x : ℤ) → IsNearMonth y m f x → (day_number y m 1 ≤ℤ (x +ℤ pos 6)) × (x ≤ℤ (day_number y m (days_in_month y m) +ℤ pos 6))
 near_month y m (Day d) x h = omega (arith, ints)
 near_month y m (Last w) x h = omega (arith, ints)
 near_month y m (After w d) x h = omega (arith, ints)
@@ -54,7 +54,7 @@ form_next_year y next m f e month fits fits_next =
 
 -- ---- seconds
 
-nominal_second-is : (y : ℤ) (moment : Moment) → nominal_second y moment ≡ (pos 86_400 *ℤ form_day y moment.month moment.on) +ℤ moment.at.seconds
+pub nominal_second-is : (y : ℤ) (moment : Moment) → nominal_second y moment ≡ (pos 86_400 *ℤ form_day y moment.month moment.on) +ℤ moment.at.seconds
 unfolding nominal_second
 nominal_second-is y moment = refl
 

@@ -50,7 +50,7 @@ late set offset bound L os xs walk o is h =
 
 -- ---- different occurrences differ
 
-differ_listed : (set : RuleSet) (bound : ℤ) (os : List Occurrence) (o p : Occurrence) → AreInOrderBefore set bound os → IsOccurrence set o → IsOccurrence set p → nominal o <ℤ bound → nominal o ≡ nominal p → AreSame o p
+pub differ_listed : (set : RuleSet) (bound : ℤ) (os : List Occurrence) (o p : Occurrence) → AreInOrderBefore set bound os → IsOccurrence set o → IsOccurrence set p → nominal o <ℤ bound → nominal o ≡ nominal p → AreSame o p
 differ_listed set bound os o p listed is_o is_p before tied =
     let i = placed set bound os o listed is_o before in
     let j = placed set bound os p listed is_p (omega (arith, ints)) in
@@ -90,27 +90,26 @@ differ_for_ever set offset bound L os xs walk o p is_o is_p tied =
 
 -- ---- instants rise
 
-rise_listed : (set : RuleSet) (offset bound : ℤ) (L : ℕ) (os : List Occurrence) (xs : List TimedOccurrence) → IsWalk set offset bound L os xs → (p q : Occurrence) (u t : ℤ) → IsOccurrence set p → IsOccurrence set q → nominal p <ℤ nominal q → nominal q <ℤ bound → IsInstant set offset p u → IsInstant set offset q t → u <ℤ t
-rise_listed set offset bound L os xs walk p q u t is_p is_q less before at_p at_q =
-    let listed = walk.walked.in_order in
-    let differ = differ_for_ever set offset bound L os xs walk in
+pub rise_listed : (set : RuleSet) (offset bound : ℤ) (os : List Occurrence) (xs : List TimedOccurrence) → AreWalked set offset bound os xs → Differ set → (p q : Occurrence) (u t : ℤ) → IsOccurrence set p → IsOccurrence set q → nominal p <ℤ nominal q → nominal q <ℤ bound → IsInstant set offset p u → IsInstant set offset q t → u <ℤ t
+rise_listed set offset bound os xs walked differ p q u t is_p is_q less before at_p at_q =
+    let listed = walked.in_order in
     let i = placed set bound os p listed is_p (omega (arith, ints)) in
     let j = placed set bound os q listed is_q before in
-    let count = walk.walked.count in
+    let count = walked.count in
     let x = got xs i.0 (omega (arith, slice_get_within os i.0 p i.1)) in
     let y = got xs j.0 (omega (arith, slice_get_within os j.0 q j.1)) in
-    let same_u = one_instant set offset p u x.0.instant differ at_p (walk.walked.each i.0 x.0 p x.1 i.1).instant in
-    let same_t = one_instant set offset q t y.0.instant differ at_q (walk.walked.each j.0 y.0 q y.1 j.1).instant in
+    let same_u = one_instant set offset p u x.0.instant differ at_p (walked.each i.0 x.0 p x.1 i.1).instant in
+    let same_t = one_instant set offset q t y.0.instant differ at_q (walked.each j.0 y.0 q y.1 j.1).instant in
     elim (cases_order i.0 j.0) [
       | inl e ↦
           let same = one_place os i.0 j.0 p q e i.1 j.1 in
           absurd (omega (arith, ints, ap (λ (z : Occurrence). nominal z) same))
-      | inr (inl lt) ↦ omega (arith, ints, pair_at (λ a b. a.instant <ℤ b.instant) xs i.0 j.0 x.0 y.0 walk.walked.rising lt x.1 y.1)
+      | inr (inl lt) ↦ omega (arith, ints, pair_at (λ a b. a.instant <ℤ b.instant) xs i.0 j.0 x.0 y.0 walked.rising lt x.1 y.1)
       | inr (inr gt) ↦ absurd (omega (arith, ints, pair_at (λ a b. nominal a <ℤ nominal b) os j.0 i.0 q p listed.rising gt j.1 i.1))
     ]
 
 -- instants of years that differ by two rise
-rise_apart : (set : RuleSet) (offset : ℤ) (p q : Occurrence) (u t : ℤ) → All IsSoundRule set.rules → IsWithinDay offset → IsOccurrence set p → IsOccurrence set q → (p.year +ℤ pos 2) ≤ℤ q.year → IsInstant set offset p u → IsInstant set offset q t → u <ℤ t
+pub rise_apart : (set : RuleSet) (offset : ℤ) (p q : Occurrence) (u t : ℤ) → All IsSoundRule set.rules → IsWithinDay offset → IsOccurrence set p → IsOccurrence set q → (p.year +ℤ pos 2) ≤ℤ q.year → IsInstant set offset p u → IsInstant set offset q t → u <ℤ t
 rise_apart set offset p q u t sound within is_p is_q h at_p at_q =
     omega (arith, ints, instant_to set offset p u (p.year +ℤ pos 1) refl sound within is_p at_p, instant_from set offset q t sound within is_q at_q, years_apart (p.year +ℤ pos 1) q.year (omega (arith, ints)))
 
@@ -118,11 +117,11 @@ rise_apart set offset p q u t sound within is_p is_q h at_p at_q =
 rise_until : (set : RuleSet) (offset bound : ℤ) (L : ℕ) (os : List Occurrence) (xs : List TimedOccurrence) → IsWalk set offset bound L os xs → (n : ℕ) (p q : Occurrence) (u t : ℤ) → IsOccurrence set p → IsOccurrence set q → nominal p <ℤ nominal q → IsInstant set offset p u → IsInstant set offset q t → q.year <ℤ (pos L +ℤ pos 404 +ℤ pos n) → u <ℤ t
 rise_until set offset bound L os xs walk zero p q u t is_p is_q less at_p at_q lt =
     by_lt_z (nominal q) bound
-    (λ before. rise_listed set offset bound L os xs walk p q u t is_p is_q less before at_p at_q)
+    (λ before. rise_listed set offset bound os xs walk.walked (differ_for_ever set offset bound L os xs walk) p q u t is_p is_q less before at_p at_q)
     (λ after. absurd (omega (arith, ints, late set offset bound L os xs walk q is_q after)))
 rise_until set offset bound L os xs walk (suc n) p q u t is_p is_q less at_p at_q lt =
     by_lt_z (nominal q) bound
-    (λ before. rise_listed set offset bound L os xs walk p q u t is_p is_q less before at_p at_q)
+    (λ before. rise_listed set offset bound os xs walk.walked (differ_for_ever set offset bound L os xs walk) p q u t is_p is_q less before at_p at_q)
     (λ after.
     let year_q = late set offset bound L os xs walk q is_q after in
     by_lt_z q.year (p.year +ℤ pos 2)

@@ -2,6 +2,8 @@ pub mod Bounds
 pub mod Shift
 pub mod Same
 pub mod ForEver
+pub mod FarApart
+pub mod ApartSearch
 pub mod Search
 pub mod Instants
 pub mod Members

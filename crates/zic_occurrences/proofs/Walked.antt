@@ -1,5 +1,5 @@
 -- The walk through a set's occurrences: their instants, or one that doesn't rise.
-use Rattle.std.proofs.Common.{◌≡◌, ℕ, zero, suc, ◌+◌, ◌<◌, ◌≤◌, ◌⊎◌, inl, inr, ⊎_elim, List, [], ◌∷◌, length, get_or, Some, refl, sym, ap, subst, ◌∙◌, ℤ, pos, ◌+ℤ◌, ◌<ℤ◌, ◌≤ℤ◌, arith}
+use Rattle.std.proofs.Common.{◌≡◌, ℕ, zero, suc, ◌+◌, ◌<◌, ◌≤◌, inl, inr, ⊎_elim, List, [], ◌∷◌, length, get_or, Some, refl, sym, ap, subst, ◌∙◌, ℤ, pos, ◌+ℤ◌, ◌<ℤ◌, ◌≤ℤ◌, arith}
 use Rattle.std.specs.Prelude.{slice_get, All, AllPairs}
 use Rattle.std.proofs.lemmas.Bool.{cases_lt}
 use Rattle.std.proofs.lemmas.Int.{ints}
@@ -12,11 +12,13 @@ use Rattle.zic_occurrences.specs.declared.occurrence.TimedOccurrence.{TimedOccur
 use Rattle.zic_occurrences.specs.Occurrence.{RuleSet, Occurrence, year_second}
 use Rattle.zic_occurrences.specs.Order.{IsSavedBefore, instant_by, IsInOrder, IsOutOfOrder}
 use Rattle.zic_occurrences.specs.Listing.{IsLastNamed, StandsFor, AreOccurrencesBefore}
+use Rattle.zic_occurrences.specs.code.Apart.{AreEnoughYears}
 use Rattle.zic_occurrences.specs.code.Walk.{AreWalked}
 use Rattle.zic_occurrences.specs.code.Nominals.{IsNominalOf, AreNominals}
 use Rattle.zic_occurrences.specs.code.Timed.{saving_of, timed_of, timed_from, HasFall}
 use Rattle.zic_occurrences.proofs.Bounds.{years_apart}
 use Rattle.zic_occurrences.proofs.ForEver.{in_order_for_ever}
+use Rattle.zic_occurrences.proofs.FarApart.{in_order_far_apart}
 use Rattle.zic_occurrences.proofs.Timed.{instant_is, saving_is}
 use Rattle.zic_occurrences.proofs.Chosen.{AreOf, chosen, none, at_place, is_before, found, in_order_before, is_first, is_predecessor}
 
@@ -132,14 +134,20 @@ years_begin year later h = ⊎_elim
     (λ more. let same : year ≡ later = omega arith in subst (λ (y : ℕ). year_second (pos year) ≤ℤ year_second (pos y)) same (omega (arith, ints)))
     (cases_lt year later)
 
--- a list of instants that rise is in order for ever
-pub order : (set : RuleSet) (offset bound : ℤ) (last : ℕ) (ns : List Nominal) (xs : List TimedOccurrence) → All IsSoundRule set.rules → IsWithinDay offset → IsLastNamed set last
-    → year_second (pos last +ℤ pos 405) ≤ℤ bound → AreNominals set bound ns → AllPairs (λ m n. m.second <ℤ n.second) ns
+-- a list of instants that rise, through enough years, is in order for ever
+pub order : (set : RuleSet) (offset bound : ℤ) (last years : ℕ) (ns : List Nominal) (xs : List TimedOccurrence) → All IsSoundRule set.rules → IsWithinDay offset → IsLastNamed set last
+    → AreEnoughYears set years → year_second (pos last +ℤ pos years) ≤ℤ bound → AreNominals set bound ns → AllPairs (λ m n. m.second <ℤ n.second) ns
     → xs ≡ timed_from set.rules offset (pos 0) ns → AllPairs (λ a b. a.instant <ℤ b.instant) xs → IsInOrder set offset
-order set offset bound last ns xs sound within named long listed strict is rising =
+order set offset bound last years ns xs sound within named reach long listed strict is rising =
     let os = chosen set bound ns listed.each in
-    in_order_for_ever set offset bound last os.0 (timed_from set.rules offset (pos 0) ns) sound within named long
-    (walked set offset bound ns os.0 listed strict os.1 (subst (λ (l : List TimedOccurrence). AllPairs (λ a b. a.instant <ℤ b.instant) l) is rising))
+    let all : List TimedOccurrence = timed_from set.rules offset (pos 0) ns in
+    let walked = walked set offset bound ns os.0 listed strict os.1 (subst (λ (l : List TimedOccurrence). AllPairs (λ a b. a.instant <ℤ b.instant) l) is rising) in
+    elim reach.enough [
+      | inl e ↦ in_order_for_ever set offset bound last os.0 all sound within named (subst (λ (y : ℕ). year_second (pos last +ℤ pos y) ≤ℤ bound) e long) walked
+      | inr few ↦
+          let far = years_begin (last + 3) (last + years) (omega (arith, few.0)) in
+          in_order_far_apart set offset bound last os.0 all (record { sound = sound; within = within; last = named; apart = few.1; far = omega (arith, ints, far, long); walked = walked })
+    ]
 
 -- and has all occurrences before the bound
 pub complete : (set : RuleSet) (offset bound : ℤ) (ns : List Nominal) (xs : List TimedOccurrence) → AreNominals set bound ns → AllPairs (λ m n. m.second <ℤ n.second) ns

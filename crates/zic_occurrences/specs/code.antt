@@ -2,3 +2,4 @@
 pub mod Walk
 pub mod Nominals
 pub mod Timed
+pub mod Apart

@@ -2,6 +2,7 @@
 //! order in all years. The tests stand in `zone_tests`.
 #![tactic(auto)]
 
+mod apart;
 pub mod laws;
 mod nominal;
 mod occurrence;

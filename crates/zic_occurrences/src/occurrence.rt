@@ -7,7 +7,9 @@ ghost use Rattle.zic_source.specs.Source.{is_set};
 ghost use Rattle.zic_source.specs.Sound.{IsWithinDay};
 ghost use Rattle.zic_occurrences.specs.Order.{IsInOrder, IsOutOfOrder};
 ghost use Rattle.zic_occurrences.specs.Listing.{IsLastNamed, AreOccurrencesTo};
+ghost use Rattle.zic_occurrences.specs.code.Apart.{AreEnoughYears};
 
+use crate::apart::lie_far_apart;
 use crate::nominal::{has_tie, in_order};
 use crate::walk::timed;
 use std::alloc::Global;
@@ -31,6 +33,10 @@ pub struct TimedOccurrence {
 /// in these years too.
 const YEARS_IN_QUESTION: u16 = 405;
 
+/// The same for a set whose rules lie so far apart that from the second year after the last on no
+/// two occurrences can come out of order.
+const YEARS_IF_FAR_APART: u16 = 3;
+
 /// Returns the last year that the lines of a set name: the greatest TO of its rules, and FROM of
 /// those without a last year.
 pub fn last_named_year(source: &Source, set: &SetName) -> u16
@@ -43,6 +49,17 @@ pub fn last_named_year(source: &Source, set: &SetName) -> u16
         greatest = rule.last.unwrap_or(rule.first).max(greatest);
     }
     greatest
+}
+
+/// Returns the number of years after the last that a set names in which its order is checked.
+fn years_in_question(source: &Source, set: &SetName) -> u16
+    ensures { AreEnoughYears (record { rules = source.now.rules; name = set.now }) result }
+{
+    if lie_far_apart(source, set) {
+        YEARS_IF_FAR_APART
+    } else {
+        YEARS_IN_QUESTION
+    }
 }
 
 /// Returns all occurrences of a set of nominal seconds before the year `before`, and perhaps some
@@ -72,7 +89,8 @@ pub fn occurrences(
 {
     // So the number of each rule fits 16 bits.
     prove!(source.rules() <= MAX_RULES);
-    let last = before.max(last_named_year(source, set) + YEARS_IN_QUESTION);
+    let years = years_in_question(source, set);
+    let last = before.max(last_named_year(source, set) + years);
     let nominals = in_order(alloc, source, set, last)?;
     if has_tie(&nominals) {
         return Err(Stop::at(zone_place, Kind::RulesOutOfOrder));

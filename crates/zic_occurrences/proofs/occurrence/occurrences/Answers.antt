@@ -19,13 +19,13 @@ use Rattle.zic_occurrences.proofs.occurrence.occurrences.Goals as goal
 pub overflow_add-last_named_year : goal.overflow_add-last_named_year
 overflow_add-last_named_year c =
     let set : RuleSet = record { rules = c.args.source.now.rules; name = c.args.set.now } in
-    omega (arith, (named_year set c.last_named_year.result c.rules.ensures.sound.rules c.last_named_year.ensures).1)
+    omega (arith, c.years_in_question-years.ensures.few, (named_year set c.last_named_year.result c.rules.ensures.sound.rules c.last_named_year.ensures).1)
 
 pub in_order-requires-clause-last : goal.in_order-requires-clause-last
 in_order-requires-clause-last c =
     let set : RuleSet = record { rules = c.args.source.now.rules; name = c.args.set.now } in
     let named = named_year set c.last_named_year.result c.rules.ensures.sound.rules c.last_named_year.ensures in
-    (omega (arith, c.max-last.ensures, named.0), omega (arith, c.max-last.ensures, named.1))
+    (omega (arith, c.max-last.ensures, named.0), omega (arith, c.max-last.ensures, c.years_in_question-years.ensures.few, named.1))
 
 pub returns-then-has_tie-clause-err : goal.returns-then-has_tie-clause-err
 returns-then-has_tie-clause-err c =
@@ -41,10 +41,10 @@ returns-clause-order c =
     let bound = year_second (pos c.max-last.result) in
     let apart = subst (λ (l : List Nominal). HasNoTie l) c.deref.ensures.value c.if-has_tie.ensures in
     let same : to_z w32 (of_z w32 c.args.offset) ≡ c.args.offset = omega (arith, ints, c.requires.offset) in
-    let far : c.last_named_year.result + 405 ≤ c.max-last.result = omega (arith, c.max-last.ensures) in
+    let far : c.last_named_year.result + c.years_in_question-years.result ≤ c.max-last.result = omega (arith, c.max-last.ensures) in
     ok_from_both c.timed.result c.timed.ensures.items c.timed.ensures.rising
-    (λ made is rising. order set c.args.offset bound c.last_named_year.result ns made.items c.rules.ensures.sound.rules c.requires.offset c.last_named_year.ensures
-    (years_begin (c.last_named_year.result + 405) c.max-last.result far) c.in_ok-nominals.ensures.all (seconds_rise ns c.in_ok-nominals.ensures.sorted apart)
+    (λ made is rising. order set c.args.offset bound c.last_named_year.result c.years_in_question-years.result ns made.items c.rules.ensures.sound.rules c.requires.offset c.last_named_year.ensures c.years_in_question-years.ensures
+    (years_begin (c.last_named_year.result + c.years_in_question-years.result) c.max-last.result far) c.in_ok-nominals.ensures.all (seconds_rise ns c.in_ok-nominals.ensures.sorted apart)
     (is ∙ ap (λ (o : ℤ). timed_from set.rules o (pos 0) c.deref-2.result.now) same ∙ ap (λ (l : List Nominal). timed_from set.rules c.args.offset (pos 0) l) c.deref-2.ensures.value) rising)
 
 pub returns-clause-all : goal.returns-clause-all
