@@ -45,7 +45,7 @@ fn listed(
 
 /// Returns the instants of the first six occurrences.
 fn first_six(alloc: Global, text: &[u8]) -> Result<[i64; 6], Fail> {
-    let listed = listed(alloc, text, 1)?.ok().ok_or("occurrences")?;
+    let listed = listed(alloc, text, 2010)?.ok().ok_or("occurrences")?;
     match listed.as_slice() {
         [a, b, c, d, e, f, ..] => Ok([
             a.instant, b.instant, c.instant, d.instant, e.instant, f.instant,
@@ -115,7 +115,7 @@ fn is_disorder(fault: Fault, line: u64) -> bool {
 
 #[test]
 fn out_of_order(rt: HostRuntime) -> Result<(), Fail> {
-    let rows: [(&[u8], u64); 6] = [
+    let rows: [(&[u8], u64); 9] = [
         // Two occurrences with one nominal second, for the first time on 2009-03-01.
         (
             b"Rule B 2000 max - Mar 1 0:00 1:00 D\nRule B 2000 max - Mar Sun>=1 0:00 0 S\nZone A 0 B B%sT",
@@ -144,6 +144,21 @@ fn out_of_order(rt: HostRuntime) -> Result<(), Fail> {
         // The third rule, by the wall clock, comes half a day before the second, in each year.
         (
             b"Rule R 2000 max - Dec 31 282:00u 24:00d -\nRule R 2000 max - Jan 12 0:00u 0 -\nRule R 2000 max - Dec 31 300:00 0 -\nZone A 24:00 R R%sT",
+            4,
+        ),
+        // Two months apart: at one nominal second for the first time in 2029, when 4 February is a Sunday.
+        (
+            b"Rule G 2019 max - Jan Sun>=31 300:00u 0 -\nRule G 2019 max - Mar 1 -300:00u 1:00 D\nZone A 0 G G%sT",
+            3,
+        ),
+        // Rules far apart, and one that meets the second in the last year named.
+        (
+            b"Rule F 2000 max - Mar 1 0:00 1:00 D\nRule F 2000 max - Oct 1 0:00 0 S\nRule F 2005 only - Oct 1 0:00 0 S\nZone A 0 F F%sT",
+            4,
+        ),
+        // Rules far apart, and one of the last year named at the instant of the first in the year after.
+        (
+            b"Rule F 2000 max - Jan 12 12:00 0 -\nRule F 2000 max - Jul 1 0:00 1:00 -\nRule F 2005 only - Dec 31 299:00 2:00 -\nZone A 0 F F%sT",
             4,
         ),
     ];
