@@ -15,3 +15,4 @@ pub mod CutLaw
 pub mod Masks
 pub mod RecordCounts
 pub mod Pairs
+pub mod Passing

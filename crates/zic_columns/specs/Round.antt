@@ -1,5 +1,5 @@
 -- A column, taken in rounds of pieces.
-use Rattle.std.specs.Prelude.{◌≡◌, ℕ, List, [], ◌∷◌, ◌++◌, length, Option, None, Some, IfSome}
+use Rattle.std.specs.Prelude.{◌≡◌, ℕ, List, [], ◌∷◌, ◌++◌, length, drop, Option, None, Some, IfSome}
 use Rattle.std.specs.Int.{IsInRange}
 use Rattle.std.specs.List.{flat_map}
 use Rattle.std.specs.Io.KnownBytes.{prepend_known}
@@ -34,6 +34,11 @@ TakesPieces bytes rest pieces = column_records bytes ≡ records_of pieces ++ co
 abbrev pub TakesRound : {R : Type 0} → (R → Option (List ℕ)) → ColumnOf R → ColumnOf R → Type 0
 TakesRound remaining old new =
     IfSome (unread remaining old) (λ bytes. (rest : List ℕ) × (unread remaining new ≡ Some rest) × TakesPieces bytes rest new.round)
+
+-- The first record was passed over, where the bytes are known: the others are left.
+abbrev pub PassesRecord : {R : Type 0} → (R → Option (List ℕ)) → ColumnOf R → ColumnOf R → Type 0
+PassesRecord remaining old new =
+    IfSome (unread remaining old) (λ bytes. (rest : List ℕ) × (unread remaining new ≡ Some rest) × (column_records rest ≡ drop 1 (column_records bytes)))
 
 -- No record is left, where the bytes are known.
 abbrev pub HasNoRecord : Option (List ℕ) → Type 0

@@ -3,13 +3,13 @@
 ghost use Rattle.std.specs.Prelude.{◌≡◌, ◌↔◌, ◌+◌, ◌<◌, ◌≤◌, [], Some, false, length, take, drop, IfOk, IfSome, IsTrue};
 ghost use Rattle.std.specs.Io.KnownBytes.{IsAtEnd, Keeps};
 ghost use Rattle.csv.specs.Reading.{strip_bom};
-ghost use Rattle.zic_columns.specs.Round.{ArePiecesOf, HasNoRecord, TakesRound, unread};
+ghost use Rattle.zic_columns.specs.Round.{ArePiecesOf, HasNoRecord, PassesRecord, TakesRound, unread};
 ghost use Rattle.zic_columns.specs.declared.pieces.TheConstants.{MAX_PIECES};
 ghost use Rattle.zic_columns.specs.code.Range.{AreWithin, pieces_at};
 ghost use Rattle.zic_columns.specs.code.Hand.{CanBeCut, Takes, to_come};
 
 use crate::buffer::Window;
-use crate::first::first_record;
+use crate::first::{first_record, split_records};
 use crate::hand::{Scan, scan_on, scan_rest};
 use crate::limit::Bounded;
 use crate::mark::without_mark;
@@ -131,6 +131,26 @@ impl<R: Read> Column<R> {
         let some = !cut.ranges.is_empty();
         self.pass(cut.len, cut.ranges);
         Ok(some)
+    }
+
+    /// Passes over the first record that no round had, if there is one, and leaves an empty round.
+    ///
+    /// Reads until `wanted` bytes are in hand, but not again after a read that gave fewer than
+    /// 64 KiB, unless no whole record is in hand.
+    ///
+    /// # Errors
+    ///
+    /// Fails where the reader fails or gives more bytes than the column may have, or memory is
+    /// refused.
+    pub fn pass_record(&mut self, alloc: Global, wanted: usize) -> Result<(), Unread>
+        ensures passes { IfOk result (λ _. PassesRecord R.remaining self.old self.new) }
+        ensures none { IfOk result (λ _. self.new.round ≡ []) }
+    {
+        let count = self.gather(alloc, wanted)?;
+        let (record, _) = split_records(&self.window.held()[..count], 1);
+        let len = record.len();
+        self.pass(len, Vec::new(alloc));
+        Ok(())
     }
 
     /// Returns the round that was taken last.

@@ -1,6 +1,6 @@
 -- How far a conversion has come.
-use Rattle.std.proofs.Common.{◌≡◌, ◌+◌, ℕ, List, [], ◌++◌, length, Option, Some, None, refl, sym, ap, subst, ◌∙◌, append_assoc, arith}
-use Rattle.std.specs.Prelude.{All, IfSome}
+use Rattle.std.proofs.Common.{◌≡◌, ◌+◌, ℕ, List, [], ◌++◌, drop, length, Option, Some, None, refl, sym, ap, subst, ◌∙◌, append_assoc, arith}
+use Rattle.std.specs.Prelude.{All, IfErr, IfOk, IfSome, Result, Ok, Err}
 use Rattle.std.specs.List.{concat}
 use Rattle.std.specs.Io.{StartsWith}
 use Rattle.std.specs.Io.KnownBytes.{Appends}
@@ -8,19 +8,25 @@ use Rattle.std.proofs.lemmas.List.{append-nil, length-append}
 use Rattle.std.proofs.lemmas.List.Folds.{concat-append}
 use Rattle.csv.specs.Reading.{strip_bom}
 use Rattle.csv.proofs.WriteFacts.{appends-more, appends-none}
-use Rattle.zic_columns.specs.Column.{AreColumnRecords, column_records}
+use Rattle.zic_columns.specs.Column.{column_records}
 use Rattle.zic_columns.specs.Round.{HasNoRecord}
 use Rattle.zic_columns.proofs.SomeRecords.{are_read}
 use Rattle.zic_files.specs.File.{File}
 use Rattle.zic_plan.specs.declared.stop.RowKind.{RowKind}
 use Rattle.zic_convert.specs.Rows.{ComeTo}
-use Rattle.zic_convert.specs.Convert.{WritesAll, WritesPart, WritesUpTo}
+use Rattle.zic_convert.specs.Column.{ConvertsBodyTo, ConvertsTo}
+use Rattle.zic_convert.specs.Convert.{Outcome, WritesAllOf, WritesAtOf, WritesPartOf, WritesUpToOf}
+use Rattle.zic_plan.specs.declared.stop.RunStop.{RunStop}
+use Rattle.zic_plan.specs.declared.stop.RunStop.TheVariants as stop
+use Rattle.zic_convert.specs.declared.halt.Halt.{Halt}
+use Rattle.zic_convert.specs.declared.halt.Halt.TheVariants as halt
+use Rattle.zic_convert.specs.code.Halt.{WritesAtHalt}
 use Rattle.zic_convert.specs.code.Row.{AreRowsOf, RowsOf}
-use Rattle.zic_convert.specs.code.Progress.{ComeNext, IsSoFar, Takes}
+use Rattle.zic_convert.specs.code.Progress.{ComeNext, IsSoFar, RowsOfRecords, Takes}
 use Rattle.zic_convert.proofs.Bytes.{starts_later}
 use Rattle.zic_convert.proofs.Coming.{come_after, come_more, no_rows}
 use Rattle.zic_convert.proofs.Sounds.{IsKnown}
-use Rattle.zic_convert.proofs.Totals.{come_to_more}
+use Rattle.zic_convert.proofs.Totals.{all_come, come_to_more}
 
 -- what holds of the value that is there
 pub if_some : {X : Type 0} (o : Option X) (P : X → Type 0) → ((x : X) → o ≡ Some x → P x) → IfSome o P
@@ -34,35 +40,35 @@ for_some o P x h e = rw e at h
 pub taken_come_next : (old new : Option (List ℕ)) (rs : List (List (List ℕ))) → Takes old new rs → ComeNext old rs
 taken_come_next old new rs takes = if_some old _ (λ bytes e. (let t = for_some old _ bytes takes e in (column_records t.0, t.2)))
 
-module _ (files : List File) (most : ℕ) (text : List ℕ) where
+module _ (files : List File) (most : ℕ) (all : List (List (List ℕ))) where
   -- nothing yet
-  pub at_start : (known held : Option (List ℕ)) → known ≡ Some (strip_bom text) → IsSoFar files most text known 0 held held
-  at_start known held is = record {
+  pub at_start : (known held : Option (List ℕ)) (bytes : List ℕ) → known ≡ Some bytes → all ≡ column_records bytes → IsSoFar files most all known 0 held held
+  at_start known held bytes is same = record {
     records = [];
     texts = [];
-    rest = strip_bom text;
+    rest = bytes;
     bytes = is;
-    goes_on = refl;
+    goes_on = same;
     come = (refl, refl);
-    count = refl;
+    counted = refl;
     wrote = appends-none held;
   }
 
   -- no record is left
-  pub all_written : (left : Option (List ℕ)) (n : ℕ) (old new : Option (List ℕ)) → IsSoFar files most text left n old new → HasNoRecord left → WritesAll files most text n old new
+  pub all_written : (left : Option (List ℕ)) (n : ℕ) (old new : Option (List ℕ)) → IsSoFar files most all left n old new → HasNoRecord left → WritesAllOf (RowsOfRecords files most all) n old new
   all_written left n old new far none =
       let last = for_some left _ far.rest none far.bytes in
       let same = far.goes_on ∙ ap (λ (r : List (List (List ℕ))). far.records ++ r) last ∙ append-nil far.records in
       record {
         texts = far.texts;
-        converts = record { records = far.records; are = subst (AreColumnRecords (strip_bom text)) same (are_read (strip_bom text)); rows = far.come };
-        count = far.count;
+        converts = subst (λ (r : List (List (List ℕ))). ComeTo files most 1 r far.texts None) (sym same) far.come;
+        count = far.counted;
         wrote = far.wrote;
       }
 
-  module _ (left : Option (List ℕ)) (n : ℕ) (old mid new : Option (List ℕ)) (far : IsSoFar files most text left n old mid) where
+  module _ (left : Option (List ℕ)) (n : ℕ) (old mid new : Option (List ℕ)) (far : IsSoFar files most all left n old mid) where
     number : n + 1 ≡ 1 + length far.texts
-    number = omega (arith, far.count)
+    number = omega (arith, far.counted)
 
     -- the rows so far, and those of the records that come next
     come_on : (rs : List (List (List ℕ))) (us : List (List ℕ)) (last : Option RowKind) → ComeTo files most (n + 1) rs us last
@@ -76,7 +82,7 @@ module _ (files : List File) (most : ℕ) (text : List ℕ) where
 
     module _ (rs : List (List (List ℕ))) (rows : RowsOf) (are : AreRowsOf files most (n + 1) rs rows) where
       -- more rows
-      pub later : (next : Option (List ℕ)) → rows.fault ≡ None → Takes left next rs → Appends mid new rows.text → IsSoFar files most text next (n + rows.count) old new
+      pub later : (next : Option (List ℕ)) → rows.fault ≡ None → Takes left next rs → Appends mid new rows.text → IsSoFar files most all next (n + rows.count) old new
       later next none takes wrote =
           let t = for_some left _ far.rest takes far.bytes in
           record {
@@ -86,47 +92,44 @@ module _ (files : List File) (most : ℕ) (text : List ℕ) where
             bytes = t.1;
             goes_on = far.goes_on ∙ ap (λ (r : List (List (List ℕ))). far.records ++ r) t.2 ∙ sym (append_assoc far.records rs (column_records t.0));
             come = come_on rs are.texts None (rw none at are.come);
-            count = omega (arith, far.count, are.count, length-append far.texts are.texts);
+            counted = omega (arith, far.counted, are.count, length-append far.texts are.texts);
             wrote = wrote_on are.texts rows.text are.text wrote;
           }
 
       -- what comes next, after what came
-      read_on : (more : List (List (List ℕ))) → column_records far.rest ≡ rs ++ more → AreColumnRecords (strip_bom text) (far.records ++ (rs ++ more))
-      read_on more next = subst (AreColumnRecords (strip_bom text)) (far.goes_on ∙ ap (λ (r : List (List (List ℕ))). far.records ++ r) next) (are_read (strip_bom text))
+      read_on : (more : List (List (List ℕ))) → column_records far.rest ≡ rs ++ more → all ≡ far.records ++ (rs ++ more)
+      read_on more next = far.goes_on ∙ ap (λ (r : List (List (List ℕ))). far.records ++ r) next
 
       module _ (come : ComeNext left rs) where
         -- the rows up to a fault
-        pub up_to_fault : (kind : RowKind) → rows.fault ≡ Some kind → Appends mid new rows.text → WritesUpTo files most text (n + 1 + rows.count) kind old new
+        pub up_to_fault : (kind : RowKind) → rows.fault ≡ Some kind → Appends mid new rows.text → WritesUpToOf (RowsOfRecords files most all) (n + 1 + rows.count) kind old new
         up_to_fault kind some wrote =
             let (more, next) = for_some left _ far.rest come far.bytes in
             record {
               texts = far.texts ++ are.texts;
-              converts = record {
-                records = far.records ++ (rs ++ more);
-                are = read_on more next;
-                rows = come_on (rs ++ more) are.texts (Some kind) (come_more files most (n + 1) rs more are.texts kind (rw some at are.come));
-              };
-              number = omega (arith, far.count, are.count, length-append far.texts are.texts);
+              converts = rw (read_on more next)
+                  (come_on (rs ++ more) are.texts (Some kind) (come_more files most (n + 1) rs more are.texts kind (rw some at are.come)));
+              number = omega (arith, far.counted, are.count, length-append far.texts are.texts);
               wrote = wrote_on are.texts rows.text are.text wrote;
             }
 
         -- a part of the rows
-        pub part_written : All IsKnown files → (part : List ℕ) → StartsWith rows.text part → Appends mid new part → WritesPart files most text old new
+        pub part_written : All IsKnown files → (part : List ℕ) → StartsWith rows.text part → Appends mid new part → WritesPartOf (RowsOfRecords files most all) old new
         part_written known part starts wrote =
             let (more, next) = for_some left _ far.rest come far.bytes in
-            let all = come_to_more files most known (n + 1) rs more rows are in
-            let joined = sym (concat-append far.texts all.0 ∙ ap (λ (l : List ℕ). concat far.texts ++ l) all.4 ∙ sym (append_assoc (concat far.texts) rows.text all.3)) in
+            let others = come_to_more files most known (n + 1) rs more rows are in
+            let joined = sym (concat-append far.texts others.0 ∙ ap (λ (l : List ℕ). concat far.texts ++ l) others.4 ∙ sym (append_assoc (concat far.texts) rows.text others.3)) in
             record {
-              texts = far.texts ++ all.0;
-              fault = all.1;
-              converts = record { records = far.records ++ (rs ++ more); are = read_on more next; rows = come_on (rs ++ more) all.0 all.1 all.2 };
+              texts = far.texts ++ others.0;
+              fault = others.1;
+              converts = rw (read_on more next) (come_on (rs ++ more) others.0 others.1 others.2);
               part = concat far.texts ++ part;
-              starts = subst (λ (l : List ℕ). StartsWith l (concat far.texts ++ part)) joined (starts_later (concat far.texts) rows.text part all.3 starts);
+              starts = subst (λ (l : List ℕ). StartsWith l (concat far.texts ++ part)) joined (starts_later (concat far.texts) rows.text part others.3 starts);
               wrote = appends-more old mid new (concat far.texts) part far.wrote wrote;
             }
 
   -- what is left changes, where no record was taken
-  pub none_taken : (left next : Option (List ℕ)) (n : ℕ) (old new : Option (List ℕ)) → Takes left next [] → IsSoFar files most text left n old new → IsSoFar files most text next n old new
+  pub none_taken : (left next : Option (List ℕ)) (n : ℕ) (old new : Option (List ℕ)) → Takes left next [] → IsSoFar files most all left n old new → IsSoFar files most all next n old new
   none_taken left next n old new takes far =
       let t = for_some left _ far.rest takes far.bytes in
       record {
@@ -136,12 +139,84 @@ module _ (files : List File) (most : ℕ) (text : List ℕ) where
         bytes = t.1;
         goes_on = far.goes_on ∙ ap (λ (r : List (List (List ℕ))). far.records ++ r) t.2;
         come = far.come;
-        count = far.count;
+        counted = far.counted;
         wrote = far.wrote;
       }
 
   -- where a column can't be read on
-  pub unread_part : (left : Option (List ℕ)) (n : ℕ) (old mid : Option (List ℕ)) → IsSoFar files most text left n old mid → All IsKnown files → WritesPart files most text old mid
+  pub unread_part : (left : Option (List ℕ)) (n : ℕ) (old mid : Option (List ℕ)) → IsSoFar files most all left n old mid → All IsKnown files → WritesPartOf (RowsOfRecords files most all) old mid
   unread_part left n old mid far known =
       let come : ComeNext left [] = if_some left _ (λ bytes e. (column_records bytes, refl)) in
       part_written left n old mid mid far [] (record { text = []; count = 0; fault = None }) (no_rows files most (n + 1)) come known [] refl (appends-none mid)
+
+-- ---- what records come to, told as what a column converts to
+
+module _ (C D : Outcome) (same : (texts : List (List ℕ)) (fault : Option RowKind) → C texts fault → D texts fault) (old new : Option (List ℕ)) where
+  pub all_as : (n : ℕ) → WritesAllOf C n old new → WritesAllOf D n old new
+  all_as n w = record { texts = w.texts; converts = same w.texts None w.converts; count = w.count; wrote = w.wrote }
+
+  part_as : WritesPartOf C old new → WritesPartOf D old new
+  part_as w = record { texts = w.texts; fault = w.fault; converts = same w.texts w.fault w.converts; part = w.part; starts = w.starts; wrote = w.wrote }
+
+  stop_as : (why : RunStop) → WritesAtOf C why old new → WritesAtOf D why old new
+  stop_as (stop.Row row kind) w = record { texts = w.texts; converts = same w.texts (Some kind) w.converts; number = w.number; wrote = w.wrote }
+  stop_as (stop.Source fault) w = absurd w
+  stop_as stop.ReadFailed w = part_as w
+  stop_as stop.WriteFailed w = part_as w
+  stop_as stop.ColumnTooLong w = part_as w
+  stop_as stop.Memory w = part_as w
+  stop_as stop.NoThread w = part_as w
+
+  pub halt_as : (why : Halt) → WritesAtHalt C why old new → WritesAtHalt D why old new
+  halt_as halt.Unread w = part_as w
+  halt_as (halt.Stop why) w = stop_as why w
+
+-- the rows of a column are those of its records
+pub as_column : (files : List File) (most : ℕ) (column : List ℕ) (texts : List (List ℕ)) (fault : Option RowKind)
+    → RowsOfRecords files most (column_records (strip_bom column)) texts fault → ConvertsTo files most column texts fault
+as_column files most column texts fault come = record { records = column_records (strip_bom column); are = are_read (strip_bom column); rows = come }
+
+-- what holds of the bytes that are left, where they are known, holds of those that they are made of
+module _ {A : Type 0} (known left : Option (List ℕ)) (P Q : A → List ℕ → Type 0) (f : List ℕ → List ℕ) (is : IfSome known (λ bytes. left ≡ Some (f bytes))) where
+  some_as : (a : A) → ((bytes : List ℕ) → P a (f bytes) → Q a bytes) → IfSome left (P a) → IfSome known (Q a)
+  some_as a same p = if_some known _ (λ bytes e. same bytes (for_some left _ (f bytes) p (for_some known _ bytes is e)))
+
+  module _ {E : Type 0} where
+    pub if_ok_some : (result : Result A E) → ((a : A) (bytes : List ℕ) → P a (f bytes) → Q a bytes) → IfOk result (λ a. IfSome left (P a)) → IfOk result (λ a. IfSome known (Q a))
+    if_ok_some (Ok a) same p = some_as a (same a) p
+    if_ok_some (Err e) same p = tt
+
+    pub if_err_some : (result : Result E A) → ((a : A) (bytes : List ℕ) → P a (f bytes) → Q a bytes) → IfErr result (λ a. IfSome left (P a)) → IfErr result (λ a. IfSome known (Q a))
+    if_err_some (Ok e) same p = tt
+    if_err_some (Err a) same p = some_as a (same a) p
+
+-- the rows of a column with a header are those of its other records
+pub as_body : (files : List File) (most : ℕ) (column : List ℕ) (texts : List (List ℕ)) (fault : Option RowKind)
+    → RowsOfRecords files most (drop 1 (column_records (strip_bom column))) texts fault → ConvertsBodyTo files most column texts fault
+as_body files most column texts fault come = record { records = column_records (strip_bom column); are = are_read (strip_bom column); rows = come }
+
+-- nothing is written of any records
+pub unread_from : (files : List File) (most : ℕ) (all : List (List (List ℕ))) (held : Option (List ℕ)) → All IsKnown files → WritesPartOf (RowsOfRecords files most all) held held
+unread_from files most all held known =
+    let come = all_come files most known 1 all in
+    record { texts = come.0; fault = come.1; converts = come.2; part = []; starts = refl; wrote = appends-none held }
+
+-- what holds of the records that are left after the first, where the bytes are known
+module _ {A : Type 0} (known left next : Option (List ℕ)) (P : A → List (List (List ℕ)) → Type 0) (Q : A → List ℕ → Type 0) (f : List ℕ → List ℕ)
+    (is : IfSome known (λ bytes. left ≡ Some (f bytes)))
+    (passes : IfSome left (λ bytes. (rest : List ℕ) × (next ≡ Some rest) × (column_records rest ≡ drop 1 (column_records bytes)))) where
+  body_as : (a : A) → ((bytes : List ℕ) → P a (drop 1 (column_records (f bytes))) → Q a bytes) → IfSome next (λ bytes. P a (column_records bytes)) → IfSome known (Q a)
+  body_as a same p = if_some known _ (λ bytes e.
+      let (rest, at, others) = for_some left _ (f bytes) passes (for_some known _ bytes is e) in
+      same bytes (subst (P a) others (for_some next _ rest p at)))
+
+  module _ {E : Type 0} where
+    pub if_ok_body : (result : Result A E) → ((a : A) (bytes : List ℕ) → P a (drop 1 (column_records (f bytes))) → Q a bytes)
+        → IfOk result (λ a. IfSome next (λ bytes. P a (column_records bytes))) → IfOk result (λ a. IfSome known (Q a))
+    if_ok_body (Ok a) same p = body_as a (same a) p
+    if_ok_body (Err e) same p = tt
+
+    pub if_err_body : (result : Result E A) → ((a : A) (bytes : List ℕ) → P a (drop 1 (column_records (f bytes))) → Q a bytes)
+        → IfErr result (λ a. IfSome next (λ bytes. P a (column_records bytes))) → IfErr result (λ a. IfSome known (Q a))
+    if_err_body (Ok e) same p = tt
+    if_err_body (Err a) same p = body_as a (same a) p

@@ -1,5 +1,5 @@
 -- What a column converts to.
-use Rattle.std.specs.Prelude.{ℕ, List, Option}
+use Rattle.std.specs.Prelude.{ℕ, List, drop, Option}
 use Rattle.csv.specs.Reading.{AreRecords, default_config, strip_bom}
 use Rattle.csv.specs.declared.parser.State.TheVariants as state
 use Rattle.zic_files.specs.File.{File}
@@ -16,3 +16,9 @@ pub record ConvertsTo (files : List File) (most : ℕ) (column : List ℕ) (text
   pub records : List (List (List ℕ))
   pub are : AreRecordsOf column records
   pub rows : ComeTo files most 1 records texts fault
+
+-- The same of a column whose first record is a header: own choice. A header makes no row, and isn't counted.
+pub record ConvertsBodyTo (files : List File) (most : ℕ) (column : List ℕ) (texts : List (List ℕ)) (fault : Option RowKind) : Type 0 where
+  pub records : List (List (List ℕ))
+  pub are : AreRecordsOf column records
+  pub rows : ComeTo files most 1 (drop 1 records) texts fault

@@ -10,39 +10,50 @@ use Rattle.zic_plan.specs.declared.stop.RunStop.{RunStop}
 use Rattle.zic_plan.specs.declared.stop.RunStop.TheVariants as stop
 use Rattle.zic_convert.specs.Column.{ConvertsTo}
 
--- No row of the column has a fault, there are n, and what the writer holds, where that is known, grew by the text of all.
-pub record WritesAll (files : List File) (most : ℕ) (column : List ℕ) (n : ℕ) (old new : Option (List ℕ)) : Type 0 where
+-- what a conversion comes to: the texts of rows, and a fault, or none
+abbrev pub Outcome : Type 1
+Outcome = List (List ℕ) → Option RowKind → Type 0
+
+-- No row has a fault, there are n, and what the writer holds, where that is known, grew by the text of all.
+pub record WritesAllOf (Converts : Outcome) (n : ℕ) (old new : Option (List ℕ)) : Type 0 where
   pub texts : List (List ℕ)
-  pub converts : ConvertsTo files most column texts None
+  pub converts : Converts texts None
   pub count : n ≡ length texts
   pub wrote : Appends old new (concat texts)
 
--- The first row of the column that has a fault is the row of this number, with this fault, and what the writer holds grew by the text
--- of all rows before it.
-pub record WritesUpTo (files : List File) (most : ℕ) (column : List ℕ) (row : ℕ) (kind : RowKind) (old new : Option (List ℕ)) : Type 0 where
+-- The first row that has a fault is the row of this number, with this fault, and what the writer holds grew by the text of all rows
+-- before it.
+pub record WritesUpToOf (Converts : Outcome) (row : ℕ) (kind : RowKind) (old new : Option (List ℕ)) : Type 0 where
   pub texts : List (List ℕ)
-  pub converts : ConvertsTo files most column texts (Some kind)
+  pub converts : Converts texts (Some kind)
   pub number : row ≡ length texts + 1
   pub wrote : Appends old new (concat texts)
 
 -- What the writer holds grew by a part of the text of all rows before the first that has a fault, from its start on.
-pub record WritesPart (files : List File) (most : ℕ) (column : List ℕ) (old new : Option (List ℕ)) : Type 0 where
+pub record WritesPartOf (Converts : Outcome) (old new : Option (List ℕ)) : Type 0 where
   pub texts : List (List ℕ)
   pub fault : Option RowKind
-  pub converts : ConvertsTo files most column texts fault
+  pub converts : Converts texts fault
   pub part : List ℕ
   pub starts : StartsWith (concat texts) part
   pub wrote : Appends old new part
 
 -- what was written where a conversion ends early; it never ends for a fault of a source
+abbrev pub WritesAtOf : Outcome → RunStop → Option (List ℕ) → Option (List ℕ) → Type 0
+WritesAtOf Converts (stop.Row row kind) old new = WritesUpToOf Converts row kind old new
+WritesAtOf Converts (stop.Source fault) old new = ⊥
+WritesAtOf Converts stop.ReadFailed old new = WritesPartOf Converts old new
+WritesAtOf Converts stop.WriteFailed old new = WritesPartOf Converts old new
+WritesAtOf Converts stop.ColumnTooLong old new = WritesPartOf Converts old new
+WritesAtOf Converts stop.Memory old new = WritesPartOf Converts old new
+WritesAtOf Converts stop.NoThread old new = WritesPartOf Converts old new
+
+-- of a column: all its rows, or those before a conversion ends early
+abbrev pub WritesAll : List File → ℕ → List ℕ → ℕ → Option (List ℕ) → Option (List ℕ) → Type 0
+WritesAll files most column = WritesAllOf (ConvertsTo files most column)
+
 abbrev pub WritesAt : List File → ℕ → List ℕ → RunStop → Option (List ℕ) → Option (List ℕ) → Type 0
-WritesAt files most column (stop.Row row kind) old new = WritesUpTo files most column row kind old new
-WritesAt files most column (stop.Source fault) old new = ⊥
-WritesAt files most column stop.ReadFailed old new = WritesPart files most column old new
-WritesAt files most column stop.WriteFailed old new = WritesPart files most column old new
-WritesAt files most column stop.ColumnTooLong old new = WritesPart files most column old new
-WritesAt files most column stop.Memory old new = WritesPart files most column old new
-WritesAt files most column stop.NoThread old new = WritesPart files most column old new
+WritesAt files most column = WritesAtOf (ConvertsTo files most column)
 
 -- more bytes than this number were taken, or as many as can be counted
 abbrev pub HasTakenAbove : {R : Type 0} → ℕ → Counts R → Counts R → Type 0

@@ -3,7 +3,11 @@
 ghost use Rattle.std.specs.Prelude.{◌≡◌, ◌≤◌, ◌+◌, IfOk, IfErr, IfSome};
 ghost use Rattle.zic_plan.specs.Plan.{IsPlan};
 ghost use Rattle.zic_counted.specs.Counts.{HasFailedSince};
-ghost use Rattle.zic_convert.specs.Convert.{IsCauseOf, WritesAll, WritesAt};
+ghost use Rattle.zic_columns.specs.Column.{column_records};
+ghost use Rattle.zic_columns.specs.Round.{unread};
+ghost use Rattle.zic_convert.specs.Column.{ConvertsBodyTo, ConvertsTo};
+ghost use Rattle.zic_convert.specs.Convert.{IsCauseOf, WritesAll, WritesAllOf, WritesAt};
+ghost use Rattle.zic_convert.specs.code.Progress.{RowsOfRecords};
 ghost use Rattle.zic_convert.specs.code.Halt.{IsCauseOfHalt, IsReadingStop, WritesAtHalt};
 
 use crate::halt::Halt;
@@ -40,12 +44,50 @@ fn round_len(plan: &Plan) -> usize {
     usual.clamp(SHORTEST_ROUND, LONGEST_ROUND) as usize
 }
 
-/// Converts a column round by round: takes a round, has it converted, and writes its rows before it
-/// reads on. Returns the number of rows.
+/// Converts what is left of a column, round by round: takes a round, has it converted, and writes
+/// its rows before it reads on. Returns the number of rows.
 ///
 /// # Errors
 ///
 /// `Unread` where the column can't be read on, or what ends a round.
+fn convert_rounds<T: Threads + Wait + Sync, R: Read + Drop, W: Write, G: Gate + Sync>(
+    rt: &T,
+    alloc: Global,
+    files: &Files,
+    mut column: Column<R>,
+    writer: &mut Counted<W>,
+    plan: &Plan,
+    gate: &G,
+) -> Result<u64, Halt>
+    ensures all { IfOk result (λ n. IfSome (unread R.remaining column)
+        (λ bytes. WritesAllOf (RowsOfRecords files.now plan.now.max_rows (column_records bytes)) n
+        (W.contents writer.old.inner) (W.contents writer.new.inner))) }
+    ensures flushed { IfOk result (λ _. writer.new.failures ≡ writer.old.failures) }
+    ensures halt { IfErr result (λ halt. IfSome (unread R.remaining column)
+        (λ bytes. WritesAtHalt (RowsOfRecords files.now plan.now.max_rows (column_records bytes))
+        halt (W.contents writer.old.inner) (W.contents writer.new.inner))) }
+    ensures cause { IfErr result (IsCauseOfHalt writer.old writer.new) }
+{
+    // What is left of a column that can't be read on has rows too: each file answers every instant,
+    // as `len` tells.
+    prove!(files.len() <= usize::MAX);
+    files_answer_once();
+    let wanted = round_len(plan);
+    let size = plan.row_piece() as usize;
+    let mut count = 0;
+    while column.turn(alloc, wanted, size)? {
+        let pieces = RowPieces::new(files, column.round(), count + 1, plan);
+        count += convert_round(rt, alloc, &pieces, writer, plan, gate)?;
+    }
+    flush(writer)?;
+    Ok(count)
+}
+
+/// Converts a whole column. Returns the number of rows.
+///
+/// # Errors
+///
+/// As [`convert_rounds`].
 fn convert_column<T: Threads + Wait + Sync, R: Read + Drop, W: Write, G: Gate + Sync>(
     rt: &T,
     alloc: Global,
@@ -60,24 +102,44 @@ fn convert_column<T: Threads + Wait + Sync, R: Read + Drop, W: Write, G: Gate + 
         (W.contents writer.new.inner))) }
     ensures flushed { IfOk result (λ _. writer.new.failures ≡ writer.old.failures) }
     ensures halt { IfErr result (λ halt. IfSome (R.remaining reader)
-        (λ column. WritesAtHalt files.now plan.now.max_rows column halt
+        (λ column. WritesAtHalt (ConvertsTo files.now plan.now.max_rows column) halt
         (W.contents writer.old.inner) (W.contents writer.new.inner))) }
     ensures cause { IfErr result (IsCauseOfHalt writer.old writer.new) }
 {
-    // What is left of a column that can't be read on has rows too: each file answers every instant,
-    // as `len` tells.
+    prove!(files.len() <= usize::MAX);
+    files_answer_once();
+    let column = Column::new(alloc, reader, plan.max_bytes())?;
+    convert_rounds(rt, alloc, files, column, writer, plan, gate)
+}
+
+/// Converts a column whose first record is a header. Returns the number of rows.
+///
+/// # Errors
+///
+/// As [`convert_rounds`].
+fn convert_body<T: Threads + Wait + Sync, R: Read + Drop, W: Write, G: Gate + Sync>(
+    rt: &T,
+    alloc: Global,
+    files: &Files,
+    reader: R,
+    writer: &mut Counted<W>,
+    plan: &Plan,
+    gate: &G,
+) -> Result<u64, Halt>
+    ensures all { IfOk result (λ n. IfSome (R.remaining reader)
+        (λ column. WritesAllOf (ConvertsBodyTo files.now plan.now.max_rows column) n
+        (W.contents writer.old.inner) (W.contents writer.new.inner))) }
+    ensures flushed { IfOk result (λ _. writer.new.failures ≡ writer.old.failures) }
+    ensures halt { IfErr result (λ halt. IfSome (R.remaining reader)
+        (λ column. WritesAtHalt (ConvertsBodyTo files.now plan.now.max_rows column) halt
+        (W.contents writer.old.inner) (W.contents writer.new.inner))) }
+    ensures cause { IfErr result (IsCauseOfHalt writer.old writer.new) }
+{
     prove!(files.len() <= usize::MAX);
     files_answer_once();
     let mut column = Column::new(alloc, reader, plan.max_bytes())?;
-    let wanted = round_len(plan);
-    let size = plan.row_piece() as usize;
-    let mut count = 0;
-    while column.turn(alloc, wanted, size)? {
-        let pieces = RowPieces::new(files, column.round(), count + 1, plan);
-        count += convert_round(rt, alloc, &pieces, writer, plan, gate)?;
-    }
-    flush(writer)?;
-    Ok(count)
+    column.pass_record(alloc, round_len(plan))?;
+    convert_rounds(rt, alloc, files, column, writer, plan, gate)
 }
 
 /// Returns why reading the column ended. The reader had counted `failures` failures and `taken`

@@ -1,17 +1,16 @@
 -- How a conversion ends early.
 use Rattle.std.specs.Prelude.{◌≡◌, ℕ, ◌+◌, ◌<◌, ◌⊎◌, List, Option}
 use Rattle.zic_counted.specs.Counts.{Counts, HasFailedSince, greatest}
-use Rattle.zic_files.specs.File.{File}
 use Rattle.zic_plan.specs.declared.stop.RunStop.{RunStop}
 use Rattle.zic_plan.specs.declared.stop.RunStop.TheVariants as stop
-use Rattle.zic_convert.specs.Convert.{WritesAt, WritesPart}
+use Rattle.zic_convert.specs.Convert.{Outcome, WritesAtOf, WritesPartOf}
 use Rattle.zic_convert.specs.declared.halt.Halt.{Halt}
 use Rattle.zic_convert.specs.declared.halt.Halt.TheVariants as halt
 
 -- what was written where the column could not be read on, or where the conversion ends for another cause
-abbrev pub WritesAtHalt : List File → ℕ → List ℕ → Halt → Option (List ℕ) → Option (List ℕ) → Type 0
-WritesAtHalt files most column halt.Unread old new = WritesPart files most column old new
-WritesAtHalt files most column (halt.Stop stop) old new = WritesAt files most column stop old new
+abbrev pub WritesAtHalt : Outcome → Halt → Option (List ℕ) → Option (List ℕ) → Type 0
+WritesAtHalt Converts halt.Unread old new = WritesPartOf Converts old new
+WritesAtHalt Converts (halt.Stop stop) old new = WritesAtOf Converts stop old new
 
 -- a row with a fault where the writer did not fail, a writer that failed, or memory that ran out
 abbrev pub IsOwnCause : {W : Type 0} → Counts W → Counts W → RunStop → Type 0

@@ -2,10 +2,10 @@
 use Rattle.std.specs.Prelude.{◌≡◌, ℕ, List, ◌++◌, length, Option, Some, None, IfSome}
 use Rattle.std.specs.List.{concat}
 use Rattle.std.specs.Io.KnownBytes.{Appends}
-use Rattle.csv.specs.Reading.{strip_bom}
 use Rattle.zic_columns.specs.Column.{column_records}
 use Rattle.zic_files.specs.File.{File}
 use Rattle.zic_convert.specs.Rows.{ComeTo}
+use Rattle.zic_convert.specs.Convert.{Outcome}
 
 -- Where the bytes that are left of a column are known, these records come next, and then those of the bytes that are left then.
 abbrev pub Takes : Option (List ℕ) → Option (List ℕ) → List (List (List ℕ)) → Type 0
@@ -15,13 +15,17 @@ Takes old new records = IfSome old (λ bytes. (rest : List ℕ) × (new ≡ Some
 abbrev pub ComeNext : Option (List ℕ) → List (List (List ℕ)) → Type 0
 ComeNext left records = IfSome left (λ bytes. (more : List (List (List ℕ))) × (column_records bytes ≡ records ++ more))
 
--- Of a column with these bytes this number of rows was converted and written, none of which has a fault, and these bytes are left of it.
-pub record IsSoFar (files : List File) (most : ℕ) (column : List ℕ) (left : Option (List ℕ)) (so_many : ℕ) (old new : Option (List ℕ)) : Type 0 where
+-- Of these records this number was converted and written, none of which has a fault, and the bytes that are left have the others.
+pub record IsSoFar (files : List File) (most : ℕ) (all : List (List (List ℕ))) (left : Option (List ℕ)) (count : ℕ) (old new : Option (List ℕ)) : Type 0 where
   pub records : List (List (List ℕ))
   pub texts : List (List ℕ)
   pub rest : List ℕ
   pub bytes : left ≡ Some rest
-  pub goes_on : column_records (strip_bom column) ≡ records ++ column_records rest
+  pub goes_on : all ≡ records ++ column_records rest
   pub come : ComeTo files most 1 records texts None
-  pub count : so_many ≡ length texts
+  pub counted : count ≡ length texts
   pub wrote : Appends old new (concat texts)
+
+-- what records come to, as rows from the first on
+abbrev pub RowsOfRecords : List File → ℕ → List (List (List ℕ)) → Outcome
+RowsOfRecords files most records = ComeTo files most 1 records

@@ -1,19 +1,12 @@
-use Rattle.std.proofs.Common.{◌<◌, ◌+◌, ◌∙◌, ℕ, List, [], ◌∷◌, length, Option, Some, ap, refl, sym, rules, arith}
+use Rattle.std.proofs.Common.{Some, refl}
 use Rattle.std.proofs.lemmas.Result.{err_from_is_err_and}
 use Rattle.csv.specs.Reading.{strip_bom}
-use Rattle.zic_columns.specs.Round.{records_of, unread}
-use Rattle.zic_convert.specs.code.Pieces.{Pieces}
-use Rattle.zic_convert.specs.code.Progress.{Takes}
-use Rattle.zic_convert.proofs.Halts.{all_done, as_many, ends_at_flush, ends_in_round, goes_on, no_more}
-use Rattle.zic_convert.proofs.Joining.{rows_of_round, some_records}
-use Rattle.zic_convert.proofs.Progress.{at_start, for_some, if_some, none_taken, taken_come_next, unread_part}
+use Rattle.zic_columns.specs.Column.{column_records}
+use Rattle.zic_columns.specs.Round.{unread}
+use Rattle.zic_convert.proofs.Progress.{all_as, as_column, at_start, halt_as, if_err_some, if_ok_some, if_some, unread_part}
 use Rattle.zic_convert.proofs.Sounds.{all_known}
+use Rattle.zic_convert.specs.declared.halt.Halt.TheVariants as halt
 use Rattle.zic_convert.proofs.converting.convert_column.Goals as goal
-
--- a round without a piece takes no record
-no_piece : (old new : Option (List ℕ)) (pieces : List (List ℕ)) → (0 < length pieces → ⊥) → Takes old new (records_of pieces) → Takes old new []
-no_piece old new [] none takes = takes
-no_piece old new (p ∷ ps) none takes = absurd (none (omega arith))
 
 pub returns-in_err-column-clause-halt : goal.returns-in_err-column-clause-halt
 returns-in_err-column-clause-halt g c =
@@ -22,112 +15,21 @@ returns-in_err-column-clause-halt g c =
     let held = g.W.Write.contents c.args.writer.now.inner in
     let p = err_from_is_err_and c.from_residual.result c.from_residual.ensures.1 in
     rw (p.1, p.2) (if_some (g.R.Read.remaining c.args.reader) _ (λ text e.
-    unread_part files most text (Some (strip_bom text)) 0 held held
-    (at_start files most text (Some (strip_bom text)) held refl)
-    (all_known files c.len.ensures.sound c.files_answer_once.ensures)))
-
-pub loop-column-init : goal.loop-column-init
-loop-column-init g c = record {
-  within = search rules;
-  failures = search rules;
-  far = λ text e.
-      at_start c.args.files.now c.args.plan.now.max_rows text (unread g.R.Read.remaining c.in_ok-column.column)
-      (g.W.Write.contents c.args.writer.now.inner) (for_some (g.R.Read.remaining c.args.reader) _ text c.in_ok-column.ensures e);
-}
-
-pub returns-in_err-turn-clause-halt : goal.returns-in_err-turn-clause-halt
-returns-in_err-turn-clause-halt g c =
-    let files = c.args.files.now in
-    let p = err_from_is_err_and c.from_residual-in_err-turn.result c.from_residual-in_err-turn.ensures.1 in
-    rw (p.1, p.2) (if_some (g.R.Read.remaining c.args.reader) _ (λ text e.
-    unread_part files c.args.plan.now.max_rows text (unread g.R.Read.remaining c.loop-column.column) c.loop-column.count
-    (g.W.Write.contents c.args.writer.now.inner) (g.W.Write.contents c.loop-column.writer.inner)
-    (c.loop-column.invariant.far text e)
-    (all_known files c.len.ensures.sound c.files_answer_once.ensures)))
-
-pub returns-in_err-count-clause-halt : goal.returns-in_err-count-clause-halt
-returns-in_err-count-clause-halt g c =
-    let files = c.args.files.now in
-    let most = c.args.plan.now.max_rows in
-    let taken = c.turn.new.self.round in
-    let left = unread g.R.Read.remaining c.loop-column.column in
-    let next = unread g.R.Read.remaining c.turn.new.self in
-    let is = c.new-pieces.ensures.pieces in
-    let q = err_from_is_err_and c.from_residual-in_err-count.result c.from_residual-in_err-count.ensures.1 in
-    rw (q.1, q.2) (if_some (g.R.Read.remaining c.args.reader) _ (λ text e.
-    ends_in_round g.W.Write.contents files most text (all_known files c.len.ensures.sound c.files_answer_once.ensures) left
-    c.loop-column.count
-    (g.W.Write.contents c.args.writer.now.inner) c.loop-column.writer (c.loop-column.invariant.far text e)
-    c.new-pieces.result (records_of taken) (taken_come_next left next (records_of taken) c.in_ok-turn.ensures.takes)
-    (ap (λ (p : Pieces). p.files) (sym is)) (ap (λ (p : Pieces). p.most) (sym is)) (ap (λ (p : Pieces). p.first) (sym is))
-    (ap (λ (p : Pieces). records_of p.pieces) is ∙ ap records_of c.round.ensures) c.convert_round.new.writer c.in_err-count.field-0.0
-    c.in_err-count.ensures.stop))
-
-pub overflow_add-count-in-loop-column : goal.overflow_add-count-in-loop-column
-overflow_add-count-in-loop-column g c =
-    let most = c.args.plan.now.max_rows in
-    let taken = c.turn.new.self.round in
-    let (rows, are, wrote) = c.in_ok-count.ensures.ok in
-    let all = rows_of_round c.new-pieces.result c.args.files.now most (c.loop-column.count + 1) c.args.plan.now.row_piece c.round.result taken
-    c.new-pieces.ensures.pieces c.round.ensures rows are in
-    let within = no_more c.args.files.now most c.loop-column.count (records_of taken) rows all wrote.0 c.loop-column.invariant.within in
-    let fits : c.loop-column.count + c.in_ok-count.field-0 < 18446744073709551616 = omega
-    (arith, wrote.1, within, c.row_piece-size.ensures.plan.max_rows) in
-    search (rules, fits)
-
-pub loop-column-smaller : goal.loop-column-smaller
-loop-column-smaller g c =
-    let most = c.args.plan.now.max_rows in
-    let taken = c.turn.new.self.round in
-    let (rows, are, wrote) = c.in_ok-count.ensures.ok in
-    let all = rows_of_round c.new-pieces.result c.args.files.now most (c.loop-column.count + 1) c.args.plan.now.row_piece c.round.result taken
-    c.new-pieces.ensures.pieces c.round.ensures rows are in
-    let many = as_many c.args.files.now most (c.loop-column.count + 1) (records_of taken) rows all wrote.0 in
-    let filled = some_records c.row_piece-size.result taken (c.in_ok-turn.ensures.some.0 c.if-branch.true)
-    (omega (arith, c.row_piece-size.ensures.size, c.row_piece-size.ensures.plan.row_piece.0)) c.in_ok-turn.ensures.cut in
-    omega (arith, wrote.1, many, filled, c.loop-column.invariant.within)
-
-pub loop-column-preserved : goal.loop-column-preserved
-loop-column-preserved g c =
-    let files = c.args.files.now in
-    let most = c.args.plan.now.max_rows in
-    let taken = c.turn.new.self.round in
-    let rs = records_of taken in
-    let left = unread g.R.Read.remaining c.loop-column.column in
-    let next = unread g.R.Read.remaining c.turn.new.self in
-    let (rows, are, wrote) = c.in_ok-count.ensures.ok in
-    let all = rows_of_round c.new-pieces.result files most (c.loop-column.count + 1) c.args.plan.now.row_piece c.round.result taken
-    c.new-pieces.ensures.pieces c.round.ensures rows are in
-    let known_files = all_known files c.len.ensures.sound c.files_answer_once.ensures in
-    rw wrote.1 (record {
-      within = no_more files most c.loop-column.count rs rows all wrote.0 c.loop-column.invariant.within;
-      failures = wrote.2.1 ∙ c.loop-column.invariant.failures;
-      far = λ text e.
-          goes_on g.W.Write.contents files most text known_files left c.loop-column.count (g.W.Write.contents c.args.writer.now.inner)
-          c.loop-column.writer (c.loop-column.invariant.far text e)
-          rs (taken_come_next left next rs c.in_ok-turn.ensures.takes) rows all c.convert_round.new.writer next wrote.0
-          c.in_ok-turn.ensures.takes wrote.2;
-    })
-
-pub returns-in_err-flush-clause-halt : goal.returns-in_err-flush-clause-halt
-returns-in_err-flush-clause-halt g c =
-    let files = c.args.files.now in
-    let q = err_from_is_err_and c.from_residual-in_err-flush.result c.from_residual-in_err-flush.ensures.1 in
-    rw (q.1, q.2) (if_some (g.R.Read.remaining c.args.reader) _ (λ text e.
-    ends_at_flush g.W.Write.contents files c.args.plan.now.max_rows text (all_known files c.len.ensures.sound c.files_answer_once.ensures)
-    (unread g.R.Read.remaining c.loop-column.column) c.loop-column.count (g.W.Write.contents c.args.writer.now.inner) c.loop-column.writer
-    (c.loop-column.invariant.far text e) c.flush.new.writer c.in_err-flush.field-0.0 c.in_err-flush.ensures.err.0 c.in_err-flush.ensures.err.1))
+    halt_as _ _ (as_column files most text) held held halt.Unread
+    (unread_part files most (column_records (strip_bom text)) (Some (strip_bom text)) 0 held held
+    (at_start files most (column_records (strip_bom text)) (Some (strip_bom text)) held (strip_bom text) refl refl)
+    (all_known files c.len.ensures.sound c.files_answer_once.ensures))))
 
 pub returns-clause-all : goal.returns-clause-all
 returns-clause-all g c =
     let files = c.args.files.now in
     let most = c.args.plan.now.max_rows in
-    let held = g.W.Write.contents c.args.writer.now.inner in
-    let now = g.W.Write.contents c.loop-column.writer.inner in
-    let left = unread g.R.Read.remaining c.loop-column.column in
-    let last = unread g.R.Read.remaining c.turn.new.self in
-    let none : 0 < length c.turn.new.self.round → ⊥ = λ filled. (let yes = rw c.if-branch.false at (c.in_ok-turn.ensures.some.1 filled) in cc yes) in
-    if_some (g.R.Read.remaining c.args.reader) _ (λ text e.
-    all_done g.W.Write.contents files most text (all_known files c.len.ensures.sound c.files_answer_once.ensures) last c.loop-column.count held c.loop-column.writer
-    (none_taken files most text left last c.loop-column.count held now (no_piece left last c.turn.new.self.round none c.in_ok-turn.ensures.takes)
-    (c.loop-column.invariant.far text e)) c.flush.new.writer (c.in_ok-turn.ensures.end c.if-branch.false) c.in_ok-flush.ensures.ok)
+    if_ok_some (g.R.Read.remaining c.args.reader) (unread g.R.Read.remaining c.in_ok-column.column) _ _ strip_bom
+    c.in_ok-column.ensures c.convert_rounds.result (λ n text. all_as _ _ (as_column files most text) _ _ n) c.convert_rounds.ensures.all
+
+pub returns-clause-halt : goal.returns-clause-halt
+returns-clause-halt g c =
+    let files = c.args.files.now in
+    let most = c.args.plan.now.max_rows in
+    if_err_some (g.R.Read.remaining c.args.reader) (unread g.R.Read.remaining c.in_ok-column.column) _ _ strip_bom
+    c.in_ok-column.ensures c.convert_rounds.result (λ why text. halt_as _ _ (as_column files most text) _ _ why) c.convert_rounds.ensures.halt
