@@ -239,6 +239,8 @@ expect_usage convert --row-piece 65537 plain
 expect_usage convert --max-rows 100000001 plain
 expect_usage convert --workers 65 plain
 expect_usage convert --progress=1 plain
+expect_usage convert --header=1 plain
+expect_usage check --header plain
 expect_usage check --progress plain
 expect 0 '' '' convert --workers 64 --zone-piece 65536 --row-piece 65536 --max-rows 100000000 --max-bytes 4294967296 plain
 expect 0 '' '' convert --max-rows 0 --max-bytes 0 plain
@@ -370,7 +372,7 @@ told 'pzic convert plain <&-' 3 '' 'cannot read column'
 printf '%s\n' 'Zone Etc/UTC 0 - UTC' 'Zone Z/I 5:30 - %z' >>eastern
 sed -i 's/^Zone NY/Zone Z\/NY/' eastern
 zic -b fat -d witnessed eastern
-for form in plain quoted; do
+for form in plain quoted first middle last; do
     python3 "$columns" $form >column.$form
     python3 "$columns" rows witnessed column.$form >rows.$form
     input=column.$form
@@ -384,10 +386,10 @@ for form in plain quoted; do
         done
     done
 done
-# The same with a fault in row 2345 and others after it.
-for form in plain quoted; do
+# The same with a fault in row 2345 and others after it, or a line end within its quotes.
+for form in plain quoted feed; do
     python3 "$columns" $form 2345 >column
-    head -n 2344 rows.$form >rows.wanted
+    head -n 2344 "rows.${form/feed/plain}" >rows.wanted
     input=column
     for workers in 1 2 8 64; do
         for piece in 1 2 3 100; do
@@ -443,6 +445,30 @@ for words in '>&-' '>/dev/full' 'into a closed pipe'; do
     esac
     told "pzic convert eastern $words" 3 '' 'cannot write rows'
 done
+
+# ------------------------------------------------------------------ a header
+
+header=zone,instant,local,offset,daylight,abbreviation
+input=/dev/null
+expect 0 "$header" '' convert --header plain
+expect 1 '' 'line 1: Keyword' convert --header faulty
+expect_rows 0 "$header" '' 'zone,instant\n' --header
+expect_rows 0 "$header"$'\n'"$utc" '' '"a\nb",c,d\r\nEtc/UTC,0\n' --header --max-rows 1
+expect_rows 1 "$header" 'row 1: RowInstant' 'Etc/UTC,0\nEtc/UTC,x\n' --header
+(printf 'zone,instant\n' && cat column.plain) >column.header
+for workers in 1 4; do
+    input=column.header
+    ask convert --header --workers $workers --row-piece 7 eastern
+    sed 1d ../out >../rows.below
+    head -n 1 ../out >../header
+    cmp ../rows.below rows.plain >&2 || differ 'the rows differ below a header'
+    mv ../header ../out
+    told "pzic convert --header --workers $workers eastern" 0 "$header" ''
+done
+status=0
+"$program" convert --header plain </dev/null >/dev/full 2>../err || status=$?
+: >../out
+told 'pzic convert --header plain >/dev/full' 3 '' 'cannot write rows'
 
 # ------------------------------------------------------------------ progress
 

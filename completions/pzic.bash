@@ -11,7 +11,7 @@ _pzic() {
     fi
     case ${COMP_WORDS[1]} in
     check | build) options='--workers --zone-piece --help' ;;
-    convert) options='--workers --zone-piece --row-piece --max-rows --max-bytes --progress --help' ;;
+    convert) options='--workers --zone-piece --row-piece --max-rows --max-bytes --header --progress --help' ;;
     show) ;;
     dump) options='--from --to --help' ;;
     explain)

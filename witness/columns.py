@@ -8,7 +8,7 @@ FOLDER has the folders `ours` and `fat`, with our files of SOURCE and those of `
 fixed seed: each name at the first and the last instant that a row may have, and then names by chance at instants by chance from the
 year 1 to 9999, at transitions, edges of footers and half years and one second before, or within two hours of these. Python can show
 local time, abbreviation and flag at each. The program converts it by 1 and 4 workers and pieces of 1,024 and 3 rows, as plain lines;
-with a byte order mark and carriage returns; with quotes, zeros before digits and line ends of all kinds; and with a row that has a
+with a byte order mark and carriage returns; with quotes in one of a hundred records; with quotes, zeros before digits and line ends of all kinds; and with a row that has a
 fault. Prints a line for each comparison, and the first differences; the status is 1 if there is one.
 """
 import random
@@ -84,6 +84,12 @@ def zeros(t):
     return "-" + digits if t < 0 or t == 0 and random.random() < 0.5 else digits
 
 
+def rarely_quoted(column):
+    """with quotes round both fields of each hundredth record"""
+    for number, (name, t) in enumerate(column):
+        yield f'"{name}","{t}"\n' if number % 100 == 57 else f"{name},{t}\n"
+
+
 def quoted(column):
     """from the middle on with quotes round some fields"""
     for number, (name, t) in enumerate(column):
@@ -127,6 +133,7 @@ def main():
     files.report(f"{len(column)} rows over {len(names)} names by reader.py, and by zoneinfo over our files and zic's fat ones")
     convert(program, source, "plain lines", plain(column), wanted)
     convert(program, source, "a column with a mark and carriage returns", marked(column), wanted)
+    convert(program, source, "a column with a quoted record in a hundred", "".join(rarely_quoted(column)), wanted)
     convert(program, source, "a column with quotes and zeros", "".join(quoted(column)), wanted)
     convert(program, source, "a column with a fault", faulty(column), wanted[:FAULTY - 1], f"row {FAULTY}: RowInstant\n")
     sys.exit(files.found["in all"] != 0)

@@ -1,13 +1,15 @@
 #!/usr/bin/env python3
 """Columns for `convert` of zones of the released tz database's own form, with the rows that Python's csv and zoneinfo make of them.
 
-usage: records.py plain|quoted [ROW]    prints a column of 5,000 records, of which from that row on each has a fault
+usage: records.py FORM [ROW]             prints a column of 5,000 records, of which from that row on each has a fault
        records.py rows TREE COLUMN      prints the rows of a column by the files of a tree
        records.py drip SECONDS          passes standard input on, an octet at a time
        records.py terminal OUT WORD...  runs a program whose standard input and standard error are a terminal, types three lines on it,
                                         half a second apart, and then the end; its output goes to OUT, and what it tells is printed
 
-`python3` is 3.9 or later.
+A FORM is `plain`; `quoted`, with quotes round some fields, all line ends and a mark at the start; `first`, `middle` or `last`, which is
+plain but for the quotes round both fields of that record; or `feed`, whose first record with a fault is an instant and a line end
+within quotes. `python3` is 3.9 or later.
 """
 import csv
 import io
@@ -25,21 +27,28 @@ SPAN = 4102444800                                   # the instants of columns li
 ENDS = ["\n", "\r\n", "\r", "\n\n", "\r\n\r\n"]
 
 
-def column(is_quoted, first_fault):
+QUOTED = {"first": 0, "middle": 2500, "last": 4999}
+
+
+def column(form, first_fault):
     lines = []
     for i in range(5000):
         name, instant = NAMES[i * i % 7 % 3], str((i * 1777777 + i * i * 104729) % (2 * SPAN) - SPAN)
+        if form == "feed" and i + 1 == first_fault:
+            lines.append(f'"{name}","{instant}\r\n"\n')
+            continue
         if i + 1 >= first_fault:
             instant = "x"
         if i + 1 > first_fault:
             name = "No/Where"
-        if not is_quoted:
-            lines.append(f"{name},{instant}\n")
-            continue
-        form = ['{},{}', '"{}",{}', '{},"{}"', '"{}","{}"'][i % 11 % 4]
-        lines.append(form.format(name, instant) + ENDS[i % 13 % 5])
+        if form == "quoted":
+            fields = ['{},{}', '"{}",{}', '{},"{}"', '"{}","{}"'][i % 11 % 4]
+            lines.append(fields.format(name, instant) + ENDS[i % 13 % 5])
+        else:
+            fields = '"{}","{}"\n' if QUOTED.get(form) == i else "{},{}\n"
+            lines.append(fields.format(name, instant))
     text = "".join(lines)
-    return ("\ufeff" + text.rstrip("\r\n") if is_quoted else text).encode()
+    return ("\ufeff" + text.rstrip("\r\n") if form == "quoted" else text).encode()
 
 
 def row(zone, name, instant):
@@ -97,4 +106,4 @@ elif sys.argv[1] == "drip":
 elif sys.argv[1] == "terminal":
     sys.exit(terminal(sys.argv[2], sys.argv[3:]))
 else:
-    sys.stdout.buffer.write(column(sys.argv[1] == "quoted", int(sys.argv[2]) if sys.argv[2:] else 5001))
+    sys.stdout.buffer.write(column(sys.argv[1], int(sys.argv[2]) if sys.argv[2:] else 5001))

@@ -35,14 +35,16 @@ fn asked(alloc: Global, line: &str) -> Result<String, Fail> {
             Request::Convert {
                 source,
                 plan,
+                header,
                 progress,
             },
         ) => {
             let (workers, zones) = (plan.workers(), plan.zone_piece());
             let (rows, most, bytes) = (plan.row_piece(), plan.max_rows(), plan.max_bytes());
+            let below = if header { ", below a header" } else { "" };
             let told = if progress { ", told" } else { "" };
             Ok(format!(in alloc;
-                "convert {source} by {workers} of {zones} and {rows}, {most} rows in {bytes}{told}"
+                "convert {source} by {workers} of {zones} and {rows}, {most} rows in {bytes}{below}{told}"
             )?)
         }
         Ok(Request::Show { file, instant }) => Ok(format!(in alloc; "show {file} {instant}")?),
@@ -110,6 +112,12 @@ fn words_are_a_request_or_a_usage_fault(rt: HostRuntime) -> Result<(), Fail> {
             "pzic convert --progress a --workers 64",
             "convert a by 64 of 16 and 1024, 100000000 rows in 4294967296, told",
         ),
+        (
+            "pzic convert --header a --progress",
+            "convert a by 4 of 16 and 1024, 100000000 rows in 4294967296, below a header, told",
+        ),
+        ("pzic convert --header --header a", "usage"),
+        ("pzic check --header a", "usage"),
         ("pzic convert --progress=1 a", "usage"),
         ("pzic convert --progress --progress a", "usage"),
         ("pzic check --progress a", "usage"),

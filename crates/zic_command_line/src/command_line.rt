@@ -33,6 +33,8 @@ pub enum Request {
     Convert {
         source: String,
         plan: Plan,
+        /// Whether the column's first record is a header.
+        header: bool,
         /// Whether it tells the number of rows so far.
         progress: bool,
     },
@@ -167,6 +169,10 @@ fn convert_command<'a>(alloc: Global) -> Result<Command<'a>, AllocError> {
     let max_bytes = option(alloc, "max-bytes", "4294967296", 0, MAX_BYTES as i64).help(
         "The most bytes, up to 4294967296",
     );
+    let header = Arg::new(alloc, "header")
+        .long("header")
+        .action(ArgAction::SetTrue)
+        .help("The first line is a header; writes one of its own");
     let progress = Arg::new(alloc, "progress")
         .long("progress")
         .action(ArgAction::SetTrue)
@@ -181,6 +187,7 @@ fn convert_command<'a>(alloc: Global) -> Result<Command<'a>, AllocError> {
         .arg(row_piece)?
         .arg(max_rows)?
         .arg(max_bytes)?
+        .arg(header)?
         .arg(progress)
 }
 
@@ -282,6 +289,7 @@ fn convert(alloc: Global, matches: &ArgMatches<'_>) -> Result<Request, NoRequest
     Ok(Request::Convert {
         source,
         plan,
+        header: matches.get_flag("header"),
         progress: matches.get_flag("progress"),
     })
 }

@@ -1,3 +1,4 @@
+pub mod ConvertingLemmas
 pub mod InputLemmas
 pub mod ListLemmas
 pub mod ListingLemmas

@@ -1,9 +1,12 @@
 //! `convert`: compiles texts, and converts a column by their files.
 
-ghost use Rattle.std.specs.Prelude.{◌≡◌, ◌≤◌, ◌+◌, IfOk, IfErr};
+ghost use Rattle.std.specs.Prelude.{◌≡◌, ◌≤◌, ◌+◌, IfOk, IfErr, OnOk, OnErr};
 ghost use Rattle.zic_source.specs.Texts.{texts_of};
 ghost use Rattle.zic_counted.specs.Counts.{HasFailedSince};
-ghost use Rattle.zic_commands.specs.Converting.{ConvertsAll, IsFailureOfConvert, conversion};
+ghost use Rattle.zic_counted.specs.Written.{FailsWithin, Writes};
+ghost use Rattle.zic_commands.specs.Converting.{ConvertsAll, ConvertsBody, conversion};
+ghost use Rattle.zic_commands.specs.Converting.{IsFailureOfConvert, IsFailureOfConvertBody, header_line};
+ghost use Rattle.zic_commands.specs.declared.failure.Failure.TheVariants.{CannotWriteRows};
 
 use crate::compiler::files_of;
 use crate::failure::{Failure, run_failure};
@@ -12,8 +15,11 @@ use std::io::{Read, Write};
 use std::sync::Wait;
 use std::thread::Threads;
 use zic_bulk::Plan;
-use zic_counted::Counted;
+use zic_counted::{Counted, WriteFailed, write_all};
 use zic_pieces::Open;
+
+/// The line before the rows of a column that has a header.
+const HEADER: &[u8; 48] = b"zone,instant,local,offset,daylight,abbreviation\n";
 
 /// Compiles the texts, converts the column that the reader gives to rows, by the plan's workers,
 /// and writes their text. Returns the number of rows.
@@ -42,5 +48,49 @@ pub fn convert<T: Threads + Wait + Sync, R: Read, W: Write>(
     match zic_convert::convert(rt, alloc, &files, reader, writer, plan, &Open) {
         Ok(rows) => Ok(rows),
         Err(stop) => Err(run_failure(stop, texts.len())),
+    }
+}
+
+/// Compiles the texts, and converts as [`convert`] does a column whose first record is a header. In
+/// place of the header's row it writes the line `zone,instant,local,offset,daylight,abbreviation`,
+/// once there are files. Returns the number of rows, without that line.
+///
+/// # Errors
+///
+/// As [`convert`], and where that line can't be written, in which case nothing is read of the
+/// column. The first row is that after the header.
+pub fn convert_with_header<T: Threads + Wait + Sync, R: Read, W: Write>(
+    rt: &T,
+    alloc: Global,
+    plan: &Plan,
+    texts: &[Vec<u8>],
+    reader: &mut Counted<R>,
+    writer: &mut Counted<W>,
+) -> Result<u64, Failure>
+    ensures ok { IfOk result (λ rows. ConvertsBody (texts_of texts.now) plan.now rows
+        (conversion R.remaining W.contents reader.old reader.new writer.old writer.new)) }
+    ensures within { IfOk result (λ _. reader.new.taken ≤ reader.old.taken + plan.now.max_bytes) }
+    ensures unfailed { IfOk result (λ _. HasFailedSince reader.new reader.old.failures → ⊥) }
+    ensures flushed { IfOk result (λ _. writer.new.failures ≡ writer.old.failures) }
+    ensures err { IfErr result (IsFailureOfConvertBody (texts_of texts.now) plan.now
+        (conversion R.remaining W.contents reader.old reader.new writer.old writer.new)) }
+{
+    let files = files_of(rt, alloc, plan, texts)?;
+    write_header(writer)?;
+    match zic_convert::convert_after_header(rt, alloc, &files, reader, writer, plan) {
+        Ok(rows) => Ok(rows),
+        Err(stop) => Err(run_failure(stop, texts.len())),
+    }
+}
+
+/// Writes the header line, and doesn't flush.
+fn write_header<W: Write>(writer: &mut Counted<W>) -> Result<(), Failure>
+    ensures ok { OnOk result (Writes W.contents writer.old writer.new header_line) }
+    ensures failure { IfErr result (λ failure. failure ≡ CannotWriteRows) }
+    ensures fails { OnErr result (FailsWithin W.contents writer.old writer.new header_line) }
+{
+    match write_all(writer, HEADER) {
+        Ok(()) => Ok(()),
+        Err(WriteFailed) => Err(Failure::CannotWriteRows),
     }
 }

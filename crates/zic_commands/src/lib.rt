@@ -22,7 +22,7 @@ mod tree;
 
 pub use build_command::build;
 pub use check_command::check;
-pub use convert_command::convert;
+pub use convert_command::{convert, convert_with_header};
 pub use dump_command::dump;
 pub use failure::Failure;
 pub use input::{MAX_SOURCE, read_file_bytes, read_source_text};

@@ -25,7 +25,8 @@ pub enum Told<E> {
 ///
 /// The line has the number of rows that were written, and that of rows a second since the writer
 /// was made: `1048576 rows, 524288 rows a second`. What can't be told is left out, and is no
-/// failure of the rows. A row ends with a line feed, and has no other.
+/// failure of the rows. A row ends with a line feed, and has no other. A header line before the
+/// rows is no row.
 #[derive(Drop)]
 pub struct Progress<'a, W, C, E> {
     inner: W,
@@ -34,8 +35,10 @@ pub struct Progress<'a, W, C, E> {
     start: Option<Instant>,
     /// The time since the start at which the line is written anew.
     next: Duration,
-    /// The number of rows that were written, or none where no write and no flush was asked for.
-    rows: Option<u64>,
+    /// The number of lines of a header before the rows, 0 or 1.
+    header: u64,
+    /// The number of lines that were written, or none where no write and no flush was asked for.
+    lines: Option<u64>,
 }
 
 impl<'a, W, C, E> Model for Progress<'a, W, C, E> {
@@ -45,17 +48,18 @@ impl<'a, W, C, E> Model for Progress<'a, W, C, E> {
 }
 
 impl<'a, W, C: Clock, E: Write> Progress<'a, W, C, E> {
-    /// Returns a writer that has told of no rows.
-    pub fn new(inner: W, clock: &'a C, told: Told<E>) -> Progress<'a, W, C, E>
+    /// Returns a writer that has told of no rows. They come after a header line, or at once.
+    pub fn new(inner: W, clock: &'a C, told: Told<E>, has_header: bool) -> Progress<'a, W, C, E>
         ensures { result ≡ inner }
     {
         Progress {
             inner,
             clock,
             told,
+            header: has_header as u64,
             start: Instant::now(clock).ok(),
             next: Duration::from_millis(PERIOD),
-            rows: None,
+            lines: None,
         }
     }
 
@@ -64,16 +68,16 @@ impl<'a, W, C: Clock, E: Write> Progress<'a, W, C, E> {
     pub fn finish(&mut self)
         ensures { self.new ≡ self.old }
     {
-        if let Some(rows) = self.rows {
-            self.tell(rows, self.elapsed());
+        if let Some(lines) = self.lines {
+            self.tell(lines, self.elapsed());
             if let Told::Once(told) | Told::Anew(told) = &mut self.told {
                 let _ = told.write_all(b"\n");
             }
         }
     }
 
-    /// Counts the rows among bytes that were written, and tells of them on a terminal where it is
-    /// time to.
+    /// Counts the lines among bytes that were written, and tells of the rows on a terminal where it
+    /// is time to.
     fn count(&mut self, written: &[u8])
         ensures { self.new ≡ self.old }
     {
@@ -81,13 +85,13 @@ impl<'a, W, C: Clock, E: Write> Progress<'a, W, C, E> {
             return;
         }
         let ends = written.iter().filter(|byte| **byte == b'\n').count() as u64;
-        let rows = self.rows.unwrap_or(0).saturating_add(ends);
-        self.rows = Some(rows);
+        let lines = self.lines.unwrap_or(0).saturating_add(ends);
+        self.lines = Some(lines);
         if matches!(self.told, Told::Anew(_)) {
             let elapsed = self.elapsed();
             if self.next <= elapsed {
                 self.next = elapsed.saturating_add(Duration::from_millis(PERIOD));
-                self.tell(rows, elapsed);
+                self.tell(lines, elapsed);
             }
         }
     }
@@ -101,9 +105,10 @@ impl<'a, W, C: Clock, E: Write> Progress<'a, W, C, E> {
     }
 
     /// Writes the line, on a terminal in place of the one that it has.
-    fn tell(&mut self, rows: u64, elapsed: Duration)
+    fn tell(&mut self, lines: u64, elapsed: Duration)
         ensures { self.new ≡ self.old }
     {
+        let rows = lines.saturating_sub(self.header);
         let rate = rows as u128 * 1000 / elapsed.as_millis().max(1);
         let _ = match &mut self.told {
             Told::Never => Ok(()),

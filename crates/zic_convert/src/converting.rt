@@ -6,7 +6,8 @@ ghost use Rattle.zic_counted.specs.Counts.{HasFailedSince};
 ghost use Rattle.zic_columns.specs.Column.{column_records};
 ghost use Rattle.zic_columns.specs.Round.{unread};
 ghost use Rattle.zic_convert.specs.Column.{ConvertsBodyTo, ConvertsTo};
-ghost use Rattle.zic_convert.specs.Convert.{IsCauseOf, WritesAll, WritesAllOf, WritesAt};
+ghost use Rattle.zic_convert.specs.Convert.{IsCauseOf, WritesAll, WritesAllOf};
+ghost use Rattle.zic_convert.specs.Convert.{WritesAt, WritesAtOf};
 ghost use Rattle.zic_convert.specs.code.Progress.{RowsOfRecords};
 ghost use Rattle.zic_convert.specs.code.Halt.{IsCauseOfHalt, IsReadingStop, WritesAtHalt};
 
@@ -21,7 +22,7 @@ use std::thread::Threads;
 use zic_columns::Column;
 use zic_counted::Counted;
 use zic_files::Files;
-use zic_pieces::Gate;
+use zic_pieces::{Gate, Open};
 use zic_plan::{Plan, RunStop};
 use zic_tzif::laws::files_answer_once;
 
@@ -37,6 +38,16 @@ const PIECES_FOR_EACH: u64 = 16;
 /// The number of bytes that a record usually has.
 const USUAL_RECORD: u64 = 48;
 
+/// What a column is converted with: threads, memory, files, a plan and a gate.
+#[derive(Drop)]
+struct Setting<'a, T, G> {
+    rt: &'a T,
+    alloc: Global,
+    files: &'a Files,
+    plan: &'a Plan,
+    gate: &'a G,
+}
+
 /// Returns the number of bytes that a round is to have: some pieces for each worker, of usual
 /// records.
 fn round_len(plan: &Plan) -> usize {
@@ -51,33 +62,36 @@ fn round_len(plan: &Plan) -> usize {
 ///
 /// `Unread` where the column can't be read on, or what ends a round.
 fn convert_rounds<T: Threads + Wait + Sync, R: Read + Drop, W: Write, G: Gate + Sync>(
-    rt: &T,
-    alloc: Global,
-    files: &Files,
+    setting: &Setting<'_, T, G>,
     mut column: Column<R>,
     writer: &mut Counted<W>,
-    plan: &Plan,
-    gate: &G,
 ) -> Result<u64, Halt>
-    ensures all { IfOk result (λ n. IfSome (unread R.remaining column)
-        (λ bytes. WritesAllOf (RowsOfRecords files.now plan.now.max_rows (column_records bytes)) n
-        (W.contents writer.old.inner) (W.contents writer.new.inner))) }
+    ensures all { IfOk result (λ n. IfSome (unread R.remaining column) (λ bytes. WritesAllOf
+        (RowsOfRecords setting.now.files.now setting.now.plan.now.max_rows (column_records bytes))
+        n (W.contents writer.old.inner) (W.contents writer.new.inner))) }
     ensures flushed { IfOk result (λ _. writer.new.failures ≡ writer.old.failures) }
-    ensures halt { IfErr result (λ halt. IfSome (unread R.remaining column)
-        (λ bytes. WritesAtHalt (RowsOfRecords files.now plan.now.max_rows (column_records bytes))
+    ensures halt { IfErr result (λ halt. IfSome (unread R.remaining column) (λ bytes. WritesAtHalt
+        (RowsOfRecords setting.now.files.now setting.now.plan.now.max_rows (column_records bytes))
         halt (W.contents writer.old.inner) (W.contents writer.new.inner))) }
     ensures cause { IfErr result (IsCauseOfHalt writer.old writer.new) }
 {
     // What is left of a column that can't be read on has rows too: each file answers every instant,
     // as `len` tells.
-    prove!(files.len() <= usize::MAX);
+    prove!(setting.files.len() <= usize::MAX);
     files_answer_once();
-    let wanted = round_len(plan);
-    let size = plan.row_piece() as usize;
+    let wanted = round_len(setting.plan);
+    let size = setting.plan.row_piece() as usize;
     let mut count = 0;
-    while column.turn(alloc, wanted, size)? {
-        let pieces = RowPieces::new(files, column.round(), count + 1, plan);
-        count += convert_round(rt, alloc, &pieces, writer, plan, gate)?;
+    while column.turn(setting.alloc, wanted, size)? {
+        let pieces = RowPieces::new(setting.files, column.round(), count + 1, setting.plan);
+        count += convert_round(
+            setting.rt,
+            setting.alloc,
+            &pieces,
+            writer,
+            setting.plan,
+            setting.gate,
+        )?;
     }
     flush(writer)?;
     Ok(count)
@@ -89,27 +103,23 @@ fn convert_rounds<T: Threads + Wait + Sync, R: Read + Drop, W: Write, G: Gate + 
 ///
 /// As [`convert_rounds`].
 fn convert_column<T: Threads + Wait + Sync, R: Read + Drop, W: Write, G: Gate + Sync>(
-    rt: &T,
-    alloc: Global,
-    files: &Files,
+    setting: &Setting<'_, T, G>,
     reader: R,
     writer: &mut Counted<W>,
-    plan: &Plan,
-    gate: &G,
 ) -> Result<u64, Halt>
     ensures all { IfOk result (λ n. IfSome (R.remaining reader)
-        (λ column. WritesAll files.now plan.now.max_rows column n (W.contents writer.old.inner)
-        (W.contents writer.new.inner))) }
+        (λ column. WritesAll setting.now.files.now setting.now.plan.now.max_rows column n
+        (W.contents writer.old.inner) (W.contents writer.new.inner))) }
     ensures flushed { IfOk result (λ _. writer.new.failures ≡ writer.old.failures) }
-    ensures halt { IfErr result (λ halt. IfSome (R.remaining reader)
-        (λ column. WritesAtHalt (ConvertsTo files.now plan.now.max_rows column) halt
+    ensures halt { IfErr result (λ halt. IfSome (R.remaining reader) (λ column. WritesAtHalt
+        (ConvertsTo setting.now.files.now setting.now.plan.now.max_rows column) halt
         (W.contents writer.old.inner) (W.contents writer.new.inner))) }
     ensures cause { IfErr result (IsCauseOfHalt writer.old writer.new) }
 {
-    prove!(files.len() <= usize::MAX);
+    prove!(setting.files.len() <= usize::MAX);
     files_answer_once();
-    let column = Column::new(alloc, reader, plan.max_bytes())?;
-    convert_rounds(rt, alloc, files, column, writer, plan, gate)
+    let column = Column::new(setting.alloc, reader, setting.plan.max_bytes())?;
+    convert_rounds(setting, column, writer)
 }
 
 /// Converts a column whose first record is a header. Returns the number of rows.
@@ -118,28 +128,24 @@ fn convert_column<T: Threads + Wait + Sync, R: Read + Drop, W: Write, G: Gate + 
 ///
 /// As [`convert_rounds`].
 fn convert_body<T: Threads + Wait + Sync, R: Read + Drop, W: Write, G: Gate + Sync>(
-    rt: &T,
-    alloc: Global,
-    files: &Files,
+    setting: &Setting<'_, T, G>,
     reader: R,
     writer: &mut Counted<W>,
-    plan: &Plan,
-    gate: &G,
 ) -> Result<u64, Halt>
-    ensures all { IfOk result (λ n. IfSome (R.remaining reader)
-        (λ column. WritesAllOf (ConvertsBodyTo files.now plan.now.max_rows column) n
+    ensures all { IfOk result (λ n. IfSome (R.remaining reader) (λ column. WritesAllOf
+        (ConvertsBodyTo setting.now.files.now setting.now.plan.now.max_rows column) n
         (W.contents writer.old.inner) (W.contents writer.new.inner))) }
     ensures flushed { IfOk result (λ _. writer.new.failures ≡ writer.old.failures) }
-    ensures halt { IfErr result (λ halt. IfSome (R.remaining reader)
-        (λ column. WritesAtHalt (ConvertsBodyTo files.now plan.now.max_rows column) halt
+    ensures halt { IfErr result (λ halt. IfSome (R.remaining reader) (λ column. WritesAtHalt
+        (ConvertsBodyTo setting.now.files.now setting.now.plan.now.max_rows column) halt
         (W.contents writer.old.inner) (W.contents writer.new.inner))) }
     ensures cause { IfErr result (IsCauseOfHalt writer.old writer.new) }
 {
-    prove!(files.len() <= usize::MAX);
+    prove!(setting.files.len() <= usize::MAX);
     files_answer_once();
-    let mut column = Column::new(alloc, reader, plan.max_bytes())?;
-    column.pass_record(alloc, round_len(plan))?;
-    convert_rounds(rt, alloc, files, column, writer, plan, gate)
+    let mut column = Column::new(setting.alloc, reader, setting.plan.max_bytes())?;
+    column.pass_record(setting.alloc, round_len(setting.plan))?;
+    convert_rounds(setting, column, writer)
 }
 
 /// Returns why reading the column ended. The reader had counted `failures` failures and `taken`
@@ -211,9 +217,65 @@ pub fn convert<T: Threads + Wait + Sync, R: Read, W: Write, G: Gate + Sync>(
 {
     let failures = reader.failures();
     let taken = reader.taken();
-    match convert_column(rt, alloc, files, &mut *reader, writer, plan, gate) {
+    let setting = Setting {
+        rt,
+        alloc,
+        files,
+        plan,
+        gate,
+    };
+    match convert_column(&setting, &mut *reader, writer) {
         // No clause of what reads a column says how much it takes, or that no read failed: the
         // reader's own counts decide.
+        Ok(_) if reader.has_failed_since(failures) => Err(RunStop::ReadFailed),
+        Ok(_) if reader.taken().saturating_sub(taken) > plan.max_bytes() => {
+            Err(RunStop::ColumnTooLong)
+        }
+        Ok(count) => Ok(count),
+        Err(Halt::Stop(stop)) => Err(stop),
+        Err(Halt::Unread) => Err(reading_stop(reader, failures, taken, plan.max_bytes())),
+    }
+}
+
+/// Converts a column as [`convert`] does, after its first record, which is a header: it makes no
+/// row and isn't counted. Returns the number of rows.
+///
+/// The header may have any fields. A column without a record has no header and no rows. The gate is
+/// open.
+///
+/// # Errors
+///
+/// As [`convert`]. Rows count from 1 after the header.
+pub fn convert_after_header<T: Threads + Wait + Sync, R: Read, W: Write>(
+    rt: &T,
+    alloc: Global,
+    files: &Files,
+    reader: &mut Counted<R>,
+    writer: &mut Counted<W>,
+    plan: &Plan,
+) -> Result<u64, RunStop>
+    ensures ok { IfOk result (λ n. IfSome (R.remaining reader.old.inner)
+        (λ column. WritesAllOf (ConvertsBodyTo files.now plan.now.max_rows column) n
+        (W.contents writer.old.inner) (W.contents writer.new.inner))) }
+    ensures within { IfOk result (λ _. reader.new.taken ≤ reader.old.taken + plan.now.max_bytes) }
+    ensures unfailed { IfOk result (λ _. HasFailedSince reader.new reader.old.failures → ⊥) }
+    ensures flushed { IfOk result (λ _. writer.new.failures ≡ writer.old.failures) }
+    ensures err { IfErr result (λ stop. IfSome (R.remaining reader.old.inner)
+        (λ column. WritesAtOf (ConvertsBodyTo files.now plan.now.max_rows column) stop
+        (W.contents writer.old.inner) (W.contents writer.new.inner))) }
+    ensures cause { IfErr result
+        (IsCauseOf plan.now.max_bytes reader.old reader.new writer.old writer.new) }
+{
+    let failures = reader.failures();
+    let taken = reader.taken();
+    let setting = Setting {
+        rt,
+        alloc,
+        files,
+        plan,
+        gate: &Open,
+    };
+    match convert_body(&setting, &mut *reader, writer) {
         Ok(_) if reader.has_failed_since(failures) => Err(RunStop::ReadFailed),
         Ok(_) if reader.taken().saturating_sub(taken) > plan.max_bytes() => {
             Err(RunStop::ColumnTooLong)

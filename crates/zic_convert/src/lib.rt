@@ -11,4 +11,4 @@ mod row;
 mod writing;
 mod zone_cache;
 
-pub use converting::convert;
+pub use converting::{convert, convert_after_header};

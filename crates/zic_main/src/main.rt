@@ -54,10 +54,18 @@ fn run<
         Request::Convert {
             source,
             plan,
+            header,
             progress,
         } => {
             let texts = zic_commands::read_sources(alloc, rt, &mut input, &[source])?;
-            convert(rt, &plan, &texts, &mut input, told(progress, errors))?
+            convert(
+                rt,
+                &plan,
+                &texts,
+                &mut input,
+                header,
+                told(progress, errors),
+            )?
         }
         Request::Show { file, instant } => {
             let bytes = zic_commands::read_file(alloc, rt, file.as_str())?;
@@ -97,16 +105,22 @@ fn told<E: IsTerminal + Drop>(progress: bool, errors: E) -> Told<E> {
     }
 }
 
-/// Converts the input by the files of the texts to standard output, and tells of the rows.
+/// Converts the input, which may begin with a header, by the files of the texts to standard output,
+/// and tells of the rows.
 fn convert<R: Print + Clock + AllocGlobal + Threads + Wait + Sync, I: Read, E: Write + Drop>(
     rt: &R,
     plan: &Plan,
     texts: &[Vec<u8>],
     input: &mut Counted<I>,
+    header: bool,
     told: Told<E>,
 ) -> Result<(), Failure> {
-    let mut output = Counted::new(Progress::new(io::writer(rt), rt, told));
-    let converted = zic_commands::convert(rt, rt.alloc(), plan, texts, input, &mut output);
+    let mut output = Counted::new(Progress::new(io::writer(rt), rt, told, header));
+    let converted = if header {
+        zic_commands::convert_with_header(rt, rt.alloc(), plan, texts, input, &mut output)
+    } else {
+        zic_commands::convert(rt, rt.alloc(), plan, texts, input, &mut output)
+    };
     output.into_inner().finish();
     converted?;
     Ok(())

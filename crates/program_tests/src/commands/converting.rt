@@ -75,6 +75,59 @@ fn convert_writes_rows_up_to_the_first_fault(rt: HostRuntime) -> Result<(), Fail
     Ok(())
 }
 
+/// Returns what `convert_with_header` writes, and the number of rows or the failure.
+fn converted_below<T: Threads + Wait + Sync>(
+    rt: &T,
+    alloc: Global,
+    source: &str,
+    column: &str,
+) -> Result<String, Fail> {
+    let plan = Plan::new(2, 1, 1, 2, 100).ok_or("no plan")?;
+    let mut reader = Counted::new(column.as_bytes());
+    let mut writer = Counted::new(Vec::new(alloc));
+    let texts = [Vec::from_slice(alloc, source.as_bytes())?];
+    let answer = convert_with_header(rt, alloc, &plan, &texts, &mut reader, &mut writer);
+    let mut text = String::from_utf8(writer.into_inner())
+        .ok()
+        .ok_or("no text")?;
+    match answer {
+        Ok(rows) => write!(text, "{rows} rows")?,
+        Err(failure) => text.push_str(told(alloc, failure)?.as_str())?,
+    }
+    Ok(text)
+}
+
+#[test]
+fn a_header_is_no_row(rt: HostRuntime) -> Result<(), Fail> {
+    let alloc = rt.alloc();
+    let cases = [
+        (UTC, "", "0 rows"),
+        (UTC, "zone,instant", "0 rows"),
+        (
+            UTC,
+            "\u{feff}\n\"a\nb\",c,d\r\nEtc/UTC,-1\n\nEtc/UTC,0",
+            "Etc/UTC,-1,1969-12-31T23:59:59,+00:00:00,0,UTC\nEtc/UTC,0,1970-01-01T00:00:00,+00:00:00,0,UTC\n2 rows",
+        ),
+        (
+            UTC,
+            "Etc/UTC,7\nEtc/UTC,0\nEtc/UTC,x",
+            "Etc/UTC,0,1970-01-01T00:00:00,+00:00:00,0,UTC\nrow 2: RowInstant, status 1",
+        ),
+    ];
+    for (source, column, want) in cases {
+        let got = converted_below(&rt, alloc, source, column)?;
+        let header = "zone,instant,local,offset,daylight,abbreviation\n";
+        assert_eq!(rt;
+            got.as_str().strip_prefix(header),
+            Some(want),
+            "of {column:?}"
+        );
+    }
+    let fault = converted_below(&rt, alloc, "Zonk", "Etc/UTC,0")?;
+    assert_eq!(rt; fault.as_str(), "line 1: Keyword, status 1");
+    Ok(())
+}
+
 #[test]
 fn convert_reads_the_column_once_the_source_has_files(rt: HostRuntime) -> Result<(), Fail> {
     let alloc = rt.alloc();
@@ -136,7 +189,7 @@ fn progress_is_told_twice_a_second_or_at_the_end(rt: HostRuntime) -> Result<(), 
         } else {
             Told::Once(&mut told)
         };
-        let mut progress = Progress::new(&mut rows, &clock, line);
+        let mut progress = Progress::new(&mut rows, &clock, line, false);
         for _ in 0..5 {
             progress.write_all(b"a,1\nb,2\nc,3\nd,4\n")?;
         }
@@ -153,13 +206,28 @@ fn progress_is_told_twice_a_second_or_at_the_end(rt: HostRuntime) -> Result<(), 
 }
 
 #[test]
+fn progress_counts_no_header(rt: HostRuntime) -> Result<(), Fail> {
+    let clock = Quarters(Cell::new(1000));
+    let mut rows: Vec<u8> = Vec::new(rt.alloc());
+    let mut told: Vec<u8> = Vec::new(rt.alloc());
+    let mut progress = Progress::new(&mut rows, &clock, Told::Once(&mut told), true);
+    progress.write_all(b"zone,instant\na,1\nb,2\n")?;
+    progress.finish();
+    assert_eq!(rt;
+        str::from_utf8(&told).ok(),
+        Some("2 rows, 8 rows a second\n")
+    );
+    Ok(())
+}
+
+#[test]
 fn progress_tells_nothing_before_the_first_write(rt: HostRuntime) -> Result<(), Fail> {
     let alloc = rt.alloc();
     let clock = Quarters(Cell::new(0));
     let mut told: Vec<u8> = Vec::new(alloc);
-    let mut unused = Progress::new(Broken, &clock, Told::Anew(&mut told));
+    let mut unused = Progress::new(Broken, &clock, Told::Anew(&mut told), false);
     unused.finish();
-    let mut broken = Progress::new(Broken, &clock, Told::Once(&mut told));
+    let mut broken = Progress::new(Broken, &clock, Told::Once(&mut told), false);
     assert!(rt; broken.write(b"a,1\n").is_err());
     broken.finish();
     assert!(rt; told.is_empty());
@@ -171,7 +239,7 @@ fn progress_is_told_nowhere_where_nobody_asks(rt: HostRuntime) -> Result<(), Fai
     let clock = Quarters(Cell::new(0));
     let mut rows: Vec<u8> = Vec::new(rt.alloc());
     let told: Told<&mut Vec<u8>> = Told::Never;
-    let mut progress = Progress::new(&mut rows, &clock, told);
+    let mut progress = Progress::new(&mut rows, &clock, told, false);
     progress.write_all(b"a,1\n")?;
     progress.flush()?;
     progress.finish();

@@ -13,8 +13,8 @@ use Rattle.zic_convert.proofs.converting.convert_body.Goals as goal
 
 pub returns-in_err-column-clause-halt : goal.returns-in_err-column-clause-halt
 returns-in_err-column-clause-halt g c =
-    let files = c.args.files.now in
-    let most = c.args.plan.now.max_rows in
+    let files = c.args.setting.now.files.now in
+    let most = c.args.setting.now.plan.now.max_rows in
     let held = g.W.Write.contents c.args.writer.now.inner in
     let p = err_from_is_err_and c.from_residual.result c.from_residual.ensures.1 in
     rw (p.1, p.2) (if_some (g.R.Read.remaining c.args.reader) _ (λ text e.
@@ -23,8 +23,8 @@ returns-in_err-column-clause-halt g c =
 
 pub returns-in_err-pass_record-clause-halt : goal.returns-in_err-pass_record-clause-halt
 returns-in_err-pass_record-clause-halt g c =
-    let files = c.args.files.now in
-    let most = c.args.plan.now.max_rows in
+    let files = c.args.setting.now.files.now in
+    let most = c.args.setting.now.plan.now.max_rows in
     let held = g.W.Write.contents c.args.writer.now.inner in
     let p = err_from_is_err_and c.from_residual-in_err-pass_record.result c.from_residual-in_err-pass_record.ensures.1 in
     rw (p.1, p.2) (if_some (g.R.Read.remaining c.args.reader) _ (λ text e.
@@ -33,16 +33,16 @@ returns-in_err-pass_record-clause-halt g c =
 
 pub returns-clause-all : goal.returns-clause-all
 returns-clause-all g c =
-    let files = c.args.files.now in
-    let most = c.args.plan.now.max_rows in
+    let files = c.args.setting.now.files.now in
+    let most = c.args.setting.now.plan.now.max_rows in
     if_ok_body (g.R.Read.remaining c.args.reader) (unread g.R.Read.remaining c.in_ok-column.column) (unread g.R.Read.remaining c.pass_record.new.self)
     (λ n records. WritesAllOf (RowsOfRecords files most records) n (g.W.Write.contents c.args.writer.now.inner) (g.W.Write.contents c.convert_rounds.new.writer.inner)) _ strip_bom
     c.in_ok-column.ensures c.in_ok-pass_record.ensures.passes c.convert_rounds.result (λ n text. all_as _ _ (as_body files most text) _ _ n) c.convert_rounds.ensures.all
 
 pub returns-clause-halt : goal.returns-clause-halt
 returns-clause-halt g c =
-    let files = c.args.files.now in
-    let most = c.args.plan.now.max_rows in
+    let files = c.args.setting.now.files.now in
+    let most = c.args.setting.now.plan.now.max_rows in
     if_err_body (g.R.Read.remaining c.args.reader) (unread g.R.Read.remaining c.in_ok-column.column) (unread g.R.Read.remaining c.pass_record.new.self)
     (λ why records. WritesAtHalt (RowsOfRecords files most records) why (g.W.Write.contents c.args.writer.now.inner) (g.W.Write.contents c.convert_rounds.new.writer.inner)) _ strip_bom
     c.in_ok-column.ensures c.in_ok-pass_record.ensures.passes c.convert_rounds.result (λ why text. halt_as _ _ (as_body files most text) _ _ why) c.convert_rounds.ensures.halt

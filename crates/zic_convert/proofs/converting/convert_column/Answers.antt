@@ -10,8 +10,8 @@ use Rattle.zic_convert.proofs.converting.convert_column.Goals as goal
 
 pub returns-in_err-column-clause-halt : goal.returns-in_err-column-clause-halt
 returns-in_err-column-clause-halt g c =
-    let files = c.args.files.now in
-    let most = c.args.plan.now.max_rows in
+    let files = c.args.setting.now.files.now in
+    let most = c.args.setting.now.plan.now.max_rows in
     let held = g.W.Write.contents c.args.writer.now.inner in
     let p = err_from_is_err_and c.from_residual.result c.from_residual.ensures.1 in
     rw (p.1, p.2) (if_some (g.R.Read.remaining c.args.reader) _ (λ text e.
@@ -22,14 +22,14 @@ returns-in_err-column-clause-halt g c =
 
 pub returns-clause-all : goal.returns-clause-all
 returns-clause-all g c =
-    let files = c.args.files.now in
-    let most = c.args.plan.now.max_rows in
+    let files = c.args.setting.now.files.now in
+    let most = c.args.setting.now.plan.now.max_rows in
     if_ok_some (g.R.Read.remaining c.args.reader) (unread g.R.Read.remaining c.in_ok-column.column) _ _ strip_bom
     c.in_ok-column.ensures c.convert_rounds.result (λ n text. all_as _ _ (as_column files most text) _ _ n) c.convert_rounds.ensures.all
 
 pub returns-clause-halt : goal.returns-clause-halt
 returns-clause-halt g c =
-    let files = c.args.files.now in
-    let most = c.args.plan.now.max_rows in
+    let files = c.args.setting.now.files.now in
+    let most = c.args.setting.now.plan.now.max_rows in
     if_err_some (g.R.Read.remaining c.args.reader) (unread g.R.Read.remaining c.in_ok-column.column) _ _ strip_bom
     c.in_ok-column.ensures c.convert_rounds.result (λ why text. halt_as _ _ (as_column files most text) _ _ why) c.convert_rounds.ensures.halt

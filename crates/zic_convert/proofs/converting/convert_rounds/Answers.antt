@@ -20,24 +20,24 @@ loop-column-init g c = record {
   within = search rules;
   failures = search rules;
   far = λ text e.
-      at_start c.args.files.now c.args.plan.now.max_rows (column_records text) (unread g.R.Read.remaining c.args.column)
+      at_start c.args.setting.now.files.now c.args.setting.now.plan.now.max_rows (column_records text) (unread g.R.Read.remaining c.args.column)
       (g.W.Write.contents c.args.writer.now.inner) text e refl;
 }
 
 pub returns-in_err-turn-clause-halt : goal.returns-in_err-turn-clause-halt
 returns-in_err-turn-clause-halt g c =
-    let files = c.args.files.now in
+    let files = c.args.setting.now.files.now in
     let p = err_from_is_err_and c.from_residual.result c.from_residual.ensures.1 in
     rw (p.1, p.2) (if_some (unread g.R.Read.remaining c.args.column) _ (λ text e.
-    unread_part files c.args.plan.now.max_rows (column_records text) (unread g.R.Read.remaining c.loop-column.column) c.loop-column.count
+    unread_part files c.args.setting.now.plan.now.max_rows (column_records text) (unread g.R.Read.remaining c.loop-column.column) c.loop-column.count
     (g.W.Write.contents c.args.writer.now.inner) (g.W.Write.contents c.loop-column.writer.inner)
     (c.loop-column.invariant.far text e)
     (all_known files c.len.ensures.sound c.files_answer_once.ensures)))
 
 pub returns-in_err-count-clause-halt : goal.returns-in_err-count-clause-halt
 returns-in_err-count-clause-halt g c =
-    let files = c.args.files.now in
-    let most = c.args.plan.now.max_rows in
+    let files = c.args.setting.now.files.now in
+    let most = c.args.setting.now.plan.now.max_rows in
     let taken = c.turn.new.self.round in
     let left = unread g.R.Read.remaining c.loop-column.column in
     let next = unread g.R.Read.remaining c.turn.new.self in
@@ -54,38 +54,38 @@ returns-in_err-count-clause-halt g c =
 
 pub overflow_add-count-in-loop-column : goal.overflow_add-count-in-loop-column
 overflow_add-count-in-loop-column g c =
-    let most = c.args.plan.now.max_rows in
+    let most = c.args.setting.now.plan.now.max_rows in
     let taken = c.turn.new.self.round in
     let (rows, are, wrote) = c.in_ok-count.ensures.ok in
-    let all = rows_of_round c.new-pieces.result c.args.files.now most (c.loop-column.count + 1) c.args.plan.now.row_piece c.round.result taken
+    let all = rows_of_round c.new-pieces.result c.args.setting.now.files.now most (c.loop-column.count + 1) c.args.setting.now.plan.now.row_piece c.round.result taken
     c.new-pieces.ensures.pieces c.round.ensures rows are in
-    let within = no_more c.args.files.now most c.loop-column.count (records_of taken) rows all wrote.0 c.loop-column.invariant.within in
+    let within = no_more c.args.setting.now.files.now most c.loop-column.count (records_of taken) rows all wrote.0 c.loop-column.invariant.within in
     let fits : c.loop-column.count + c.in_ok-count.field-0 < 18446744073709551616 = omega
     (arith, wrote.1, within, c.row_piece-size.ensures.plan.max_rows) in
     search (rules, fits)
 
 pub loop-column-smaller : goal.loop-column-smaller
 loop-column-smaller g c =
-    let most = c.args.plan.now.max_rows in
+    let most = c.args.setting.now.plan.now.max_rows in
     let taken = c.turn.new.self.round in
     let (rows, are, wrote) = c.in_ok-count.ensures.ok in
-    let all = rows_of_round c.new-pieces.result c.args.files.now most (c.loop-column.count + 1) c.args.plan.now.row_piece c.round.result taken
+    let all = rows_of_round c.new-pieces.result c.args.setting.now.files.now most (c.loop-column.count + 1) c.args.setting.now.plan.now.row_piece c.round.result taken
     c.new-pieces.ensures.pieces c.round.ensures rows are in
-    let many = as_many c.args.files.now most (c.loop-column.count + 1) (records_of taken) rows all wrote.0 in
+    let many = as_many c.args.setting.now.files.now most (c.loop-column.count + 1) (records_of taken) rows all wrote.0 in
     let filled = some_records c.row_piece-size.result taken (c.in_ok-turn.ensures.some.0 c.if-branch.true)
     (omega (arith, c.row_piece-size.ensures.size, c.row_piece-size.ensures.plan.row_piece.0)) c.in_ok-turn.ensures.cut in
     omega (arith, wrote.1, many, filled, c.loop-column.invariant.within)
 
 pub loop-column-preserved : goal.loop-column-preserved
 loop-column-preserved g c =
-    let files = c.args.files.now in
-    let most = c.args.plan.now.max_rows in
+    let files = c.args.setting.now.files.now in
+    let most = c.args.setting.now.plan.now.max_rows in
     let taken = c.turn.new.self.round in
     let rs = records_of taken in
     let left = unread g.R.Read.remaining c.loop-column.column in
     let next = unread g.R.Read.remaining c.turn.new.self in
     let (rows, are, wrote) = c.in_ok-count.ensures.ok in
-    let all = rows_of_round c.new-pieces.result files most (c.loop-column.count + 1) c.args.plan.now.row_piece c.round.result taken
+    let all = rows_of_round c.new-pieces.result files most (c.loop-column.count + 1) c.args.setting.now.plan.now.row_piece c.round.result taken
     c.new-pieces.ensures.pieces c.round.ensures rows are in
     let known_files = all_known files c.len.ensures.sound c.files_answer_once.ensures in
     rw wrote.1 (record {
@@ -100,17 +100,17 @@ loop-column-preserved g c =
 
 pub returns-in_err-flush-clause-halt : goal.returns-in_err-flush-clause-halt
 returns-in_err-flush-clause-halt g c =
-    let files = c.args.files.now in
+    let files = c.args.setting.now.files.now in
     let q = err_from_is_err_and c.from_residual-in_err-flush.result c.from_residual-in_err-flush.ensures.1 in
     rw (q.1, q.2) (if_some (unread g.R.Read.remaining c.args.column) _ (λ text e.
-    ends_at_flush g.W.Write.contents files c.args.plan.now.max_rows (column_records text) (all_known files c.len.ensures.sound c.files_answer_once.ensures)
+    ends_at_flush g.W.Write.contents files c.args.setting.now.plan.now.max_rows (column_records text) (all_known files c.len.ensures.sound c.files_answer_once.ensures)
     (unread g.R.Read.remaining c.loop-column.column) c.loop-column.count (g.W.Write.contents c.args.writer.now.inner) c.loop-column.writer
     (c.loop-column.invariant.far text e) c.flush.new.writer c.in_err-flush.field-0.0 c.in_err-flush.ensures.err.0 c.in_err-flush.ensures.err.1))
 
 pub returns-clause-all : goal.returns-clause-all
 returns-clause-all g c =
-    let files = c.args.files.now in
-    let most = c.args.plan.now.max_rows in
+    let files = c.args.setting.now.files.now in
+    let most = c.args.setting.now.plan.now.max_rows in
     let held = g.W.Write.contents c.args.writer.now.inner in
     let now = g.W.Write.contents c.loop-column.writer.inner in
     let left = unread g.R.Read.remaining c.loop-column.column in

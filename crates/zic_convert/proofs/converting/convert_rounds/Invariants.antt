@@ -6,11 +6,11 @@ use Rattle.zic_convert.proofs.converting.convert_rounds.Given as goal
 
 abbrev pub invariant-loop-column : goal.invariant-loop-column
 invariant-loop-column g l = record {
-  within : l.count ≤ l.plan.max_rows;
+  within : l.count ≤ l.fn.setting.plan.now.max_rows;
   failures : l.writer.failures ≡ l.fn.writer.failures;
   far : (bytes : List ℕ) → unread g.R.Read.remaining l.fn.column ≡ Some bytes
-      → IsSoFar l.files l.plan.max_rows (column_records bytes) (unread g.R.Read.remaining l.column) l.count (g.W.Write.contents l.fn.writer.inner) (g.W.Write.contents l.writer.inner);
+      → IsSoFar l.fn.setting.files.now l.fn.setting.plan.now.max_rows (column_records bytes) (unread g.R.Read.remaining l.column) l.count (g.W.Write.contents l.fn.writer.inner) (g.W.Write.contents l.writer.inner);
 }
 
 abbrev pub decreases-loop-column : goal.decreases-loop-column
-decreases-loop-column g l = l.plan.max_rows + 1 - l.count
+decreases-loop-column g l = l.fn.setting.plan.now.max_rows + 1 - l.count
