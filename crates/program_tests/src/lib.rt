@@ -1,5 +1,6 @@
-//! Tests of what the program is built on: the files of sources, columns converted with them, and
-//! the commands. They are a separate crate, because a crate with tests is proved twice.
+//! Tests of what the program is built on: pieces, counted readers and writers, columns and rows;
+//! the files of sources, columns converted with them, and the commands. They are a separate crate,
+//! because a crate with tests is proved twice.
 #![tactic(auto)]
 
 #[cfg(test)]
@@ -9,4 +10,12 @@ mod command_line;
 #[cfg(test)]
 mod commands;
 #[cfg(test)]
+mod counted;
+#[cfg(test)]
 mod files;
+#[cfg(test)]
+mod pieces;
+#[cfg(test)]
+mod rows;
+#[cfg(test)]
+mod splits;

@@ -1,5 +1,5 @@
 //! What all crates share: places of lines, faults of sources and zones, short texts, the bytes of
-//! abbreviations, digits, states, and limits. The tests stand here, in the module `tests`.
+//! abbreviations, digits, states, and limits. The tests stand in `zone_tests`.
 #![tactic(auto)]
 
 mod byte;
@@ -17,6 +17,3 @@ pub use limit::{FARTHEST_FILE_OFFSET, LONGEST_ABBREVIATION, LONGEST_FILE, SHORTE
 pub use place::Place;
 pub use short_text::ShortText;
 pub use state::State;
-
-#[cfg(test)]
-mod tests;

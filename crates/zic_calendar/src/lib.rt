@@ -1,5 +1,5 @@
 //! The proleptic Gregorian calendar: day numbers, weekdays, the day forms of time zone rules, and
-//! civil time. Nothing here takes memory or fails. The tests stand here, in the module `tests`.
+//! civil time. Nothing here takes memory or fails. The tests stand in `zone_tests`.
 #![tactic(auto)]
 
 mod civil_time;
@@ -12,6 +12,3 @@ pub use civil_time::Civil;
 pub use clock::{SECONDS_OF_DAY, civil};
 pub use day_form::{On, day_of, weekday};
 pub use month::{days_in_month, is_leap_year};
-
-#[cfg(test)]
-mod tests;

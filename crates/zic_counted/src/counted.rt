@@ -138,6 +138,3 @@ impl<T: Write> Write for Counted<T> {
         result
     }
 }
-
-#[cfg(test)]
-mod tests;

@@ -1,5 +1,5 @@
 //! A reader or writer that counts its failures, and writes through it. The tests stand in
-//! `src/counted/tests.rt`.
+//! `program_tests`.
 #![tactic(auto)]
 
 mod counted;

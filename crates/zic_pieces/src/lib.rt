@@ -1,5 +1,5 @@
 //! Pieces of work for several threads: numbers that threads claim by atomic steps, without a lock.
-//! The tests stand in `src/tests.rt`.
+//! The tests stand in `program_tests`.
 #![tactic(auto)]
 
 mod claim;
@@ -13,8 +13,6 @@ mod pass;
 mod rule;
 mod run;
 mod task;
-#[cfg(test)]
-mod tests;
 mod work;
 
 pub use claim::{Claim, Settled, Split};

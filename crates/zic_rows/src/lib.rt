@@ -1,5 +1,5 @@
 //! One row of a converted column: the instant that a field names, and the text of the row. The
-//! tests stand here.
+//! tests stand in `program_tests`.
 #![tactic(auto)]
 
 mod date;
@@ -12,6 +12,3 @@ mod state_text;
 pub use instant::{is_plain, parse_instant};
 pub use limit::{FARTHEST_OFFSET, FIRST_INSTANT, LAST_INSTANT, MAX_DIGITS};
 pub use row::{RowWriter, push_row};
-
-#[cfg(test)]
-mod tests;

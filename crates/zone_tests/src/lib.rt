@@ -1,8 +1,12 @@
-//! Tests of sources and zones: words, lines and texts; POSIX TZ strings, occurrences, states,
-//! periods, timelines, footers, tables, files and images. They are a separate crate, because a
-//! crate with tests is proved twice.
+//! Tests of sources and zones: what all crates share, the calendar, words, lines and texts; POSIX
+//! TZ strings, occurrences, states, periods, timelines, footers, tables, files and images. They are
+//! a separate crate, because a crate with tests is proved twice.
 #![tactic(auto)]
 
+#[cfg(test)]
+mod base;
+#[cfg(test)]
+mod calendar;
 #[cfg(test)]
 mod files;
 #[cfg(test)]

@@ -1,9 +1,9 @@
 //! Instants and rows of worked examples.
 
-use super::*;
 use std::process::Abort;
 use std::test::Fail;
 use zic_base::{LONGEST_ABBREVIATION, State};
+use zic_rows::*;
 
 static INSTANTS: [(&str, Option<i64>); 14] = [
     ("0", Some(0)),

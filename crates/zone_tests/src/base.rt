@@ -1,8 +1,8 @@
 //! Kinds, places, texts and digits.
 
-use super::*;
 use std::alloc::Global;
 use std::test::Fail;
+use zic_base::*;
 
 #[test]
 fn numbers_of_kinds(rt: HostRuntime) {

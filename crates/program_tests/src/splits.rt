@@ -1,13 +1,12 @@
-//! Records against the kit's CSV reader, and cuts.
+//! Records against the kit's CSV reader, and the pieces of columns.
 
-use crate::first::split_records;
-use crate::mark::without_mark;
-use crate::quote::first_quote;
-use crate::{Record, Split};
+mod rounds;
+
 use csv::{ByteRecord, ReaderBuilder};
 use std::alloc::Global;
 use std::process::Abort;
 use std::test::Fail;
+use zic_columns::{Record, Split};
 
 /// The bytes with a meaning in a column, and one without.
 const BYTES: [u8; 5] = [b'a', b',', b'\n', b'\r', b'"'];
@@ -54,14 +53,12 @@ fn count_same(rt: &impl Abort, alloc: Global, bytes: &[u8]) -> Result<u32, Fail>
     Ok(records)
 }
 
-/// Returns the number of records of bytes within a column.
-fn count_records(alloc: Global, bytes: &[u8]) -> Result<usize, Fail> {
-    let split = Split::new(alloc, bytes)?;
-    let mut count = 0usize;
-    for _ in split.records() {
-        count = count.wrapping_add(1);
-    }
-    Ok(count)
+/// Asserts that a column in pieces of `size` records has as many records as a CSV reader reads.
+fn same_in_pieces(rt: &impl Abort, alloc: Global, bytes: &[u8], size: usize) -> Result<(), Fail> {
+    let all = count_same(rt, alloc, bytes)?;
+    let count = rounds::count_in_pieces(alloc, bytes, size)?;
+    assert_eq!(rt; count, Some(all as usize), "{bytes:?} in pieces of {size}");
+    Ok(())
 }
 
 #[test]
@@ -69,12 +66,7 @@ fn records_are_those_of_a_csv_reader(rt: HostRuntime) -> Result<(), Fail> {
     for (len, count) in [(0, 1), (1, 5), (2, 25), (3, 125), (4, 625)] {
         for number in 0..count {
             let text = text(rt.alloc(), number, len)?;
-            let all = count_same(&rt, rt.alloc(), &text)?;
-            let (first, rest) = split_records(&text, 1);
-            let before = count_records(rt.alloc(), first)?;
-            let after = count_records(rt.alloc(), rest)?;
-            assert_eq!(rt; before, (all as usize).min(1), "{text:?}");
-            assert_eq!(rt; before.wrapping_add(after), all as usize, "{text:?}");
+            same_in_pieces(&rt, rt.alloc(), &text, 1)?;
         }
     }
     Ok(())
@@ -101,13 +93,8 @@ fn long_columns_are_cut(rt: HostRuntime) -> Result<(), Fail> {
             let line = number.wrapping_mul(5).wrapping_add(number / 8) % kinds.max(1);
             text.extend_from_slice(LINES[line % 9])?;
         }
-        let all = count_same(&rt, rt.alloc(), &text)? as usize;
-        for count in 0..70usize {
-            let (first, rest) = split_records(&text, count);
-            let before = count_records(rt.alloc(), first)?;
-            let after = count_records(rt.alloc(), rest)?;
-            assert_eq!(rt; before, all.min(count), "of {kinds} kinds");
-            assert_eq!(rt; before.wrapping_add(after), all, "of {kinds} kinds");
+        for size in 1..70usize {
+            same_in_pieces(&rt, rt.alloc(), &text, size)?;
         }
     }
     Ok(())
@@ -162,19 +149,4 @@ fn a_mark_within_a_column_is_kept(rt: HostRuntime) -> Result<(), Fail> {
         _ => assert!(rt; false, "no pair"),
     }
     Ok(())
-}
-
-#[test]
-fn marks_and_quotes(rt: HostRuntime) {
-    let rows: [(&[u8], &[u8], Option<usize>); 5] = [
-        (b"", b"", None),
-        (b"\xEF\xBB", b"\xEF\xBB", None),
-        (b"\xEF\xBB\xBF", b"", None),
-        (b"\xEF\xBB\xBFa,\"0\"\n", b"a,\"0\"\n", Some(5)),
-        (b"a\xEF\xBB\xBF", b"a\xEF\xBB\xBF", None),
-    ];
-    for (bytes, rest, quote) in rows {
-        assert_eq!(rt; without_mark(bytes), rest, "{bytes:?}");
-        assert_eq!(rt; first_quote(bytes), quote, "{bytes:?}");
-    }
 }

@@ -3,11 +3,10 @@
 ghost use Rattle.std.specs.Prelude.{◌≡◌, ◌≤◌, IfOk};
 ghost use Rattle.zic_counted.specs.Counts.{HasFailedSince};
 
-use super::Counted;
-use crate::output::{WriteFailed, flush, write_all};
 use std::io::{self, ErrorKind, Read, Write};
 use std::process::Abort;
 use std::test::Fail;
+use zic_counted::{Counted, WriteFailed, flush, write_all};
 
 /// What a call is answered.
 #[derive(Clone, Copy, Debug, PartialEq, Eq)]

@@ -4,7 +4,6 @@ ghost use Rattle.std.specs.Prelude.{◌≡◌, ◌<◌, ◌≤◌, IfOk};
 ghost use Rattle.zic_pieces.specs.Core.{first as first_pass};
 ghost use Rattle.zic_pieces.specs.Passes.{IsOf};
 
-use crate::{Claim, Claims, Gate, Open, Pass, PieceStop, Settled, Split, Task, TaskStop, run_task};
 use std::alloc::{AllocError, Global};
 use std::process::Abort;
 use std::sync::Wait;
@@ -12,6 +11,9 @@ use std::sync::atomic::{AtomicU64, Ordering};
 use std::test::Fail;
 use std::thread;
 use std::thread::Threads;
+use zic_pieces::{
+    Claim, Claims, Gate, Open, Pass, PieceStop, Settled, Split, Task, TaskStop, run_task,
+};
 
 /// Returns claims on this number of pieces. Tries twice, since one growth may be refused in a test.
 fn new_claims(alloc: Global, pieces: u64) -> Result<(Claims, Pass), AllocError>

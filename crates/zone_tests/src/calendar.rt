@@ -1,4 +1,4 @@
-use crate::{Civil, On, civil, day_of, days_in_month, is_leap_year, weekday};
+use zic_calendar::{Civil, On, civil, day_of, days_in_month, is_leap_year, weekday};
 
 // Year, month, day, day number and weekday, as Python's `datetime.date` gives them.
 const DATES: [(i64, u8, u8, i64, u8); 27] = [

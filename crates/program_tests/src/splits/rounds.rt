@@ -1,9 +1,9 @@
 //! Rounds of columns that come in reads of each length, and readers that fail.
 
-use crate::*;
 use std::alloc::Global;
 use std::io::{self, ErrorKind, Read};
 use std::test::Fail;
+use zic_columns::{Column, Record};
 
 /// The greatest numbers of bytes that a read gives.
 const STEPS: [usize; 6] = [1, 2, 3, 5, 8, 1000];
@@ -73,13 +73,22 @@ fn shown<R: Read + Drop>(
     alloc: Global,
     reader: R,
     most: u64,
+    plan: (usize, usize),
+) -> Result<Option<(Vec<u8>, u32)>, Fail> {
+    match Column::new(alloc, reader, most) {
+        Ok(column) => rest_of(alloc, column, plan),
+        Err(_) => Ok(None),
+    }
+}
+
+/// As [`shown`], of what no round had.
+fn rest_of<R: Read + Drop>(
+    alloc: Global,
+    mut column: Column<R>,
     (wanted, size): (usize, usize),
 ) -> Result<Option<(Vec<u8>, u32)>, Fail> {
     let mut text = Vec::new(alloc);
     let mut rounds = 0u32;
-    let Ok(mut column) = Column::new(alloc, reader, most) else {
-        return Ok(None);
-    };
     let size = size.max(1);
     for _ in 0..1_000_000 {
         match column.turn(alloc, wanted, size) {
@@ -106,6 +115,24 @@ fn shown<R: Read + Drop>(
         }
     }
     Ok(None)
+}
+
+/// Returns the number of records of a column that is cut into pieces of `size` records, or `None`
+/// where a piece has more.
+pub(super) fn count_in_pieces(
+    alloc: Global,
+    bytes: &[u8],
+    size: usize,
+) -> Result<Option<usize>, Fail> {
+    let device = Device {
+        rest: bytes,
+        step: 100_000,
+        fails: None,
+    };
+    let Some((text, _)) = shown(alloc, device, 1_000_000, (1000, size))? else {
+        return Ok(None);
+    };
+    Ok(Some(text.iter().filter(|byte| **byte == b'|').count()))
 }
 
 #[test]
@@ -139,6 +166,33 @@ fn records_come_in_rounds(rt: HostRuntime) -> Result<(), Fail> {
                 let (text, _) = shown(rt.alloc(), device, 100, (1000, size))?.ok_or("unread")?;
                 assert_eq!(rt; text.as_slice(), want, "of {column:?} in reads of {step}");
             }
+        }
+    }
+    Ok(())
+}
+
+#[test]
+fn the_first_record_is_passed_over(rt: HostRuntime) -> Result<(), Fail> {
+    let rows: [(&[u8], &[u8]); 6] = [
+        (b"", b""),
+        (b"\n", b""),
+        (b"zone,instant", b""),
+        (b"\xEF\xBB\xBF\n\"a\nb\",c,d\r\n\na,0\nb,1", b"a=0|b=1|"),
+        (b"a,0\n\"b\",1\n", b"b=1|"),
+        (b"a,\"0\nb,1\n", b""),
+    ];
+    for (bytes, want) in rows {
+        for step in STEPS {
+            let device = Device {
+                rest: bytes,
+                step,
+                fails: None,
+            };
+            let mut column = Column::new(rt.alloc(), device, 100).ok().ok_or("unread")?;
+            let passed = column.pass_record(rt.alloc(), 1000).is_ok();
+            assert!(rt; passed, "of {bytes:?} in reads of {step}");
+            let (text, _) = rest_of(rt.alloc(), column, (1000, 2))?.ok_or("unread")?;
+            assert_eq!(rt; text.as_slice(), want, "of {bytes:?} in reads of {step}");
         }
     }
     Ok(())
