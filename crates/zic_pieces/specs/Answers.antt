@@ -1,4 +1,4 @@
--- What the calls of claims answer.
+-- The answers of the calls of claims.
 use Rattle.std.specs.Prelude.{◌≡◌, ℕ, ◌<◌, ◌≤◌, ◌⊎◌, true, false}
 use Rattle.zic_pieces.specs.declared.event.Known.{Known}
 use Rattle.zic_pieces.specs.declared.claim.Claim.{Claim}

@@ -32,7 +32,7 @@ module _ {X F : Type 0} where
   HasWorked outcome w =
       IsWork outcome w.pass.known.pieces w.pass.known.events w.values.items w.halt
 
-  -- the worker ended, did its work, and its pass stands for so many
+  -- the worker ended, did its work, and its pass stands for this number
   abbrev pub DidWork : (ℕ → Result X F → Type 0) → Shared → ℕ → Worked X F → Type 0
   DidWork outcome claims parts w =
       HasEnded claims w × (w.pass.known.parts ≡ parts) × HasWorked outcome w

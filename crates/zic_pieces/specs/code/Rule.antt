@@ -3,8 +3,10 @@ use Rattle.std.specs.Prelude.{◌≡◌, ℕ, ◌+◌, ◌≤◌, Bool, true, []
 use Rattle.atomic_table.specs.Table.{State, Me, Step}
 use Rattle.zic_pieces.specs.declared.event.Known.{Known}
 use Rattle.zic_pieces.specs.Events.{past}
-use Rattle.zic_pieces.specs.Given.{given, is_whole}
-use Rattle.zic_pieces.specs.Core.{drew, reported, glanced, IsCore}
+use Rattle.zic_pieces.specs.Given.{given}
+use Rattle.zic_pieces.specs.code.Whole.{is_whole}
+use Rattle.zic_pieces.specs.Core.{drew, reported, glanced}
+use Rattle.zic_pieces.specs.code.Core.{IsCore}
 use Rattle.zic_pieces.specs.Passes.{IsSound}
 
 -- the table shows a state of the core: its words are NEXT and FAULT, and the views of its seats
