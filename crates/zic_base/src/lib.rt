@@ -1,4 +1,4 @@
-//! What all crates share: places of lines, faults of sources and zones, short texts, the bytes of
+//! Types and texts that all crates share: places of lines, faults of sources and zones, short texts, the bytes of
 //! abbreviations, digits, states, and limits. The tests stand here, in the module `tests`.
 #![tactic(auto)]
 
