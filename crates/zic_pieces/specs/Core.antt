@@ -67,6 +67,6 @@ both v w = record {
   events = v.events ++ w.events;
 }
 
--- what is left of a pass that is now part of another
+-- the rest of a pass that is now part of another
 abbrev pub spent : Known
 spent = record { pieces = 0; parts = 0; seen = 0; ended = false; events = [] }

@@ -10,7 +10,7 @@ use Rattle.zic_pieces.specs.code.Work.{IsWork}
 abbrev pub Each : {A : Type 0} → (A → Type 0) → List A → Type 0
 Each {A} P xs = (k : ℕ) (x : A) → get_elem? xs k ≡ some x → P x
 
--- what the passes stand for, added up
+-- the parts that the passes stand for, added up
 abbrev pub parts_of : List Held → ℕ
 parts_of [] = 0
 parts_of (p ∷ ps) = p.known.parts + parts_of ps

@@ -34,7 +34,7 @@ Looked st m least m' =
 abbrev pub Learned : Step (Unit {0}) → Sat → ℕ → Sat → Type 0
 Learned st m found m' = (m' ≡ m) × IsSound m.0
 
--- what a pass keeps between calls: no slots, its room, whether it has ended, and how many numbers
+-- a pass is so between calls: no slots, its room, whether it has ended, and how many numbers
 -- were given; each draw of a piece has its glance
 abbrev pub IsKept : Sat → ℕ → Bool → ℕ → Type 0
 IsKept m room ended count =
