@@ -4,7 +4,8 @@
 //! mark at its start: fields end at commas, records at a carriage return, a line feed or both, and
 //! a line without a byte makes no record. Between double quotes, commas and line ends are text. A
 //! column can be cut wherever a CSV reader stands before a record. The functions of `laws` do
-//! nothing: their contracts state what holds of records.
+//! nothing: their contracts state what holds of records. The tests stand here, in the modules
+//! `tests` and `round_tests`.
 #![tactic(auto)]
 
 mod blocks;
@@ -27,7 +28,7 @@ mod splits;
 
 pub use columns::{Column, Unread};
 pub use entry::Record;
-pub use pieces::MAX_PIECES;
+pub use pieces::MAX_ROUND_PIECES;
 pub use rounds::Round;
 pub use splits::{Records, Split};
 
