@@ -1,5 +1,6 @@
-//! Types and texts that all crates share: places of lines, faults of sources and zones, short texts, the bytes of
-//! abbreviations, digits, states, and limits. The tests stand here, in the module `tests`.
+//! Types and texts that all crates share: places of lines, faults of sources and zones, short
+//! texts, the bytes of abbreviations, digits, states, and limits. The tests stand here, in the
+//! module `tests`.
 #![tactic(auto)]
 
 mod byte;

@@ -13,8 +13,8 @@ pub record Change : Type 0 where
   pub answer : Option Shown
   pub local : Civil
 
--- The state that is shown for an answer. Local time that a file leaves open is shown as the placeholder
--- `-00` at UT: zdump(8), RFC 9636, 3.2.
+-- The state that is shown for an answer. Local time that a file leaves open is shown as the
+-- placeholder `-00` at UT: zdump(8), RFC 9636, 3.2.
 abbrev pub told : Option Shown → Shown
 told (Some state) = state
 told None = record { offset = pos 0; daylight = false; name = codes "-00" }

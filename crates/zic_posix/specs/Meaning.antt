@@ -1,5 +1,5 @@
--- The state that a POSIX TZ string means at every instant: POSIX.1, "Environment Variables", TZ; RFC 9636, 3.3.1. Each whole year, also before
--- 1970, has one start and one end. Own choices: an edge counts wherever it falls, also in another year than its own; where a start and
+-- The state that a POSIX TZ string means at every instant: POSIX.1, "Environment Variables", TZ; RFC 9636, 3.3.1. Each whole year,
+-- also before 1970, has one start and one end. Own choices: an edge counts wherever it falls, also in another year than its own; where a start and
 -- an end fall on one instant the start wins, so that `EST5EDT,0/0,J365/25` is daylight saving time for ever, as RFC 9636, 3.3.1, has it;
 -- and day 365 of a common year, counted from 0, is 1 January of the next.
 use Rattle.std.specs.Prelude.{◌≡◌, ℕ, ◌+◌, ◌-◌, nat_le, ◌==◌, if◌then◌else◌, ℤ, pos, ◌+ℤ◌, ◌-ℤ◌, ◌*ℤ◌, ◌<ℤ◌, ◌≤ℤ◌, true, false, ◌⊎◌, Option, Some, None, IsSomeAnd}

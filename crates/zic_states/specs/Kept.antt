@@ -1,5 +1,5 @@
--- The saving, flag and letter that the RULES of a line keep: zic(8), FILES. That nothing is saved before the first occurrence, whatever the first rule of
--- standard time saves, is an own choice.
+-- The saving, flag and letter that the RULES of a line keep: zic(8), FILES. Own choice: nothing is saved before the first occurrence,
+-- even if the first rule of standard time has a saving.
 use Rattle.std.specs.Prelude.{◌≡◌, ℤ, pos, ◌≤ℤ◌, Bool, false, List, ℕ, Option, Some, None, IfSome, ◌⊎◌}
 use Rattle.zic_lines.specs.declared.rule.Rule.{Rule}
 use Rattle.zic_lines.specs.declared.rules.Rules.{Rules}
