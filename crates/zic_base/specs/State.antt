@@ -1,4 +1,4 @@
--- What a zone shows at an instant.
+-- The state that a zone shows at an instant.
 use Rattle.std.specs.Prelude.{ℕ, ℤ, Bool, List}
 use Rattle.zic_base.specs.declared.state.State.{State}
 

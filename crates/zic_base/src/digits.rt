@@ -24,8 +24,8 @@ pub fn clock_text(seconds: u32) -> [u8; 8]
     [h, hh, b':', m, mm, b':', s, ss]
 }
 
-/// Returns a UT offset in seconds, positive east, as sign, hours, minutes and seconds: `-05:00:00`. It is less than
-/// 100 hours either way.
+/// Returns a UT offset in seconds, positive east, as sign, hours, minutes and seconds: `-05:00:00`.
+/// It is less than 100 hours either way.
 pub fn offset_text(offset: i32) -> [u8; 9]
     requires { unsigned_abs offset < 100 * 3600 }
     ensures { result ≡ offset_text offset }

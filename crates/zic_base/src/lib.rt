@@ -1,5 +1,5 @@
-//! What all crates share: places of lines, faults of sources and zones, short texts, the bytes of
-//! abbreviations, digits, states, and limits. The tests stand in `zone_tests`.
+//! Types and texts that all crates share: places of lines, faults of sources and zones, short
+//! texts, the bytes of abbreviations, digits, states, and limits. The tests stand in `zone_tests`.
 #![tactic(auto)]
 
 mod byte;

@@ -18,7 +18,7 @@ use Rattle.zic_source.proofs.reading.Once.{read_once}
 use Rattle.zic_source.proofs.sound.Sources.{source_is_sound}
 use Rattle.zic_states.proofs.Lines.{orderly}
 use Rattle.zic_rules.specs.Period.{zone_of}
-use Rattle.zic_rules.specs.Timeline.{IsWhole}
+use Rattle.zic_rules.specs.Timeline.{IsWholeZone}
 use Rattle.zic_files.specs.File.{FileImage, File}
 use Rattle.zic_table.specs.Image.{IsImageOf}
 use Rattle.zic_table.proofs.OneFault.{has_end}
@@ -30,7 +30,7 @@ use Rattle.zic_base.proofs.OrderedLists.{same_lists, one_zip, zipped, one_rising
 use Rattle.zic_bulk.proofs.NamesOf.{one_zone}
 
 module _ (source : SourceLines) (sound : IsSoundSource source) where
-  pub is_whole : (n : ℕ) (image : FileImage) → n < length source.zones → IsImageOf (zone_of source n) image → IsWhole (zone_of source n)
+  pub is_whole : (n : ℕ) (image : FileImage) → n < length source.zones → IsImageOf (zone_of source n) image → IsWholeZone (zone_of source n)
   is_whole n image is_zone is = record {
     source = sound;
     is_zone = is_zone;

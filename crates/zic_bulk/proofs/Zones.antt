@@ -12,7 +12,7 @@ use Rattle.zic_states.specs.Fault.{HasOffsetOutOfRange}
 use Rattle.zic_rules.specs.Period.{zone_of}
 use Rattle.zic_files.specs.File.{FileImage, no_image}
 use Rattle.zic_table.specs.Image.{IsImageOf, IsFaultOfZone}
-use Rattle.zic_bulk.specs.Files.{IsReadImage, AreImagesOf, MayRunOutOfMemory}
+use Rattle.zic_bulk.specs.Files.{IsReadImage, AreImagesOf, CompileNeedsMemory}
 use Rattle.zic_bulk.specs.code.Zones.{AreImagesWithin, HaveImagesWithin, IsFaultWithin, MayWantWithin}
 
 -- a member of two lists, one after the other, is one of the first or one of the second
@@ -93,7 +93,7 @@ all_images source end images is_end are = record {
 }
 
 -- Where some zone is there and each has an image, memory may be wanting at the first.
-pub memory_after : (source : SourceLines) (images : List FileImage) → AreImagesOf source images → 0 < length source.zones → MayRunOutOfMemory source
+pub memory_after : (source : SourceLines) (images : List FileImage) → AreImagesOf source images → 0 < length source.zones → CompileNeedsMemory source
 memory_after source images are lt =
     let image = are.each 0 (get_or images 0 no_image) (slice_get-get_or images 0 no_image (omega (arith, are.count, lt))) in
     record { number = 0; is_zone = lt; in_range = in_range source 0 (get_or images 0 no_image) image; before = λ m below. absurd (omega (arith, below)) }

@@ -1,4 +1,4 @@
--- What building from texts comes to: their files, or the first fault. Nothing here speaks of
+-- The outcome of building from texts: their files, or the first fault. Nothing here speaks of
 -- workers or of pieces.
 use Rattle.std.specs.Prelude.{ℕ, List, ◌⊎◌}
 use Rattle.zic_base.specs.declared.fault.Fault.{Fault}

@@ -75,7 +75,7 @@ pub record IsFaultOfFiles (source : SourceLines) (fault : Fault) : Type 0 where
 
 -- Where memory may run out: at a zone with each offset in its range, before which each zone has an
 -- image. The further faults of a zone are found by what takes memory.
-pub record MayRunOutOfMemory (source : SourceLines) : Type 0 where
+pub record CompileNeedsMemory (source : SourceLines) : Type 0 where
   pub number : ℕ
   pub is_zone : number < length source.zones
   pub in_range : HasOffsetOutOfRange (zone_of source number) → ⊥

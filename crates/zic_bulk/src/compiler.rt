@@ -3,7 +3,7 @@
 ghost use Rattle.std.specs.Prelude.{◌<◌, length, IfOk, IfErr};
 ghost use Rattle.zic_base.specs.Fault.{fault_of};
 ghost use Rattle.zic_base.specs.Memory.{IfRefusal, OnOutOfMemory};
-ghost use Rattle.zic_bulk.specs.Files.{AreImagesOf, AreFilesOf, IsFaultOfFiles, MayRunOutOfMemory};
+ghost use Rattle.zic_bulk.specs.Files.{AreImagesOf, AreFilesOf, IsFaultOfFiles, CompileNeedsMemory};
 
 use crate::entry::entries_of;
 use crate::images::images_of;
@@ -22,7 +22,7 @@ use zic_source::{Source, Stop};
 pub fn compile(alloc: Global, source: &Source) -> Result<Files, Stop>
     ensures ok { IfOk result (AreFilesOf source.now) }
     ensures err { IfRefusal fault_of result (IsFaultOfFiles source.now) }
-    ensures memory { OnOutOfMemory fault_of result (MayRunOutOfMemory source.now) }
+    ensures memory { OnOutOfMemory fault_of result (CompileNeedsMemory source.now) }
 {
     let images = images_of(alloc, source, 0, source.zones())?;
     let files = files_of(alloc, source, images)?;

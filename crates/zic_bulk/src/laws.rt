@@ -2,23 +2,23 @@
 
 ghost use Rattle.zic_bulk.specs.Laws.{FilesAreSound, TextsHaveOneListOfFiles, NoFilesHaveAFault, TextsHaveOneFault};
 
-/// The files of a sound source are sound: their names differ, and each tells local time at every
-/// instant, within the limits.
+/// States that the files of a sound source are sound: their names differ, and each tells local time
+/// at every instant, within the limits.
 pub fn files_are_sound()
     ensures { FilesAreSound }
 {}
 
-/// Texts have at most one list of files.
+/// States that texts have at most one list of files.
 pub fn texts_have_one_list_of_files()
     ensures { TextsHaveOneListOfFiles }
 {}
 
-/// No texts have both files and a fault.
+/// States that no texts have both files and a fault.
 pub fn no_files_have_a_fault()
     ensures { NoFilesHaveAFault }
 {}
 
-/// Texts have at most one fault.
+/// States that texts have at most one fault.
 pub fn texts_have_one_fault()
     ensures { TextsHaveOneFault }
 {}

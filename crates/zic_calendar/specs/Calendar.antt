@@ -39,7 +39,7 @@ unfoldable pub days_of_months : ℤ → ℕ → ℕ
 days_of_months y zero = 0
 days_of_months y (suc n) = days_of_months y n + days_in_month y (suc n)
 
--- the days from 1 January 1970 to 1 January so many years later, or earlier and then below 0 (sum)
+-- the days from 1 January 1970 to 1 January this number of years later, or earlier and then below 0 (sum)
 unfoldable pub days_from_1970 : ℤ → ℤ
 days_from_1970 (pos n) = pos (days_of_years (pos 1970) n)
 days_from_1970 (negsuc n) = neg_ℤ (pos (days_of_years (pos 1970 +ℤ negsuc n) (suc n)))

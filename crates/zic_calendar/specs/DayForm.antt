@@ -58,6 +58,6 @@ week_start week = 7 * week - 6
 abbrev pub days_into_week : ℤ → ℤ
 days_into_week q = q -ℤ pos (week_start (week_of q))
 
--- the weekday so many days before (calendar)
+-- the weekday this number of days before (calendar)
 abbrev pub weekday_before : ℕ → ℤ → ℕ
 weekday_before w days = unsigned_abs (int_rem_euclid (pos w -ℤ days) (pos 7))

@@ -14,7 +14,7 @@ use jiff_core::civil::Date;
 /// (zic(8), ON).
 #[derive(Clone, Copy, Debug, PartialEq, Eq)]
 pub enum On {
-    /// That day of the month.
+    /// The day of this number in the month.
     Day(u8),
     /// The last such weekday of the month.
     Last(u8),

@@ -15,7 +15,7 @@ use Rattle.zic_columns.specs.code.Line.{IsFirstRecord}
 use Rattle.std.specs.Prelude.{MatchOption, is_some}
 use Rattle.zic_columns.proofs.Ranges.{within_front}
 use Rattle.zic_columns.specs.declared.pieces.Cut.{Cut}
-use Rattle.zic_columns.specs.declared.pieces.TheConstants.{MAX_PIECES}
+use Rattle.zic_columns.specs.declared.pieces.TheConstants.{MAX_ROUND_PIECES}
 use Rattle.zic_columns.proofs.SomeRecords.{column_records-nil, joined, whole_both, whole_none}
 use Rattle.zic_columns.specs.declared.pieces.PieceRange.{PieceRange}
 
@@ -134,7 +134,7 @@ cut_more bytes size ranges rest first after some to has cut =
 
 -- all pieces are cut that there may be
 pub cut_done : (bytes : List ℕ) (size : ℕ) (cut : Cut) (rest : List ℕ) → IsCutTo bytes size cut.ranges.items rest
-    → cut.len ≡ length bytes - length rest → length cut.ranges.items ≡ MAX_PIECES
+    → cut.len ≡ length bytes - length rest → length cut.ranges.items ≡ MAX_ROUND_PIECES
     → IsCut bytes size cut
 cut_done bytes size cut rest to len many =
     let same : to.at ≡ cut.len = to.is ∙ sym len in
@@ -151,7 +151,7 @@ cut_done bytes size cut rest to len many =
 
 -- no record is left
 pub cut_to_end : (bytes : List ℕ) (size : ℕ) (cut : Cut) (rest : List ℕ) → IsCutTo bytes size cut.ranges.items rest
-    → cut.len ≡ length bytes → length cut.ranges.items ≤ MAX_PIECES → column_records rest ≡ []
+    → cut.len ≡ length bytes → length cut.ranges.items ≤ MAX_ROUND_PIECES → column_records rest ≡ []
     → IsCut bytes size cut
 cut_to_end bytes size cut rest to len few left =
     let all : take cut.len bytes ≡ bytes = take_all cut.len bytes (omega (arith, len)) in

@@ -1,4 +1,4 @@
--- Definitions for the code and its proofs. No contract of a public function cites them.
+-- Definitions for the code of this crate and for proofs. No contract of an exported function cites them.
 pub mod Machine
 pub mod Line
 pub mod Bounded

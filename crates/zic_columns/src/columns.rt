@@ -4,7 +4,7 @@ ghost use Rattle.std.specs.Prelude.{◌≡◌, ◌↔◌, ◌+◌, ◌<◌, ◌�
 ghost use Rattle.std.specs.Io.KnownBytes.{IsAtEnd, Keeps};
 ghost use Rattle.csv.specs.Reading.{strip_bom};
 ghost use Rattle.zic_columns.specs.Round.{ArePiecesOf, HasNoRecord, PassesRecord, TakesRound, unread};
-ghost use Rattle.zic_columns.specs.declared.pieces.TheConstants.{MAX_PIECES};
+ghost use Rattle.zic_columns.specs.declared.pieces.TheConstants.{MAX_ROUND_PIECES};
 ghost use Rattle.zic_columns.specs.code.Range.{AreWithin, pieces_at};
 ghost use Rattle.zic_columns.specs.code.Hand.{CanBeCut, Takes, to_come};
 
@@ -74,7 +74,8 @@ impl<R: Read> Model for Column<R> {
       reader = column.reader.inner;
     } };
 
-    ghost invariant = { λ column. AreWithin column.ranges.items (length (taken_bytes column.window))
+    ghost invariant = { λ column.
+        AreWithin column.ranges.items (length (taken_bytes column.window))
         × IsScanned (held_bytes column.window) column.scan };
 }
 
@@ -123,7 +124,7 @@ impl<R: Read> Column<R> {
         ensures some { IfOk result (λ some. IsTrue some ↔ (0 < length self.new.round)) }
         ensures end { IfOk result
             (λ some. some ≡ false → HasNoRecord (unread R.remaining self.new)) }
-        ensures few { IfOk result (λ _. length self.new.round ≤ MAX_PIECES) }
+        ensures few { IfOk result (λ _. length self.new.round ≤ MAX_ROUND_PIECES) }
         ensures cut { IfOk result (λ _. ArePiecesOf size self.new.round) }
     {
         let count = self.gather(alloc, wanted)?;

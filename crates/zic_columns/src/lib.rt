@@ -27,6 +27,6 @@ mod splits;
 
 pub use columns::{Column, Unread};
 pub use entry::Record;
-pub use pieces::MAX_PIECES;
+pub use pieces::MAX_ROUND_PIECES;
 pub use rounds::Round;
 pub use splits::{Records, Split};

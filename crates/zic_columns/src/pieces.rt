@@ -7,7 +7,7 @@ use crate::first::{first_record, split_records};
 use std::alloc::{AllocError, Global};
 
 /// The greatest number of pieces in a round.
-pub const MAX_PIECES: usize = 4_294_967_296;
+pub const MAX_ROUND_PIECES: usize = 4_294_967_296;
 
 /// The place of a piece: from its start up to its end.
 #[derive(Clone, Copy, Drop)]
@@ -24,14 +24,14 @@ pub(crate) struct Cut {
 }
 
 /// Cuts bytes into pieces of `size` records each, the last of which may have fewer. The bytes
-/// after the last piece make no record, unless there are more than `MAX_PIECES` pieces.
+/// after the last piece make no record, unless there are more than `MAX_ROUND_PIECES` pieces.
 pub(crate) fn cut_pieces(alloc: Global, bytes: &[u8], size: usize) -> Result<Cut, AllocError>
     requires { 0 < size }
     ensures { IfOk result (IsCut bytes.now size) }
 {
     let mut ranges = Vec::new(alloc);
     let mut rest = bytes;
-    for _ in 0..MAX_PIECES {
+    for _ in 0..MAX_ROUND_PIECES {
         if first_record(rest).is_none() {
             let len = bytes.len();
             return Ok(Cut { ranges, len });

@@ -1,4 +1,4 @@
-//! What the words of the command line ask for. The tests stand in `program_tests`.
+//! The calls that the words of the command line ask for. The tests stand in `program_tests`.
 #![tactic(auto)]
 
 mod command_line;

@@ -1,4 +1,4 @@
--- What `convert` writes, and why it gives up.
+-- The output of `convert`, and why it gives up.
 use Rattle.std.specs.Prelude.{◌≡◌, ◌⊎◌, ℕ, codes, List, [], ◌∷◌, ◌++◌, length, Option, IfSome}
 use Rattle.std.specs.Io.{StartsWith}
 use Rattle.std.specs.Io.KnownBytes.{Appends}
@@ -36,7 +36,7 @@ conversion remaining contents reader reader' writer writer' = record {
   held' = contents writer'.inner;
 }
 
--- What the writer holds grew by the text of all rows of the column, made by the files of the
+-- The writer's bytes grew by the text of all rows of the column, made by the files of the
 -- texts, and there are n.
 pub record ConvertsAll {R W : Type 0} (texts : List (List ℕ)) (plan : Limits) (n : ℕ)
     (run : Conversion R W) : Type 0 where

@@ -1,33 +1,31 @@
 -- Why commands give up.
-use Rattle.std.specs.Prelude.{◌≡◌, ◌≢◌, ◌<◌, ◌≤◌, ◌+◌, ◌==◌, ◌⊎◌, ℕ, ℤ, List, [], ◌∷◌, ◌++◌, length, map, if◌then◌else◌, string_bytes, Option, All}
+use Rattle.std.specs.Prelude.{◌≡◌, ◌≢◌, ◌+◌, ◌==◌, ◌⊎◌, ℕ, List, [], ◌∷◌, ◌++◌, length, map, if◌then◌else◌, string_bytes, Option, All}
 use Rattle.zic_base.specs.declared.fault.Fault.{Fault}
 use Rattle.zic_bulk.specs.Build.{AreFilesOfTexts, IsStopOfBuild}
 use Rattle.zic_files.specs.File.{File}
 use Rattle.zic_plan.specs.declared.stop.RunStop.{RunStop}
 use Rattle.zic_plan.specs.declared.stop.RunStop.TheVariants as stops
-use Rattle.zic_counted.specs.Counts.{Counts, HasFailedSince, greatest}
+use Rattle.zic_counted.specs.Counts.{Counts, HasFailedSince, HasTakenAbove}
 use Rattle.zic_counted.specs.Written.{FailsWithin}
 use Rattle.zic_tzif.specs.Reading.{IsFault}
 use Rattle.zic_tzif.specs.declared.reason.Reason.{Reason}
 use Rattle.zic_tzif.specs.declared.reason.ReadStop.{ReadStop}
 use Rattle.zic_tzif.specs.declared.reason.ReadStop.TheVariants as reading
-use Rattle.zic_dump.specs.Text.{IsDump}
-use Rattle.zic_dump.specs.Years.{Between}
 use Rattle.zic_commands.specs.declared.failure.Failure.{Failure}
 use Rattle.zic_commands.specs.declared.failure.Failure.TheVariants as failures
 use Rattle.zic_commands.specs.declared.input.TheConstants.{MAX_SOURCE}
 use Rattle.zic_plan.specs.declared.word.TheConstants.{STANDARD_INPUT}
 use Rattle.zic_commands.specs.Sources.{AreTextsOf}
 use Rattle.zic_commands.specs.Tree.{Gains, in_folder, Placed}
-use Rattle.zic_commands.specs.Text.{IsListing, IsShowing}
+use Rattle.zic_commands.specs.Text.{IsListing}
 
--- the failure for a fault of a source of so many texts: with one, no text is named
+-- the failure for a fault of a source of this number of texts: with one, no text is named
 abbrev pub fault_failure : Fault → ℕ → Failure
 fault_failure fault texts =
     if texts == 1 then failures.Line fault.place.line fault.kind
     else failures.TextLine fault.place.text fault.place.line fault.kind
 
--- the failure for the end of a run over a source of so many texts
+-- the failure for the end of a run over a source of this number of texts
 abbrev pub run_failure : RunStop → ℕ → Failure
 run_failure (stops.Source fault) texts = fault_failure fault texts
 run_failure (stops.Row row kind) texts = failures.Row row kind
@@ -47,10 +45,6 @@ abbrev pub IsCannotRead : List ℕ → Failure → Type 0
 IsCannotRead path (failures.CannotRead named) = string_bytes named ≡ path
 IsCannotRead path _ = ⊥
 
--- a reader gave more bytes than these, or as many as can be counted
-abbrev pub HasGivenAbove : {R : Type 0} → ℕ → Counts R → Counts R → Type 0
-HasGivenAbove most old new = (old.taken + most < new.taken) ⊎ (greatest ≤ new.taken)
-
 -- why what a path names isn't read: for this reason, or memory ran out
 abbrev pub IsFailureOfReading : List ℕ → Type 0 → Failure → Type 0
 IsFailureOfReading path reason failure =
@@ -59,14 +53,14 @@ IsFailureOfReading path reason failure =
 -- why a text of a source isn't read: a read failed, or the reader gave too many bytes
 abbrev pub IsFailureOfText : {R : Type 0} → List ℕ → Counts R → Counts R → Failure → Type 0
 IsFailureOfText path old new =
-    IsFailureOfReading path (HasFailedSince new old.failures ⊎ HasGivenAbove MAX_SOURCE old new)
+    IsFailureOfReading path (HasFailedSince new old.failures ⊎ HasTakenAbove MAX_SOURCE old new)
 
 -- Why the text that a word names isn't read. Of standard input the reason is known; of a file none
 -- is told, nor of its bytes.
 abbrev pub IsFailureOfWord : {R : Type 0} → List ℕ → Counts R → Counts R → Failure → Type 0
 IsFailureOfWord word old new =
     IsFailureOfReading word (word ≡ STANDARD_INPUT.now
-    → HasFailedSince new old.failures ⊎ HasGivenAbove MAX_SOURCE old new)
+    → HasFailedSince new old.failures ⊎ HasTakenAbove MAX_SOURCE old new)
 
 -- why a file isn't read: for any reason, or memory ran out
 abbrev pub IsFailureOfPath : List ℕ → Failure → Type 0
@@ -107,19 +101,13 @@ IsFailureOfCheck contents texts old new failure =
     (IsFailureOfListing texts failure × (new ≡ old))
     ⊎ IsFailureOfOutput contents (IsListing texts) old new failure
 
--- why `show` gives up: there is no line, and nothing is written, or it can't be written
-abbrev pub IsFailureOfShow : {W : Type 0} → (W → Option (List ℕ)) → List ℕ → ℤ
+-- why `show` and `dump` give up: the bytes are no file, and nothing is written, or this output of
+-- theirs can't be written
+abbrev pub IsFailureOfTelling : {W : Type 0} → (W → Option (List ℕ)) → List ℕ → (List ℕ → Type 0)
     → Counts W → Counts W → Failure → Type 0
-IsFailureOfShow contents bytes instant old new failure =
+IsFailureOfTelling contents bytes IsOutput old new failure =
     (IsFailureOfFile bytes failure × (new ≡ old))
-    ⊎ IsFailureOfOutput contents (IsShowing bytes instant) old new failure
-
--- why `dump` gives up: there is no text, and nothing is written, or it can't be written
-abbrev pub IsFailureOfDump : {W : Type 0} → (W → Option (List ℕ)) → List ℕ → List ℕ → Between
-    → Counts W → Counts W → Failure → Type 0
-IsFailureOfDump contents path bytes years old new failure =
-    (IsFailureOfFile bytes failure × (new ≡ old))
-    ⊎ IsFailureOfOutput contents (IsDump path bytes years) old new failure
+    ⊎ IsFailureOfOutput contents IsOutput old new failure
 
 -- this path can't be written
 abbrev pub IsCannotWrite : List ℕ → Failure → Type 0
@@ -163,7 +151,7 @@ pub record IsUnread {I : Type 0} (words : List (List ℕ)) (input : Option (List
   pub are_texts : AreTextsOf before input texts
   pub unread : IsCannotRead word failure
   pub reason : word ≡ STANDARD_INPUT.now → All (λ other. other ≢ STANDARD_INPUT.now) before
-      → HasFailedSince new old.failures ⊎ HasGivenAbove MAX_SOURCE old new
+      → HasFailedSince new old.failures ⊎ HasTakenAbove MAX_SOURCE old new
 
 -- why not all texts that words name are read: one can't be, or memory ran out
 abbrev pub IsFailureOfSources : {I : Type 0} → List (List ℕ) → Option (List ℕ) → Counts I

@@ -1,9 +1,9 @@
--- What a command writes.
+-- The output of a command.
 use Rattle.std.specs.Prelude.{ℕ, List, Option}
 use Rattle.zic_counted.specs.Counts.{Counts}
 use Rattle.zic_counted.specs.Written.{Writes}
 
--- what a writer holds, where that is known, grew by such output, and nothing failed
+-- the writer's bytes, where they are known, grew by such output, and nothing failed
 pub record WritesOutput {W : Type 0} (contents : W → Option (List ℕ)) (IsOutput : List ℕ → Type 0)
     (old new : Counts W) : Type 0 where
   pub output : List ℕ

@@ -1,14 +1,14 @@
--- What the words for sources name.
+-- The texts that the words for sources name.
 use Rattle.std.specs.Prelude.{◌≡◌, ◌≤◌, ℕ, List, [], ◌∷◌, length, Option, None, IfSome, bytes_eq, if◌then◌else◌}
 use Rattle.zic_commands.specs.declared.input.TheConstants.{MAX_SOURCE}
 use Rattle.zic_plan.specs.declared.word.TheConstants.{STANDARD_INPUT}
 
--- what is known of the text that a word names: `-` is standard input, and of a file nothing is
+-- the text that a word names, as far as it is known: `-` is standard input, and of a file nothing is
 -- known
 abbrev pub known_of : List ℕ → Option (List ℕ) → Option (List ℕ)
 known_of word input = if bytes_eq word STANDARD_INPUT.now then input else None
 
--- what is known of standard input once the text of a word was read: nothing after `-`
+-- standard input, as far as it is known, once the text of a word was read: nothing after `-`
 abbrev pub known_after : List ℕ → Option (List ℕ) → Option (List ℕ)
 known_after word input = if bytes_eq word STANDARD_INPUT.now then None else input
 

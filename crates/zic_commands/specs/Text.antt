@@ -1,7 +1,8 @@
--- What `check` and `show` print.
-use Rattle.std.specs.Prelude.{◌≡◌, ℕ, ◌/◌, ◌%◌, ℤ, pos, int_lt, unsigned_abs, nat_lt, if◌then◌else◌, codes, List, [], ◌∷◌, ◌++◌, length, Option, Some, None}
+-- The text that `check` and `show` print.
+use Rattle.std.specs.Prelude.{◌≡◌, ℕ, ℤ, if◌then◌else◌, codes, List, [], ◌∷◌, ◌++◌, length, Option, Some, None}
 use Rattle.std.specs.Fmt.{decimal}
 use Rattle.std.specs.List.{flat_map}
+use Rattle.zic_base.specs.Digits.{offset_text}
 use Rattle.zic_base.specs.State.{Shown}
 use Rattle.zic_content.specs.Content.{Content}
 use Rattle.zic_tzif.specs.Answer.{Answers}
@@ -20,19 +21,6 @@ pub record IsListing (texts : List (List ℕ)) (lines : List ℕ) : Type 0 where
   pub files : List File
   pub are_files : AreFilesOfTexts texts files
   pub are_lines : lines ≡ flat_map check_line files
-
--- a number in two digits at least
-abbrev pub two_digits : ℕ → List ℕ
-two_digits n = if nat_lt n 10 then 48 ∷ decimal n else decimal n
-
--- an offset's sign, hours, minutes and seconds
-abbrev pub offset_text : ℤ → List ℕ
-offset_text offset =
-    let seconds = unsigned_abs offset in
-    (if int_lt offset (pos 0) then 45 else 43)
-    ∷ (two_digits
-    (seconds / 3600) ++ 58 ∷ (two_digits (seconds / 60 % 60) ++ 58 ∷ two_digits
-    (seconds % 60)))
 
 -- a state's offset, flag and abbreviation between spaces, and a newline
 abbrev pub state_line : Shown → List ℕ

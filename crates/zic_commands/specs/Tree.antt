@@ -1,4 +1,4 @@
--- What is placed into a tree of files.
+-- Files that are placed into a tree.
 use Rattle.std.specs.Prelude.{◌≡◌, ◌≢◌, ℕ, ⊤, List, [], ◌∷◌, ◌++◌, map, Option, Some, None}
 use Rattle.zic_bulk.specs.Build.{AreFilesOfTexts}
 use Rattle.zic_files.specs.File.{File}
@@ -8,7 +8,7 @@ pub record Placed : Type 0 where
   pub path : List ℕ
   pub bytes : List ℕ
 
--- what was placed into a tree, where that is known, grew by these, in order
+-- the files placed into a tree, where they are known, grew by these, in order
 abbrev pub Gains : Option (List Placed) → Option (List Placed) → List Placed → Type 0
 Gains None new files = ⊤
 Gains (Some placed) None files = ⊥

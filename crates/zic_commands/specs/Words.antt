@@ -1,4 +1,4 @@
--- What the program says of what is wrong.
+-- The messages of failures.
 use Rattle.std.specs.Prelude.{ℕ, codes, List, ◌++◌, string_bytes}
 use Rattle.std.specs.Fmt.{decimal}
 use Rattle.zic_base.specs.declared.fault.Kind.{Kind}
@@ -71,7 +71,7 @@ reason_word reason.Footer = codes "Footer"
 reason_word reason.TrailingBytes = codes "TrailingBytes"
 reason_word reason.TooLarge = codes "TooLarge"
 
--- what the program prints of a failure
+-- the line that the program prints for a failure
 abbrev pub failure_text : Failure → List ℕ
 failure_text (failures.Line line kind) =
     codes "line " ++ decimal line ++ codes ": " ++ kind_word kind

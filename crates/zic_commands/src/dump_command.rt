@@ -2,7 +2,7 @@
 
 ghost use Rattle.std.specs.Prelude.{OnOk, IfErr};
 ghost use Rattle.zic_dump.specs.Text.{IsDump};
-ghost use Rattle.zic_commands.specs.Failing.{IsFailureOfDump};
+ghost use Rattle.zic_commands.specs.Failing.{IsFailureOfTelling};
 ghost use Rattle.zic_commands.specs.Output.{WritesOutput};
 
 use crate::failure::Failure;
@@ -29,7 +29,8 @@ pub fn dump<W: Write>(
     ensures ok { OnOk result
         (WritesOutput W.contents (IsDump path.now bytes.now years.now) writer.old writer.new) }
     ensures err { IfErr result
-        (IsFailureOfDump W.contents path.now bytes.now years.now writer.old writer.new) }
+        (IsFailureOfTelling W.contents bytes.now (IsDump path.now bytes.now years.now)
+        writer.old writer.new) }
 {
     let text = zic_dump::dump(alloc, path, bytes, years)?;
     write_output(writer, &text)

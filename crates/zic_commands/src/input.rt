@@ -1,11 +1,11 @@
-//! What a reader gives, up to a limit.
+//! The bytes that a reader gives, up to a limit.
 
 ghost use Rattle.std.specs.Prelude.{◌≡◌, ◌≢◌, ◌<◌, ◌≤◌, ◌+◌, length, min, take, IfOk, IfErr, IfSome, OnOk};
 ghost use Rattle.std.specs.Io.{StartsWith, appended_bytes};
 ghost use Rattle.std.specs.Io.KnownBytes.{Consumes, IsAtEnd};
 ghost use Rattle.zic_base.specs.declared.limit.TheConstants.{LONGEST_FILE};
-ghost use Rattle.zic_counted.specs.Counts.{CountsTaken, HasFailedSince, risen, greatest};
-ghost use Rattle.zic_commands.specs.Failing.{HasGivenAbove, IsFailureOfText, IsFailureOfBytes};
+ghost use Rattle.zic_counted.specs.Counts.{CountsTaken, HasFailedSince, HasTakenAbove, risen, greatest};
+ghost use Rattle.zic_commands.specs.Failing.{IsFailureOfText, IsFailureOfBytes};
 ghost use Rattle.zic_commands.specs.declared.input.TheConstants.{MAX_SOURCE};
 ghost use Rattle.zic_commands.specs.declared.input.InputStop.TheVariants.{TooLong, Unreadable};
 
@@ -47,7 +47,7 @@ impl From<AllocError> for InputStop {
 ///
 /// # Errors
 ///
-/// A read fails, by whatever error, or there are more than 67,108,864 bytes, or memory ran out.
+/// A read fails with any error, or there are more than 67,108,864 bytes, or memory ran out.
 pub fn read_source_text<R: Read>(
     alloc: Global,
     path: &str,
@@ -70,7 +70,7 @@ pub fn read_source_text<R: Read>(
 ///
 /// # Errors
 ///
-/// A read fails, by whatever error, or memory ran out.
+/// A read fails with any error, or memory ran out.
 pub fn read_file_bytes<R: Read>(
     alloc: Global,
     path: &str,
@@ -100,7 +100,7 @@ fn read_whole<R: Read>(
     ensures failed { IfErr result (λ stop. stop ≡ Unreadable
         → HasFailedSince reader.new reader.old.failures) }
     ensures long { IfErr result (λ stop. stop ≡ TooLong
-        → HasGivenAbove most reader.old reader.new) }
+        → HasTakenAbove most reader.old reader.new) }
 {
     let bytes = read_up_to(alloc, reader, most + 1)?;
     if bytes.len() > most {
@@ -119,6 +119,8 @@ fn read_up_to<R: Read>(
         (λ bytes. IfSome (R.remaining reader.old.inner) (λ all. bytes.items ≡ take limit all)) }
     ensures taken { IfOk result
         (λ bytes. min reader.new.taken greatest ≡ risen reader.old.taken (length bytes.items)) }
+    ensures counted { IfOk result
+        (λ bytes. 0 < length bytes.items → reader.new.taken ≤ greatest) }
     ensures err { IfErr result (λ stop. stop ≡ Unreadable
         → HasFailedSince reader.new reader.old.failures) }
     ensures all { IfErr result (λ stop. stop ≢ TooLong) }

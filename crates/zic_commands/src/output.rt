@@ -1,4 +1,4 @@
-//! What a command writes.
+//! The output of a command.
 
 ghost use Rattle.std.specs.Prelude.{◌≡◌, IfErr, OnOk, OnErr};
 ghost use Rattle.zic_counted.specs.Written.{FailsWithin, Writes};

@@ -1,17 +1,19 @@
 //! `show`: what a file says of an instant.
 
-ghost use Rattle.std.specs.Prelude.{◌≡◌, ◌++◌, IfOk, IfErr, OnOk};
+ghost use Rattle.std.specs.Prelude.{◌≡◌, ◌≤◌, unsigned_abs, IfOk, IfErr, OnOk};
 ghost use Rattle.zic_base.specs.State.{shown};
+ghost use Rattle.zic_base.specs.declared.limit.TheConstants.{FARTHEST_FILE_OFFSET};
+ghost use Rattle.zic_dump.specs.Changes.{told};
 ghost use Rattle.zic_tzif.specs.Answer.{answered};
-ghost use Rattle.zic_commands.specs.Failing.{IsFailureOfFile, IsFailureOfShow};
+ghost use Rattle.zic_commands.specs.Failing.{IsFailureOfFile, IsFailureOfTelling};
 ghost use Rattle.zic_commands.specs.Output.{WritesOutput};
-ghost use Rattle.zic_commands.specs.Text.{answer_line, state_line, offset_text, two_digits, IsShowing};
+ghost use Rattle.zic_commands.specs.Text.{answer_line, state_line, IsShowing};
 
 use crate::failure::Failure;
 use crate::output::write_output;
 use std::alloc::{AllocError, Global};
 use std::io::Write;
-use zic_base::State;
+use zic_base::{State, offset_text};
 use zic_counted::Counted;
 use zic_tzif::{Answer, read};
 
@@ -31,7 +33,8 @@ pub fn show<W: Write>(
     ensures ok { OnOk result
         (WritesOutput W.contents (IsShowing bytes.now instant) writer.old writer.new) }
     ensures err { IfErr result
-        (IsFailureOfShow W.contents bytes.now instant writer.old writer.new) }
+        (IsFailureOfTelling W.contents bytes.now (IsShowing bytes.now instant)
+        writer.old writer.new) }
 {
     let line = line_of(alloc, bytes, instant)?;
     write_output(writer, &line)
@@ -50,6 +53,7 @@ fn line_of(alloc: Global, bytes: &[u8], instant: i64) -> Result<Vec<u8>, Failure
 
 /// Returns the line for what a file answers.
 fn answer_line(alloc: Global, answer: &Answer<'_>) -> Result<Vec<u8>, AllocError>
+    requires { unsigned_abs (told (answered answer.now)).offset ≤ FARTHEST_FILE_OFFSET }
     ensures { IfOk result (λ line. line.items ≡ answer_line (answered answer.now)) }
 {
     match answer {
@@ -60,39 +64,13 @@ fn answer_line(alloc: Global, answer: &Answer<'_>) -> Result<Vec<u8>, AllocError
 
 /// Returns the line for local time.
 fn state_line(alloc: Global, state: &State<'_>) -> Result<Vec<u8>, AllocError>
+    requires { unsigned_abs state.now.offset ≤ FARTHEST_FILE_OFFSET }
     ensures { IfOk result (λ line. line.items ≡ state_line (shown state.now)) }
 {
-    let mut line = offset_text(alloc, state)?;
+    let mut line = Vec::from_slice(alloc, &offset_text(state.offset))?;
     let flag = if state.daylight { b'1' } else { b'0' };
     line.extend_from_slice(&[b' ', flag, b' '])?;
     line.extend_from_slice(state.name)?;
     line.push(b'\n')?;
     Ok(line)
-}
-
-/// Returns the offset of a state, as `-05:00:00`.
-fn offset_text(alloc: Global, state: &State<'_>) -> Result<Vec<u8>, AllocError>
-    ensures { IfOk result (λ text. text.items ≡ offset_text state.now.offset) }
-{
-    let mut text = Vec::new(alloc);
-    text.push(if state.offset < 0 { b'-' } else { b'+' })?;
-    let seconds = state.offset.unsigned_abs();
-    push_two_digits(alloc, &mut text, seconds / 3600)?;
-    text.push(b':')?;
-    push_two_digits(alloc, &mut text, seconds / 60 % 60)?;
-    text.push(b':')?;
-    push_two_digits(alloc, &mut text, seconds % 60)?;
-    Ok(text)
-}
-
-/// Adds a number in two digits at least.
-fn push_two_digits(alloc: Global, text: &mut Vec<u8>, n: u32) -> Result<(), AllocError>
-    ensures { OnOk result (text.new.items ≡ text.old.items ++ two_digits n) }
-{
-    if n < 10 {
-        text.push(b'0')?;
-    }
-    let digits = n.to_string(alloc)?;
-    text.extend_from_slice(digits.as_bytes())?;
-    Ok(())
 }

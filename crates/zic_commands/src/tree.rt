@@ -63,7 +63,7 @@ pub trait Tree {
     ghost use Rattle.std.specs.Prelude.{ℕ, ⊤, List, Option, None};
     ghost use Rattle.zic_commands.specs.Tree.{Placed};
 
-    // what was placed, in order, where that is known
+    // the files that were placed, in order, where they are known
     ghost placed: { Self → Option (List Placed) } = { λ _. None };
 
     // the tree refused a file at a path, where anything is known of it
@@ -94,7 +94,7 @@ pub struct Disk<'a, F> {
     folders: HashSet<String>,
 }
 
-/// What came of writing a file.
+/// The outcome of writing a file.
 #[derive(Clone, Copy)]
 enum Written {
     /// It has its name.

@@ -1,4 +1,4 @@
--- What a TZif file says: RFC 9636, 3.
+-- The content of a TZif file: RFC 9636, 3.
 use Rattle.std.specs.Prelude.{◌≡◌, ℕ, ◌<◌, ◌≤◌, ◌<ℤ◌, true, List, [], ◌∷◌, ◌++◌, length, unsigned_abs, slice_get, ◌⊎◌, All, AllPairs, IsSomeAnd, FitsSigned}
 use Rattle.std.specs.Int.{w64}
 use Rattle.zic_base.specs.State.{Shown}
@@ -23,7 +23,7 @@ abbrev pub content : ℕ → List Change → List LocalType → List ℕ → Lis
 content version changes types names text =
     record { version = version; changes = changes; types = types; names = names; text = text }
 
--- what local time of this type is
+-- local time of this type
 abbrev pub type_state : List ℕ → LocalType → Shown
 type_state names t = record { offset = t.offset; daylight = t.daylight; name = designation names t.place }
 
@@ -45,7 +45,7 @@ pub record IsLocalType (names : List ℕ) (t : LocalType) : Type 0 where
   pub offset : unsigned_abs t.offset ≤ FARTHEST_FILE_OFFSET
   pub designation : is_designated names t.place ≡ true
 
--- What passes the checks of a reader when it is written: transitions rise and have types, types are right, and the footer agrees
+-- A content that passes the checks of a reader when it is written: transitions rise and have types, types are right, and the footer agrees
 -- with the last transition. The limits keep the file below a reader's limit, and the number of a type and the place of a
 -- designation in a byte. Only that of 256 types follows from RFC 9636, 3.2; the others are own choices.
 pub record IsWritable (content : Content) : Type 0 where

@@ -1,16 +1,16 @@
--- What a conversion writes, and why it ends early.
-use Rattle.std.specs.Prelude.{◌≡◌, ℕ, ◌+◌, ◌<◌, ◌⊎◌, List, length, Option, Some, None}
+-- The output of a conversion, and why it ends early.
+use Rattle.std.specs.Prelude.{◌≡◌, ℕ, ◌+◌, List, length, Option, Some, None}
 use Rattle.std.specs.List.{concat}
 use Rattle.std.specs.Io.{StartsWith}
 use Rattle.std.specs.Io.KnownBytes.{Appends}
-use Rattle.zic_counted.specs.Counts.{Counts, HasFailedSince, greatest}
+use Rattle.zic_counted.specs.Counts.{Counts, HasFailedSince, HasTakenAbove}
 use Rattle.zic_files.specs.File.{File}
 use Rattle.zic_plan.specs.declared.stop.RowKind.{RowKind}
 use Rattle.zic_plan.specs.declared.stop.RunStop.{RunStop}
 use Rattle.zic_plan.specs.declared.stop.RunStop.TheVariants as stop
 use Rattle.zic_convert.specs.Column.{ConvertsTo}
 
--- what a conversion comes to: the texts of rows, and a fault, or none
+-- the outcome of a conversion: the texts of rows, and a fault, or none
 abbrev pub Outcome : Type 1
 Outcome = List (List ℕ) → Option RowKind → Type 0
 
@@ -29,7 +29,7 @@ pub record WritesUpToOf (Converts : Outcome) (row : ℕ) (kind : RowKind) (old n
   pub number : row ≡ length texts + 1
   pub wrote : Appends old new (concat texts)
 
--- What the writer holds grew by a part of the text of all rows before the first that has a fault, from its start on.
+-- The writer's bytes grew by a part of the text of all rows before the first that has a fault, from its start on.
 pub record WritesPartOf (Converts : Outcome) (old new : Option (List ℕ)) : Type 0 where
   pub texts : List (List ℕ)
   pub fault : Option RowKind
@@ -38,7 +38,7 @@ pub record WritesPartOf (Converts : Outcome) (old new : Option (List ℕ)) : Typ
   pub starts : StartsWith (concat texts) part
   pub wrote : Appends old new part
 
--- what was written where a conversion ends early; it never ends for a fault of a source
+-- the output of a conversion that ends early; it never ends for a fault of a source
 abbrev pub WritesAtOf : Outcome → RunStop → Option (List ℕ) → Option (List ℕ) → Type 0
 WritesAtOf Converts (stop.Row row kind) old new = WritesUpToOf Converts row kind old new
 WritesAtOf Converts (stop.Source fault) old new = ⊥
@@ -54,10 +54,6 @@ WritesAll files most column = WritesAllOf (ConvertsTo files most column)
 
 abbrev pub WritesAt : List File → ℕ → List ℕ → RunStop → Option (List ℕ) → Option (List ℕ) → Type 0
 WritesAt files most column = WritesAtOf (ConvertsTo files most column)
-
--- more bytes than this number were taken, or as many as can be counted
-abbrev pub HasTakenAbove : {R : Type 0} → ℕ → Counts R → Counts R → Type 0
-HasTakenAbove most old new = (old.taken + most < new.taken) ⊎ (new.taken ≡ greatest)
 
 -- A conversion ends for the reader only where a read failed, for the writer only where a write or flush did, and for too long a column
 -- only where more bytes than allowed were taken. It ends at a row only where no write and no flush failed. It never ends for a fault

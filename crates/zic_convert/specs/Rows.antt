@@ -1,4 +1,4 @@
--- What the records of a column come to: own choice. A record has a zone's name and an instant. Its row has the text of what the file
+-- The rows of a column's records: own choice. A record has a zone's name and an instant. Its row has the text of what the file
 -- of that name answers at the instant, or a fault.
 use Rattle.std.specs.Prelude.{◌≡◌, ℕ, ◌+◌, nat_le, ◌==◌, Bool, false, ◌&&◌, ℤ, int_le, List, [], ◌∷◌, length, Option, Some, None, is_some, IsSome, Contains, bytes_eq}
 use Rattle.std.specs.List.{list_any}
@@ -55,7 +55,7 @@ pub record IsTextOf (files : List File) (fields : List (List ℕ)) (text : List 
   pub answers : Answers file.image.content instant (Some state)
   pub is : text ≡ row_text file.name instant state
 
--- What records come to, the first of which is the row of this number: the texts of the rows up to the first that has a fault, and that
+-- The outcome of records, the first of which is the row of this number: the texts of the rows up to the first that has a fault, and that
 -- fault, or none.
 abbrev pub ComeTo : List File → ℕ → ℕ → List (List (List ℕ)) → List (List ℕ) → Option RowKind → Type 0
 ComeTo files most number [] texts fault = (texts ≡ []) × (fault ≡ None)

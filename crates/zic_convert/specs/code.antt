@@ -1,4 +1,4 @@
--- What only the code and its proofs use. No contract of a public function cites it.
+-- Definitions for the code of this crate and for proofs. No contract of an exported function cites them.
 pub mod Progress
 pub mod Row
 pub mod Query

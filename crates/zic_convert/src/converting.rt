@@ -75,7 +75,7 @@ fn convert_rounds<T: Threads + Wait + Sync, R: Read + Drop, W: Write, G: Gate + 
         halt (W.contents writer.old.inner) (W.contents writer.new.inner))) }
     ensures cause { IfErr result (IsCauseOfHalt writer.old writer.new) }
 {
-    // What is left of a column that can't be read on has rows too: each file answers every instant,
+    // The rest of a column that can't be read on has rows too: each file answers every instant,
     // as `len` tells.
     prove!(setting.files.len() <= usize::MAX);
     files_answer_once();

@@ -5,7 +5,8 @@ ghost use Rattle.zic_convert.specs.Laws.{ColumnsConvertOnce};
 use zic_columns::laws::records_are_one;
 use zic_tzif::laws::files_answer_once;
 
-/// By the files of a source a column converts to one list of texts, and one fault or none.
+/// States that by the files of a source a column converts to one list of texts, and one fault or
+/// none.
 pub fn columns_convert_once()
     ensures { ColumnsConvertOnce }
 {

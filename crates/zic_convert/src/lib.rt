@@ -1,4 +1,5 @@
-//! Converts a column of zone names and instants by the files of a source.
+//! Converts a column of zone names and instants by the files of a source. The tests stand in
+//! `program_tests`.
 #![tactic(auto)]
 
 mod converting;

@@ -2,7 +2,7 @@
 
 ghost use Rattle.std.specs.Prelude.{◌≡◌, ◌≤◌, ◌<◌, ◌+◌, true, false, length, take};
 ghost use Rattle.zic_columns.specs.Round.{ArePiecesOf};
-ghost use Rattle.zic_columns.specs.declared.pieces.TheConstants.{MAX_PIECES};
+ghost use Rattle.zic_columns.specs.declared.pieces.TheConstants.{MAX_ROUND_PIECES};
 ghost use Rattle.zic_plan.specs.declared.plan.TheConstants.{MAX_ROWS};
 ghost use Rattle.zic_convert.specs.code.Pieces.{ArePieces};
 
@@ -65,7 +65,7 @@ impl<'a> RowPieces<'a> {
     /// first record is the row of this number.
     pub(crate) fn new(files: &'a Files, round: Round<'a>, first: u64, plan: &Plan) -> RowPieces<'a>
         requires first { first ≤ MAX_ROWS + 1 }
-        requires few { length round ≤ MAX_PIECES }
+        requires few { length round ≤ MAX_ROUND_PIECES }
         requires cut { ArePiecesOf plan.now.row_piece round }
         ensures pieces { result ≡ record {
           files = files.now;

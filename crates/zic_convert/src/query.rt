@@ -1,4 +1,4 @@
-//! What records ask for.
+//! The queries of records.
 
 ghost use Rattle.std.specs.Prelude.{◌≡◌, MatchResult};
 ghost use Rattle.zic_convert.specs.code.Query.{IsAsked, IsFaultOfField};
@@ -6,7 +6,7 @@ ghost use Rattle.zic_convert.specs.code.Query.{IsAsked, IsFaultOfField};
 use zic_plan::RowKind;
 use zic_rows::{FIRST_INSTANT, LAST_INSTANT, parse_instant};
 
-/// What a record asks for: local time of the zone of a name, at an instant that a row may have. The
+/// The query of a record: local time of the zone of a name, at an instant that a row may have. The
 /// field names the instant.
 #[derive(Clone, Copy)]
 pub(crate) struct Query<'a> {
@@ -23,7 +23,8 @@ pub(crate) struct Query<'a> {
 /// `RowInstant` where the field names none, and `RowRange` where no row may have it.
 #[inline(always)]
 pub(crate) fn row_instant(field: &[u8]) -> Result<i64, RowKind>
-    ensures { MatchResult result (λ instant. IsAsked field.now instant) (IsFaultOfField field.now) }
+    ensures { MatchResult result (λ instant. IsAsked field.now instant)
+        (IsFaultOfField field.now) }
 {
     let Some(instant) = parse_instant(field) else {
         return Err(RowKind::RowInstant);

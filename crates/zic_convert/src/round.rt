@@ -3,7 +3,7 @@
 ghost use Rattle.std.specs.Prelude.{◌≡◌, ◌≤◌, IfOk, IfErr, false, length};
 ghost use Rattle.zic_pieces.specs.Task.{AreValues};
 ghost use Rattle.zic_convert.specs.code.Pieces.{ArePieces, IsOutcomeOf};
-ghost use Rattle.zic_columns.specs.declared.pieces.TheConstants.{MAX_PIECES};
+ghost use Rattle.zic_columns.specs.declared.pieces.TheConstants.{MAX_ROUND_PIECES};
 ghost use Rattle.zic_convert.specs.code.Written.{EndsInRound, WritesRound};
 
 use crate::pieces::RowPieces;
@@ -49,7 +49,7 @@ fn convert_again<T: Threads + Wait + Sync, W: Write, G: Gate + Sync>(
     gate: &G,
 ) -> Result<u64, RunStop>
     requires goes_on { pieces.now.stops ≡ false }
-    requires few { length pieces.now.pieces ≤ MAX_PIECES }
+    requires few { length pieces.now.pieces ≤ MAX_ROUND_PIECES }
     ensures ok { IfOk result (WritesRound pieces.now W.contents writer.old writer.new) }
     ensures stop { IfErr result (EndsInRound pieces.now W.contents writer.old writer.new) }
 {

@@ -1,4 +1,4 @@
--- What a reader or writer counts. A count that reaches the greatest `u64` stays there.
+-- The counts of a reader or writer. A count that reaches the greatest `u64` stays there.
 use Rattle.std.specs.Prelude.{◌≡◌, ◌+◌, ◌-◌, ◌^◌, ◌<◌, ◌⊎◌, ℕ, min}
 
 -- a reader or writer, the failures of its calls, and the bytes that its reads gave
@@ -33,3 +33,7 @@ pub record CountsTaken {T : Type 0} (old new : Counts T) (n : ℕ) : Type 0 wher
 -- the failures are above those of before, or at their greatest value
 abbrev pub HasFailedSince : {T : Type 0} → Counts T → ℕ → Type 0
 HasFailedSince counts before = (before < counts.failures) ⊎ (counts.failures ≡ greatest)
+
+-- more bytes than this number were taken, or as many as can be counted
+abbrev pub HasTakenAbove : {T : Type 0} → ℕ → Counts T → Counts T → Type 0
+HasTakenAbove most old new = (old.taken + most < new.taken) ⊎ (new.taken ≡ greatest)

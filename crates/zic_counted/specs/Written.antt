@@ -1,10 +1,10 @@
--- What is written through a writer that counts.
+-- Bytes that are written through a writer that counts.
 use Rattle.std.specs.Prelude.{ℕ, List, Option}
 use Rattle.std.specs.Io.{StartsWith}
 use Rattle.std.specs.Io.KnownBytes.{Appends}
 use Rattle.zic_counted.specs.Counts.{Counts, CountsNothing, HasFailedSince}
 
--- what the writer holds, where that is known, grew by these bytes, and nothing was counted
+-- the writer's bytes, where they are known, grew by these bytes, and nothing was counted
 pub record Writes {W : Type 0} (contents : W → Option (List ℕ)) (old new : Counts W)
     (bytes : List ℕ) : Type 0 where
   pub wrote : Appends (contents old.inner) (contents new.inner) bytes

@@ -13,8 +13,8 @@ pub record Change : Type 0 where
   pub answer : Option Shown
   pub local : Civil
 
--- What is shown for an answer. Local time that a file leaves open is shown as the placeholder
--- `-00` at UT: zdump(8), RFC 9636, 3.2.
+-- The state that is shown for an answer. Local time that a file leaves open is shown as the
+-- placeholder `-00` at UT: zdump(8), RFC 9636, 3.2.
 abbrev pub told : Option Shown → Shown
 told (Some state) = state
 told None = record { offset = pos 0; daylight = false; name = codes "-00" }
@@ -28,7 +28,7 @@ pub record IsLocalAt (instant : ℤ) (s : Shown) (local : Civil) : Type 0 where
 abbrev pub HasLocalTime : Change → Type 0
 HasLocalTime c = IsLocalAt c.instant (told c.answer) c.local
 
--- what is answered at the instant isn't what is answered a second before
+-- the answer at the instant isn't that of a second before
 pub record ChangesAt (content : Content) (t : ℤ) : Type 0 where
   pub before : Option Shown
   pub after : Option Shown

@@ -38,8 +38,8 @@ is_placeholder s =
     int_eq s.offset (pos 0) && ((slice_index s.name 0 == 45) || bytes_eq s.name (codes "zzz"))
 
 -- an offset, as `-05`, `+0530`, `-004430` or, of a place without local time, `-00`
-abbrev pub offset_text : Shown → List ℕ
-offset_text s =
+abbrev pub zdump_offset : Shown → List ℕ
+zdump_offset s =
     let seconds = unsigned_abs s.offset in
     (if int_lt s.offset (pos 0) || is_placeholder s then 45 else 43)
     ∷ clock_text [] (seconds / 3600) (seconds / 60 % 60) (seconds % 60)
@@ -73,7 +73,7 @@ name_text name = if is_word name then name else quoted name
 -- offset's text is empty, and a flag of standard time is left out; so are tabs at the end.
 abbrev pub state_text : Shown → List ℕ
 state_text s =
-    let offset = offset_text s in
+    let offset = zdump_offset s in
     let same = bytes_eq offset s.name in
     offset
     ++ ((if same then [] else 9 ∷ name_text s.name)

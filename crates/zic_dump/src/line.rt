@@ -8,7 +8,7 @@ ghost use Rattle.zic_base.specs.State.{shown};
 ghost use Rattle.zic_base.specs.declared.limit.TheConstants.{FARTHEST_FILE_OFFSET};
 ghost use Rattle.zic_tzif.specs.Answer.{answered};
 ghost use Rattle.zic_dump.specs.Changes.{Change, told, HasLocalTime, IsLocalAt};
-ghost use Rattle.zic_dump.specs.Text.{change_line, line_text, head_text, date_text, time_text, clock_text, is_placeholder, offset_text, escaped, quoted, is_word, name_text, state_text};
+ghost use Rattle.zic_dump.specs.Text.{change_line, line_text, head_text, date_text, time_text, clock_text, is_placeholder, zdump_offset, escaped, quoted, is_word, name_text, state_text};
 ghost use Rattle.zic_dump.specs.Years.{IsListed};
 ghost use Rattle.zic_dump.specs.code.Written.{IsWritten};
 
@@ -155,7 +155,7 @@ fn push_state(alloc: Global, text: &mut Vec<u8>, state: &State<'_>) -> Result<()
     requires { unsigned_abs state.now.offset ≤ FARTHEST_FILE_OFFSET }
     ensures { OnOk result (text.new.items ≡ text.old.items ++ state_text (shown state.now)) }
 {
-    let offset = offset_text(alloc, state)?;
+    let offset = zdump_offset(alloc, state)?;
     text.extend_from_slice(&offset)?;
     let same = offset.as_slice() == state.name;
     if !same {
@@ -172,9 +172,9 @@ fn push_state(alloc: Global, text: &mut Vec<u8>, state: &State<'_>) -> Result<()
 }
 
 /// Returns an offset.
-fn offset_text(alloc: Global, state: &State<'_>) -> Result<Vec<u8>, AllocError>
+fn zdump_offset(alloc: Global, state: &State<'_>) -> Result<Vec<u8>, AllocError>
     requires { unsigned_abs state.now.offset ≤ FARTHEST_FILE_OFFSET }
-    ensures { IfOk result (λ text. text.items ≡ offset_text (shown state.now)) }
+    ensures { IfOk result (λ text. text.items ≡ zdump_offset (shown state.now)) }
 {
     let sign = if state.offset < 0 || is_placeholder(state) {
         b'-'

@@ -12,7 +12,7 @@ abbrev pub section : List ℕ → List ℕ → List ℕ
 section title [] = []
 section title (byte ∷ lines) = codes "\n" ++ title ++ codes ":\n" ++ (byte ∷ lines)
 
--- what is told of an error
+-- the parts of the text about an error
 abbrev pub explanation_text : Entry → List ℕ
 explanation_text entry =
     entry.name.now ++ codes "\n\n" ++ entry.says.now

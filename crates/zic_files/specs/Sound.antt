@@ -1,4 +1,4 @@
--- What holds of the files of every source; the layers above cite these names.
+-- Sound files, as those of every source are; the layers above cite these names.
 use Rattle.std.specs.Prelude.{◌≡◌, ◌≢◌, ℤ, true, List, [], Option, All, AllPairs, IsSomeAnd}
 use Rattle.zic_base.specs.State.{Shown}
 use Rattle.zic_words.specs.Name.{is_name}

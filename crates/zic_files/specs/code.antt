@@ -1,3 +1,3 @@
--- What only the code and its proofs use. No contract of a public function cites it.
+-- Definitions for the code of this crate and for proofs. No contract of an exported function cites them.
 pub mod NameIndex
 pub mod Kept

@@ -8,7 +8,7 @@ use Rattle.zic_lines.specs.declared.rule.Rule.{Rule}
 use Rattle.zic_lines.specs.declared.zone_line.ZoneLine.{ZoneLine}
 use Rattle.zic_source.specs.Sound.{IsSoundRule}
 use Rattle.zic_base.proofs.Elements.{get_contained, all_got}
-use Rattle.zic_occurrences.specs.Laws.{IsLastNotAfter}
+use Rattle.zic_occurrences.specs.Laws.{IsLastOccurrence}
 use Rattle.zic_occurrences.specs.Occurrence.{RuleSet, Occurrence, IsOccurrence, nominal, nominal_second, year_second}
 use Rattle.zic_occurrences.specs.Order.{IsPredecessor}
 use Rattle.zic_occurrences.proofs.Bounds.{two_years, rises_with_year}
@@ -95,7 +95,7 @@ module _ (set : RuleSet) (standard last : ℤ) (given : IsNamedTo set standard l
   -- ---- where they alternate, between two of the one lies the other
 
   module _ (alternate : Alternate set last) where
-    late_between : (o : Occurrence) (u : ℤ) → IsLastNotAfter set standard (year_second (last +ℤ pos 3) -ℤ pos 1) o u → last <ℤ o.year
+    late_between : (o : Occurrence) (u : ℤ) → IsLastOccurrence set standard (year_second (last +ℤ pos 3) -ℤ pos 1) o u → last <ℤ o.year
         → (year : ℤ) → (o.year +ℤ pos 2) ≤ℤ year → LiesBetween two.starts.0.moment two.stops.0.moment year
     late_between o u before_end after year late =
         let next = year +ℤ pos 1 in

@@ -4,7 +4,7 @@ use Rattle.std.specs.Prelude.{ℤ, pos, ◌+ℤ◌, ◌-ℤ◌, ◌<ℤ◌, ◌�
 use Rattle.std.proofs.lemmas.Int.{ints}
 use Rattle.zic_base.specs.State.{Shown}
 use Rattle.zic_lines.specs.declared.rules.Rules.{Rules}
-use Rattle.zic_occurrences.specs.Laws.{IsLastNotAfter}
+use Rattle.zic_occurrences.specs.Laws.{IsLastOccurrence}
 use Rattle.zic_occurrences.specs.Occurrence.{RuleSet, Occurrence, year_second}
 use Rattle.zic_states.specs.Change.{IsAfterChanges}
 use Rattle.zic_states.specs.End.{IsEnd, IsEndBy}
@@ -86,7 +86,7 @@ module _ (zone : Zone) (orderly : IsOrderly zone) (standard year : ℤ) (tails :
     after : by.last <ℤ o.year
     after = let from = at_end.in_years in let next = by.after_last in omega (arith, ints)
 
-    before_end : IsLastNotAfter set standard (end -ℤ pos 1) o u
+    before_end : IsLastOccurrence set standard (end -ℤ pos 1) o u
     before_end = at_end.current
 
     -- which is a change, so what comes after all changes comes after it
@@ -157,7 +157,7 @@ module _ (zone : Zone) (orderly : IsOrderly zone) (standard year : ℤ) (tails :
 
     comes_again : Repeats zone u
     comes_again =
-        let at_line = subst (λ (x : ℤ). IsLastNotAfter set x (end -ℤ pos 1) o u) by.of_line before_end in
+        let at_line = subst (λ (x : ℤ). IsLastOccurrence set x (end -ℤ pos 1) o u) by.of_line before_end in
         repeats_for_ever.from_last zone orderly by.number by.line by.name by.last by.last_set has_continuing o u at_line
 
     goes_on_from : GoesOn zone string

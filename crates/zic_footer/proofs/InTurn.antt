@@ -8,7 +8,7 @@ use Rattle.zic_lines.specs.declared.rule.Rule.{Rule}
 use Rattle.zic_lines.specs.declared.zone_line.ZoneLine.{ZoneLine}
 use Rattle.zic_source.specs.Sound.{IsSoundRule}
 use Rattle.zic_base.proofs.Elements.{get_contained}
-use Rattle.zic_occurrences.specs.Laws.{IsLastNotAfter}
+use Rattle.zic_occurrences.specs.Laws.{IsLastOccurrence}
 use Rattle.zic_occurrences.specs.Occurrence.{RuleSet, Occurrence, IsOccurrence, nominal, nominal_second, year_second}
 use Rattle.zic_occurrences.specs.Order.{IsInstant, IsInOrder, instant_by}
 use Rattle.zic_occurrences.proofs.Bounds.{years_apart, two_years, instant_from, instant_to, year_second-period}
@@ -29,7 +29,7 @@ same_edge standard rule other year moment saving m s =
     λ k. instant_by (m k).at.form standard (s k).seconds (nominal_second year (m k))
 
 module _ (set : RuleSet) (standard last : ℤ) (given : IsNamedTo set standard last) (alternate : Alternate set last) (o : Occurrence) (u : ℤ)
-    (before_end : IsLastNotAfter set standard (year_second (last +ℤ pos 3) -ℤ pos 1) o u) (after : last <ℤ o.year) where
+    (before_end : IsLastOccurrence set standard (year_second (last +ℤ pos 3) -ℤ pos 1) o u) (after : last <ℤ o.year) where
   sound : All IsSoundRule set.rules
   sound = given.ordered.sound
 
@@ -40,7 +40,7 @@ module _ (set : RuleSet) (standard last : ℤ) (given : IsNamedTo set standard l
   follows q is le = follows_another set standard last given alternate o u before_end after q is le
 
   -- what is current from then on isn't earlier
-  pub not_earlier : (t : ℤ) (q : Occurrence) (v : ℤ) → u ≤ℤ t → IsLastNotAfter set standard t q v → nominal o ≤ℤ nominal q
+  pub not_earlier : (t : ℤ) (q : Occurrence) (v : ℤ) → u ≤ℤ t → IsLastOccurrence set standard t q v → nominal o ≤ℤ nominal q
   not_earlier t q v le current = by_lt_z (nominal q) (nominal o)
       (λ lt.
       let rises = instants_rise set standard q o v u sound order current.is before_end.is current.instant before_end.instant lt in
@@ -98,7 +98,7 @@ module _ (set : RuleSet) (standard last : ℤ) (given : IsNamedTo set standard l
 
     -- An edge that isn't after t comes before the current occurrence, where that is of the other rule.
     pub edge_before : ((a b : ℤ) → a <ℤ b → edge standard one other a <ℤ edge standard one other b)
-        → (t : ℤ) (q : Occurrence) (v : ℤ) → (u +ℤ pos 12_622_780_800) ≤ℤ t → IsLastNotAfter set standard t q v → q.number ≡ two.stop
+        → (t : ℤ) (q : Occurrence) (v : ℤ) → (u +ℤ pos 12_622_780_800) ≤ℤ t → IsLastOccurrence set standard t q v → q.number ≡ two.stop
         → (year : ℤ) → edge standard one other year ≤ℤ t → edge standard one other year <ℤ v
     edge_before rises t q v late current is_other year le =
         let first = soon in
@@ -123,6 +123,6 @@ module _ (set : RuleSet) (standard last : ℤ) (given : IsNamedTo set standard l
         absurd (two.differ (same.number ∙ is_other)))))
 
     -- and the current occurrence comes at the edge, where it is of the one rule
-    pub current_at : (t : ℤ) (q : Occurrence) (v : ℤ) → u ≤ℤ t → IsLastNotAfter set standard t q v → q.number ≡ two.start → v ≡ edge standard one other q.year
+    pub current_at : (t : ℤ) (q : Occurrence) (v : ℤ) → u ≤ℤ t → IsLastOccurrence set standard t q v → q.number ≡ two.start → v ≡ edge standard one other q.year
     current_at t q v le current e =
         one_instant set standard q v (edge standard one other q.year) order.differ current.instant (at_edge q current.is (not_earlier t q v le current) e)

@@ -16,7 +16,7 @@ use Rattle.zic_states.proofs.TailKept.{given}
 use Rattle.zic_states.proofs.TailSet.{IsNamedTo}
 use Rattle.zic_words.specs.Limits.{IsWithinLimits}
 use Rattle.zic_rules.specs.Tail.{IsConstantTail, IsRulesTail}
-use Rattle.zic_rules.specs.Timeline.{IsWhole}
+use Rattle.zic_rules.specs.Timeline.{IsWholeZone}
 use Rattle.zic_rules.specs.declared.tail.TailRule.{TailRule}
 use Rattle.zic_rules.proofs.Limits.{shows_within_limits}
 use Rattle.zic_posix.specs.Footer.{TzString, constant}
@@ -45,7 +45,7 @@ if_refusal P Q step (Err e) h = if_some P Q step (fault_of e) h
 
 -- ---- one state for ever
 
-module _ (zone : Zone) (whole : IsWhole zone) (state : Shown) (tail : IsConstantTail zone state) where
+module _ (zone : Zone) (whole : IsWholeZone zone) (state : Shown) (tail : IsConstantTail zone state) where
   for_ever : IsForEver zone state
   for_ever =
       let (end, is_end) = whole.has_end in
@@ -66,7 +66,7 @@ module _ (zone : Zone) (whole : IsWhole zone) (state : Shown) (tail : IsConstant
 
 -- ---- rules that go on for ever
 
-module _ (zone : Zone) (whole : IsWhole zone) (standard year : ℤ) (tails : List TailRule) (tail : IsRulesTail zone standard year tails) where
+module _ (zone : Zone) (whole : IsWholeZone zone) (standard year : ℤ) (tails : List TailRule) (tail : IsRulesTail zone standard year tails) where
   pub tails_are_sound : AreSoundTails standard tails
   tails_are_sound = sound_tails zone whole.orderly (whole.sound kind.OffsetRange) standard year tails tail.by
 

@@ -1,2 +1,2 @@
--- Definitions that the proofs of this crate's code use, and no contract of another crate.
+-- Definitions for the code of this crate and for proofs. No contract of an exported function cites them.
 pub mod Turns

@@ -1,4 +1,4 @@
--- What one line says: zic(8), FILES. A Rule line says a rule, a Zone line a zone's name and its first line, a continuation line
+-- The content of one line: zic(8), FILES. A Rule line says a rule, a Zone line a zone's name and its first line, a continuation line
 -- one more line of the zone, and a Link line a link.
 use Rattle.std.specs.Prelude.{is_some, ℕ, Bool, true, false, List, [], ◌∷◌}
 use Rattle.zic_lines.specs.declared.rule.Rule.{Rule}

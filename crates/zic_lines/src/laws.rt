@@ -2,12 +2,12 @@
 //! `proofs/` that prove them.
 ghost use Rattle.zic_lines.specs.Laws.{SaysWherePassing, SaysOneThing};
 
-/// A line says something just where no check fails.
+/// States that a line says something just where no check fails.
 pub fn lines_say_where_checks_pass()
     ensures { SaysWherePassing }
 {}
 
-/// A line says at most one thing.
+/// States that a line says at most one thing.
 pub fn lines_say_one_thing()
     ensures { SaysOneThing }
 {}

@@ -5,7 +5,7 @@ use borrow.Author.Differences.{up, down}
 use Rattle.zic_source.specs.Sound.{IsSoundRule, IsWithinDay}
 use Rattle.zic_occurrences.specs.Occurrence.{RuleSet, Occurrence, IsOccurrence, nominal, year_second}
 use Rattle.zic_occurrences.specs.Order.{IsSavedBefore, IsInstant, IsInOrder, IsOutOfOrder}
-use Rattle.zic_occurrences.specs.Laws.{IsLastNotAfter}
+use Rattle.zic_occurrences.specs.Laws.{IsLastOccurrence}
 use Rattle.zic_occurrences.proofs.Bounds.{two_years, years_apart, instant_from}
 use Rattle.zic_occurrences.proofs.Same.{same_occurrence, one_instant}
 use Rattle.zic_occurrences.proofs.Search.{IsSearchable, greatest_or_none}
@@ -77,7 +77,7 @@ comes_after set offset t q v end sound within is at high le =
     let same : q.year ≡ pos end = omega (arith, ints) in
     absurd (omega (arith, ints, rw same at (instant_from set offset q v sound within is at)))))
 
-pub last_not_after : (set : RuleSet) (offset t : ℤ) → All IsSoundRule set.rules → IsWithinDay offset → IsInOrder set offset → ((o : Occurrence) × (u : ℤ) × IsLastNotAfter set offset t o u) ⊎ ((q : Occurrence) (v : ℤ) → IsOccurrence set q → IsInstant set offset q v → t <ℤ v)
+pub last_not_after : (set : RuleSet) (offset t : ℤ) → All IsSoundRule set.rules → IsWithinDay offset → IsInOrder set offset → ((o : Occurrence) × (u : ℤ) × IsLastOccurrence set offset t o u) ⊎ ((q : Occurrence) (v : ℤ) → IsOccurrence set q → IsInstant set offset q v → t <ℤ v)
 last_not_after set offset t sound within order =
     let end = up t + down (year_second (pos 0)) + 21 * 86_400 + 1 in
     let high : (t +ℤ pos (21 * 86_400)) <ℤ year_second (pos end) = omega (arith, ints, year_reaches end) in

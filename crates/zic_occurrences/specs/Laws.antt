@@ -42,7 +42,7 @@ abbrev pub NeverBoth : Type 0
 NeverBoth = (set : RuleSet) (offset : ℤ) → IsInOrder set offset → IsOutOfOrder set offset → ⊥
 
 -- o is the last occurrence whose instant isn't after t, and this instant is u
-pub record IsLastNotAfter (set : RuleSet) (offset t : ℤ) (o : Occurrence) (u : ℤ) : Type 0 where
+pub record IsLastOccurrence (set : RuleSet) (offset t : ℤ) (o : Occurrence) (u : ℤ) : Type 0 where
   pub is : IsOccurrence set o
   pub instant : IsInstant set offset o u
   pub not_after : u ≤ℤ t
@@ -52,5 +52,5 @@ pub record IsLastNotAfter (set : RuleSet) (offset t : ℤ) (o : Occurrence) (u :
 abbrev pub LastNotAfter : Type 0
 LastNotAfter =
     (set : RuleSet) (offset t : ℤ) → All IsSoundRule set.rules → IsWithinDay offset → IsInOrder set offset
-    → ((o : Occurrence) × (u : ℤ) × IsLastNotAfter set offset t o u)
+    → ((o : Occurrence) × (u : ℤ) × IsLastOccurrence set offset t o u)
     ⊎ ((q : Occurrence) (v : ℤ) → IsOccurrence set q → IsInstant set offset q v → t <ℤ v)

@@ -15,14 +15,14 @@ pub record IsPredecessor (set : RuleSet) (o : Occurrence) (p : Occurrence) : Typ
 abbrev pub IsFirst : RuleSet → Occurrence → Type 0
 IsFirst set o = (q : Occurrence) → IsOccurrence set q → nominal o ≤ℤ nominal q
 
--- what was saved just before o: the saving of the occurrence before it, and 0 before the first
+-- the saving just before o: that of the occurrence before it, and 0 before the first
 abbrev pub IsSavedBefore : RuleSet → Occurrence → ℤ → Type 0
 IsSavedBefore set o saved =
     (IsFirst set o × (saved ≡ pos 0))
     ⊎ ((p : Occurrence) × IsPredecessor set o p × (saved ≡ p.rule.saving.seconds))
 
--- the instant at which a clock of this form shows a nominal second, where standard time is so many seconds east of UT and so
--- many seconds are saved
+-- the instant at which a clock of this form shows a nominal second, where standard time is this number of seconds east of UT and
+-- this saving holds
 abbrev pub instant_by : ClockForm → ℤ → ℤ → ℤ → ℤ
 instant_by Universal offset saved second = second
 instant_by Standard offset saved second = second -ℤ offset

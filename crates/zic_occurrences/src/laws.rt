@@ -2,32 +2,32 @@
 //! lemmas in `proofs/` that prove them.
 ghost use Rattle.zic_occurrences.specs.Laws.{StaysNearYear, RepeatAfterLast, EachHasOneInstant, InstantsRise, NeverBoth, LastNotAfter};
 
-/// An occurrence's instant lies within 21 days outside its year.
+/// States that an occurrence's instant lies within 21 days outside its year.
 pub fn instants_stay_near_year()
     ensures { StaysNearYear }
 {}
 
-/// After the last year that a set names its occurrences come again after 400 years.
+/// States that after the last year that a set names its occurrences come again after 400 years.
 pub fn instants_repeat_after_last()
     ensures { RepeatAfterLast }
 {}
 
-/// An occurrence has exactly one instant.
+/// States that an occurrence has exactly one instant.
 pub fn each_has_one_instant()
     ensures { EachHasOneInstant }
 {}
 
-/// Of two occurrences the one of the later nominal second has the later instant.
+/// States that of two occurrences the one of the later nominal second has the later instant.
 pub fn instants_rise()
     ensures { InstantsRise }
 {}
 
-/// A set in order isn't out of order.
+/// States that a set in order isn't out of order.
 pub fn order_excludes_disorder()
     ensures { NeverBoth }
 {}
 
-/// Each instant has a last occurrence not after it, or comes before all.
+/// States that each instant has a last occurrence not after it, or comes before all.
 pub fn last_not_after_is_found()
     ensures { LastNotAfter }
 {}

@@ -5,7 +5,8 @@ use Rattle.std.proofs.lemmas.Bool.Decides.{nat_tests}
 use Rattle.zic_pieces.specs.declared.event.Event.{Event}
 use Rattle.zic_pieces.specs.declared.event.Event.TheVariants.{Drew, Reported, Glanced}
 use Rattle.zic_pieces.specs.Events.{draws, drawn_by}
-use Rattle.zic_pieces.specs.Given.{given, given_by, given_from, is_whole, is_whole_from, asks, answers}
+use Rattle.zic_pieces.specs.Given.{given, given_by, given_from}
+use Rattle.zic_pieces.specs.code.Whole.{is_whole, is_whole_from, asks, answers}
 
 pub and_left : (a b : Bool) → a && b ≡ true → a ≡ true
 and_left true b e = refl

@@ -11,7 +11,8 @@ use Rattle.zic_pieces.specs.declared.event.Event.{Event}
 use Rattle.zic_pieces.specs.declared.event.Event.TheVariants.{Drew, Reported, Glanced}
 use Rattle.zic_pieces.specs.declared.event.Known.{Known}
 use Rattle.zic_pieces.specs.Events.{Has, draws, past, weigh}
-use Rattle.zic_pieces.specs.Core.{first, drew, reported, glanced, left, right, both, spent, total, parts_if, SomeHas, Stands, IsCore}
+use Rattle.zic_pieces.specs.Core.{first, drew, reported, glanced, left, right, both, spent}
+use Rattle.zic_pieces.specs.code.Core.{total, parts_if, SomeHas, Stands, IsCore}
 use Rattle.zic_pieces.proofs.Totals.{total_set, total_snoc, weigh_draws, past_append}
 use Rattle.zic_pieces.proofs.Members.{there as there_is, has_either, has_none, has_front, has_back, after_set, still_set, after_gain, still_gain, new_gain, after_snoc, still_snoc}
 

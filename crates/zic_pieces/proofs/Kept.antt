@@ -4,7 +4,8 @@ use Rattle.std.proofs.lemmas.Bool.Decides.{nat_tests}
 use mathlib.Core.Option.{some-ne-none}
 use Rattle.zic_pieces.specs.declared.event.Known.{Known}
 use Rattle.zic_pieces.specs.Events.{past}
-use Rattle.zic_pieces.specs.Given.{given, is_whole}
+use Rattle.zic_pieces.specs.Given.{given}
+use Rattle.zic_pieces.specs.code.Whole.{is_whole}
 use Rattle.zic_pieces.specs.Core.{drew, reported, glanced, left, right, both}
 use Rattle.zic_pieces.specs.Passes.{IsSound}
 use Rattle.zic_pieces.specs.code.Rule.{Sat, IsKept}

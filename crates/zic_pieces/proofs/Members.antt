@@ -8,7 +8,7 @@ use Rattle.atomic_table.proofs.Lists.{at_set, at_snoc, at_longer, set_else, set_
 use Rattle.zic_pieces.specs.declared.event.Event.{Event}
 use Rattle.zic_pieces.specs.declared.event.Known.{Known}
 use Rattle.zic_pieces.specs.Events.{Has}
-use Rattle.zic_pieces.specs.Core.{SomeHas}
+use Rattle.zic_pieces.specs.code.Core.{SomeHas}
 
 pub there : {A : Type 0} (l : List A) (i : ℕ) (a : A) → get_elem? l i ≡ some a → i < length l
 there [] i a e = absurd (some-ne-none a (sym e))

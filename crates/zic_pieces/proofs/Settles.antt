@@ -9,8 +9,9 @@ use Rattle.zic_pieces.specs.declared.event.Event.{Event}
 use Rattle.zic_pieces.specs.declared.event.Event.TheVariants.{Drew, Reported, Glanced}
 use Rattle.zic_pieces.specs.declared.event.Known.{Known}
 use Rattle.zic_pieces.specs.Events.{Has, draws, drawn_by, weigh, times, one_at}
-use Rattle.zic_pieces.specs.Given.{given, given_by, given_from, skipped, skipped_by, skipped_from, is_whole, is_whole_from, asks, answers}
-use Rattle.zic_pieces.specs.Core.{total, SomeHas, IsCore}
+use Rattle.zic_pieces.specs.Given.{given, given_by, given_from, skipped, skipped_by, skipped_from}
+use Rattle.zic_pieces.specs.code.Whole.{is_whole, is_whole_from, asks, answers}
+use Rattle.zic_pieces.specs.code.Core.{total, SomeHas, IsCore}
 use Rattle.atomic_table.specs.Table.{Final, Seen}
 use Rattle.zic_pieces.specs.code.Rule.{Shows}
 use Rattle.zic_pieces.specs.Settlement.{IsEachBelow, IsLeast, FindReports}

@@ -7,7 +7,8 @@ use Rattle.atomic_table.specs.Table.{State, step, keeps, Allows, Splits, Joins}
 use Rattle.atomic_table.proofs.Lists.{set_here, set_again}
 use Rattle.zic_pieces.specs.declared.event.Known.{Known}
 use Rattle.zic_pieces.specs.Events.{past}
-use Rattle.zic_pieces.specs.Core.{drew, reported, glanced, left, right, both, spent, IsCore}
+use Rattle.zic_pieces.specs.Core.{drew, reported, glanced, left, right, both, spent}
+use Rattle.zic_pieces.specs.code.Core.{IsCore}
 use Rattle.zic_pieces.specs.Passes.{IsSound}
 use Rattle.zic_pieces.specs.code.Rule.{Shows, Sat, Drawn, Told, Looked, Learned}
 use Rattle.zic_pieces.proofs.Keeps.{draw_keeps, report_keeps, glance_keeps, split_keeps, join_keeps}

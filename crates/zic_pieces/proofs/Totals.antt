@@ -5,7 +5,7 @@ use lib.ListN.{get_elem?}
 use Rattle.zic_pieces.specs.declared.event.Event.{Event}
 use Rattle.zic_pieces.specs.declared.event.Known.{Known}
 use Rattle.zic_pieces.specs.Events.{draws, drawn_by, past, weigh}
-use Rattle.zic_pieces.specs.Core.{total}
+use Rattle.zic_pieces.specs.code.Core.{total}
 
 -- one pass is changed
 pub total_set : (f : Known → ℕ) (vs : List Known) (id : ℕ) (v w : Known) → get_elem? vs id ≡ some v → total f (set vs id w) + f v ≡ total f vs + f w

@@ -1,4 +1,4 @@
--- What the calls of claims answer.
+-- The answers of the calls of claims.
 use Rattle.std.specs.Prelude.{◌≡◌, ℕ, ◌<◌, ◌≤◌, ◌⊎◌, true, false}
 use Rattle.zic_pieces.specs.declared.event.Known.{Known}
 use Rattle.zic_pieces.specs.declared.claim.Claim.{Claim}
@@ -17,7 +17,7 @@ Draws i v = (v.ended ≡ false) × (past v.events ≤ i)
 abbrev pub DrawsThenGlances : ℕ → ℕ → Known → Known → Type 0
 DrawsThenGlances i g v w = Draws i v × (i < v.pieces) × (g ≤ v.seen) × (w ≡ glanced g (drew i v))
 
--- what a claim answers, and the pass after it
+-- the answer of a claim, and the pass after it
 abbrev pub Answers : Known → Claim → Known → Type 0
 Answers v (Do i) w = (g : ℕ) × DrawsThenGlances i g v w × (i ≤ g)
 Answers v (Skip i) w = (g : ℕ) × DrawsThenGlances i g v w × (g < i)

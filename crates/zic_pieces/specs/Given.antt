@@ -1,5 +1,5 @@
 -- Which numbers were given, and which were skipped.
-use Rattle.std.specs.Prelude.{ℕ, Bool, true, false, not, ◌&&◌, ◌||◌, nat_lt, nat_le, List, [], ◌∷◌, ◌++◌, if◌then◌else◌}
+use Rattle.std.specs.Prelude.{ℕ, ◌&&◌, nat_lt, nat_le, List, [], ◌∷◌, ◌++◌, if◌then◌else◌}
 use Rattle.zic_pieces.specs.declared.event.Event.{Event}
 use Rattle.zic_pieces.specs.declared.event.Event.TheVariants.{Drew, Reported, Glanced}
 
@@ -37,23 +37,3 @@ skipped_from n e (f ∷ fs) = skipped_by n e f ++ skipped_from n f fs
 abbrev pub skipped : ℕ → List Event → List ℕ
 skipped n [] = []
 skipped n (e ∷ es) = skipped_from n e es
-
--- a draw below n asks for a glance
-abbrev pub asks : ℕ → Event → Bool
-asks n (Drew i seen) = nat_lt i n
-asks n (Reported i) = false
-asks n (Glanced least past) = false
-
-abbrev pub answers : Event → Bool
-answers (Drew i seen) = false
-answers (Reported i) = false
-answers (Glanced least past) = true
-
-abbrev pub is_whole_from : ℕ → Event → List Event → Bool
-is_whole_from n e [] = not (asks n e)
-is_whole_from n e (f ∷ fs) = (not (asks n e) || answers f) && is_whole_from n f fs
-
--- a glance stands right after each draw below n
-abbrev pub is_whole : ℕ → List Event → Bool
-is_whole n [] = true
-is_whole n (e ∷ es) = is_whole_from n e es

@@ -1,4 +1,4 @@
--- What contracts see of claims and of their passes.
+-- Claims and their passes, as contracts see them.
 use Rattle.std.specs.Prelude.{◌≡◌, ℕ, ◌+◌, ◌<◌, ◌≤◌, length}
 use Rattle.atomic_table.specs.Seated.{TableId}
 use Rattle.zic_pieces.specs.declared.event.Event.TheVariants.{Drew, Glanced}
@@ -19,7 +19,7 @@ pub record Held : Type 0 where
 abbrev pub IsOf : Shared → Held → Type 0
 IsOf claims pass = (pass.table ≡ claims.table) × (pass.known.pieces ≡ claims.pieces)
 
--- What holds of every pass at every moment. Since two passes can be joined, it also says what
+-- A sound pass, as every pass is at every moment. Since two passes can be joined, it also says what
 -- holds between them
 pub record IsSound (v : Known) : Type 0 where
   -- no number was drawn twice

@@ -1,4 +1,4 @@
--- What is known once all passes are one.
+-- Facts that are known once all passes are one.
 use Rattle.std.specs.Prelude.{◌≡◌, ℕ, ◌<◌, ◌≤◌, ◌⊎◌, List}
 use Rattle.zic_pieces.specs.declared.event.Event.{Event}
 use Rattle.zic_pieces.specs.declared.event.Event.TheVariants.{Glanced, Reported}

@@ -1,4 +1,4 @@
--- What a task comes to: a value or a fault for each piece.
+-- The outcome of a task: a value or a fault for each piece.
 use Rattle.std.specs.Prelude.{◌≡◌, ℕ, ◌<◌, List, length, Some, None, Result, Ok, Err}
 use mathlib.Core.Option.{some}
 use lib.ListN.{get_elem?}

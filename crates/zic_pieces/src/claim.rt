@@ -1,8 +1,8 @@
-//! What the calls of claims answer.
+//! The answers of the calls of claims.
 
 use crate::pass::Pass;
 
-/// What a claim gave.
+/// The answer of a claim.
 #[derive(Clone, Copy, PartialEq, Eq, Debug, Drop)]
 pub enum Claim {
     /// This piece is the caller's, and no number below it was known to be reported.
@@ -22,7 +22,7 @@ pub enum Split {
     Full(Pass),
 }
 
-/// What all passes together did.
+/// The work of all passes together.
 #[derive(Clone, Copy, PartialEq, Eq, Debug, Drop)]
 pub struct Settled {
     /// The least number reported, or the number of pieces if none was.

@@ -1,4 +1,4 @@
-//! What a pass knows, for contracts alone: no value of these types is made.
+//! The knowledge of a pass, for contracts alone: no value of these types is made.
 
 use std::collections::LinkedList;
 
@@ -13,7 +13,7 @@ pub enum Event {
     Glanced(u64, u64),
 }
 
-/// What a pass knows.
+/// The knowledge of a pass.
 pub struct Known {
     /// The number of pieces.
     pub pieces: u64,

@@ -26,7 +26,7 @@ pub trait Task {
     // the number of pieces
     ghost count: { Self → ℕ };
 
-    // what each piece may come to: a value, or a fault
+    // the outcomes that each piece may have: a value, or a fault
     ghost outcome: { Self → ℕ → Result Self.Out Self.Fault → Type 0 };
 
     /// Returns the number of pieces.

@@ -1,4 +1,4 @@
-//! What one worker does.
+//! The work of one worker.
 
 ghost use Rattle.std.specs.Prelude.{◌≡◌, ◌<◌, ◌++◌, [], ◌∷◌, Some, true, IfOk, IfErr, MatchResult, Ok};
 ghost use Rattle.zic_pieces.specs.Passes.{IsOf};
@@ -15,7 +15,7 @@ use std::alloc::Global;
 /// A piece at which a worker stopped, and why.
 pub(crate) type Halt<F> = Option<(u64, PieceStop<F>)>;
 
-/// What a worker did: its pass, the values of its pieces, each with its number, and the least
+/// The work of a worker: its pass, the values of its pieces, each with its number, and the least
 /// piece that stopped it.
 #[derive(Drop)]
 pub(crate) struct Worked<O, F> {

@@ -1,4 +1,4 @@
-//! What the words and numbers of a call say, how work is cut and shared, and why a run ends early.
+//! The words and numbers of a call, how work is cut and shared, and why a run ends early.
 //! The tests stand in `program_tests`.
 #![tactic(auto)]
 

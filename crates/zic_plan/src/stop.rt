@@ -5,7 +5,7 @@ ghost use Rattle.std.specs.Prelude.{◌≡◌};
 use std::alloc::AllocError;
 use zic_base::{Fault, Stop};
 
-/// What is wrong with a row. The number of each kind is fixed.
+/// The fault of a row. The number of each kind is fixed.
 #[derive(Clone, Copy, Debug, PartialEq, Eq)]
 pub enum RowKind {
     /// A record hasn't two fields.

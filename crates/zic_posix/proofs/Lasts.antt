@@ -7,12 +7,12 @@ use Rattle.zic_calendar.proofs.YearLemmas.{year_start-later, year_start-1970}
 use Rattle.zic_calendar.proofs.DateLemmas.{day_number-rises, day_number-period, days_of_months-zero, first_has, date_exists}
 use Rattle.zic_posix.specs.declared.footer.Edge.{Edge}
 use Rattle.zic_posix.specs.Grammar.{IsEdge}
-use Rattle.zic_posix.specs.Laws.{year_second, IsInYear, IsLastNotAfter, HasLastNear}
+use Rattle.zic_posix.specs.Laws.{year_second, IsInYear, IsLastEdge, HasLastNear}
 use Rattle.zic_posix.specs.code.State.{instant_in}
 use Rattle.zic_posix.proofs.Edges.{instant_in-near, instant_in-no_later, years_apart}
 
 -- the last is that of the year before the first after t
-pub last_of : (edge : Edge) (offset t year next : ℤ) → IsEdge edge → next ≡ year +ℤ pos 1 → instant_in edge offset year ≤ℤ t → t <ℤ instant_in edge offset next → IsLastNotAfter (instant_in edge offset) t year
+pub last_of : (edge : Edge) (offset t year next : ℤ) → IsEdge edge → next ≡ year +ℤ pos 1 → instant_in edge offset year ≤ℤ t → t <ℤ instant_in edge offset next → IsLastEdge (instant_in edge offset) t year
 last_of edge offset t year next is e here there =
     record {
       not_after = here;

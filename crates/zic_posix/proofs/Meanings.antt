@@ -9,7 +9,7 @@ use Rattle.zic_posix.specs.Footer.{TzString}
 use Rattle.zic_posix.specs.Grammar.{IsTzString}
 use Rattle.zic_posix.specs.Instants.{Includes, AreBetween}
 use Rattle.zic_posix.specs.Meaning.{start_in, stop_in, IsDaylightAt, IsStandardAt, standard_state, daylight_state, MeansBy, Means, IsEdgeInstant, HasEdgeAt, MeansThroughout}
-use Rattle.zic_posix.specs.Laws.{IsLastNotAfter}
+use Rattle.zic_posix.specs.Laws.{IsLastEdge}
 use Rattle.zic_posix.specs.code.State.{IsLastInstant}
 use Rattle.zic_posix.proofs.Edges.{daylight_is, offset_within, daylight_within}
 use Rattle.zic_posix.proofs.Lasts.{last_near, year_exists}
@@ -32,11 +32,11 @@ pub means_only : (f : TzString) (t : ℤ) (a b : Shown) → Means f t a → Mean
 means_only f t a b p q = only_by f f.dst t a b p q
 
 -- the last start and the last end decide
-daylight_from : (standard : ℤ) (dst : Dst) (t a b : ℤ) → IsLastNotAfter (start_in standard dst) t a → IsLastNotAfter (stop_in dst) t b → stop_in dst b ≤ℤ start_in standard dst a → IsDaylightAt standard dst t
+daylight_from : (standard : ℤ) (dst : Dst) (t a b : ℤ) → IsLastEdge (start_in standard dst) t a → IsLastEdge (stop_in dst) t b → stop_in dst b ≤ℤ start_in standard dst a → IsDaylightAt standard dst t
 daylight_from standard dst t a b start stop h =
     record { year = a; started = start.not_after; last = λ other early. omega (arith, ints, stop.last other early) }
 
-standard_from : (standard : ℤ) (dst : Dst) (t a b : ℤ) → IsLastNotAfter (start_in standard dst) t a → IsLastNotAfter (stop_in dst) t b → start_in standard dst a <ℤ stop_in dst b → IsStandardAt standard dst t
+standard_from : (standard : ℤ) (dst : Dst) (t a b : ℤ) → IsLastEdge (start_in standard dst) t a → IsLastEdge (stop_in dst) t b → start_in standard dst a <ℤ stop_in dst b → IsStandardAt standard dst t
 standard_from standard dst t a b start stop h =
     record { year = b; stopped = stop.not_after; last = λ other early. omega (arith, ints, start.last other early) }
 

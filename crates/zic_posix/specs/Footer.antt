@@ -1,4 +1,4 @@
--- What a POSIX TZ string says: POSIX.1, "Environment Variables", TZ; RFC 9636, 3.3.
+-- The content of a POSIX TZ string: POSIX.1, "Environment Variables", TZ; RFC 9636, 3.3.
 use Rattle.std.specs.Prelude.{ℕ, ℤ, pos, Bool, ◌&&◌, int_le, if◌then◌else◌, List, Option, Some, None}
 use Rattle.zic_posix.specs.declared.footer.Dst.{Dst}
 use Rattle.zic_posix.specs.declared.footer.Edge.{Edge}

@@ -139,7 +139,7 @@ pub record IsDaylight (standard : ℤ) (dst : Dst) : Type 0 where
   pub start : IsEdge dst.start
   pub stop : IsEdge dst.stop
 
--- what some text of version 3 spells
+-- some text of version 3 spells this
 pub record IsTzString (f : TzString) : Type 0 where
   pub std : IsName f.std
   pub offset : IsOffset f.offset

@@ -48,7 +48,7 @@ pub record IsInYear (year t : ℤ) : Type 0 where
   pub to : t <ℤ year_second (year +ℤ pos 1)
 
 -- of an edge's instants in all years this year's is the last that isn't after t
-pub record IsLastNotAfter (edge : ℤ → ℤ) (t year : ℤ) : Type 0 where
+pub record IsLastEdge (edge : ℤ → ℤ) (t year : ℤ) : Type 0 where
   pub not_after : edge year ≤ℤ t
   pub last : (other : ℤ) → edge other ≤ℤ t → edge other ≤ℤ edge year
 
@@ -57,7 +57,7 @@ pub record HasLastNear (edge : ℤ → ℤ) (t year : ℤ) : Type 0 where
   pub found : ℤ
   pub from : (year -ℤ pos 2) ≤ℤ found
   pub to : found ≤ℤ (year +ℤ pos 1)
-  pub is_last : IsLastNotAfter edge t found
+  pub is_last : IsLastEdge edge t found
 
 -- At each instant of a year the last start and the last end that aren't after it are of years near that year.
 pub record LastEdgesAreNear : Type 0 where

@@ -1,5 +1,5 @@
--- What a POSIX TZ string means at every instant: POSIX.1, "Environment Variables", TZ; RFC 9636, 3.3.1. Each whole year, also before
--- 1970, has one start and one end. Own choices: an edge counts wherever it falls, also in another year than its own; where a start and
+-- The state that a POSIX TZ string means at every instant: POSIX.1, "Environment Variables", TZ; RFC 9636, 3.3.1. Each whole year,
+-- also before 1970, has one start and one end. Own choices: an edge counts wherever it falls, also in another year than its own; where a start and
 -- an end fall on one instant the start wins, so that `EST5EDT,0/0,J365/25` is daylight saving time for ever, as RFC 9636, 3.3.1, has it;
 -- and day 365 of a common year, counted from 0, is 1 January of the next.
 use Rattle.std.specs.Prelude.{◌≡◌, ℕ, ◌+◌, ◌-◌, nat_le, ◌==◌, if◌then◌else◌, ℤ, pos, ◌+ℤ◌, ◌-ℤ◌, ◌*ℤ◌, ◌<ℤ◌, ◌≤ℤ◌, true, false, ◌⊎◌, Option, Some, None, IsSomeAnd}
@@ -51,11 +51,11 @@ pub record IsStandardAt (standard : ℤ) (dst : Dst) (t : ℤ) : Type 0 where
   pub stopped : stop_in dst year ≤ℤ t
   pub last : (other : ℤ) → start_in standard dst other ≤ℤ t → start_in standard dst other <ℤ stop_in dst year
 
--- what standard time shows
+-- the state of standard time
 abbrev pub standard_state : TzString → Shown
 standard_state f = record { offset = f.offset; daylight = false; name = f.std }
 
--- what daylight saving time shows
+-- the state of daylight saving time
 abbrev pub daylight_state : Dst → Shown
 daylight_state dst = record { offset = dst.offset; daylight = true; name = dst.name }
 

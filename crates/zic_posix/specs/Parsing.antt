@@ -1,4 +1,4 @@
--- What a parser of POSIX TZ strings refuses, and where it may want memory.
+-- Texts that a parser of POSIX TZ strings refuses, and those for which it needs memory.
 use Rattle.std.specs.Prelude.{◌<◌, ◌⊎◌, Option, Some, None, List, ℕ, length, IsSomeAnd}
 use Rattle.zic_base.specs.declared.limit.TheConstants.{LONGEST_ABBREVIATION}
 use Rattle.zic_posix.specs.declared.parser.ParseStop.{ParseStop}

@@ -154,7 +154,7 @@ fn edge_seconds(edge: &Edge, offset: i32) -> [i64; 14]
     seconds
 }
 
-/// Returns whether an edge is inside its year, of whatever kind that is.
+/// Returns whether an edge is inside its year in years of every kind.
 fn are_inside(seconds: &[i64]) -> bool
     ensures { result ≡ list_all is_inside seconds.now }
 {

@@ -8,7 +8,7 @@ use Rattle.zic_rows.specs.declared.limit.TheConstants.{MAX_DIGITS, FIRST_INSTANT
 abbrev pub decimal_value : List ℕ → ℕ
 decimal_value digits = fold (λ n digit. 10 * n + (digit - 48)) 0 digits
 
--- a number of at least one and at most so many decimal digits, which may begin with zeros
+-- a number of at least one and at most this number of decimal digits, which may begin with zeros
 unfoldable pub number : ℕ → List ℕ → Option ℕ
 number most text = if nat_le 1 (length text) && nat_le (length text) most && list_all is_ascii_digit text then Some (decimal_value text) else None
 

@@ -11,11 +11,11 @@ unfoldable pub begun : (ℕ → ℤ) → ℕ → ℤ → ℕ
 begun start zero day = 0
 begun start (suc n) day = begun start n day + (if int_le (start (suc n)) day then 1 else 0)
 
--- the year of a day of the years 1 to 9999: so many have begun
+-- the year of a day of the years 1 to 9999: the number of years that have begun
 abbrev pub year_of : ℤ → ℕ
 year_of day = begun (λ y. year_start (pos y)) 9999 day
 
--- the month of a day: so many of its year have begun
+-- the month of a day: the number of months of its year that have begun
 abbrev pub month_of : ℤ → ℕ
 month_of day = begun (month_start (pos (year_of day))) 12 day
 

@@ -28,7 +28,7 @@ local_text instant offset = civil_text (local_time (instant +ℤ offset))
 unfoldable pub state_text : Shown → List ℕ
 state_text shown = 44 ∷ (offset_text shown.offset ++ 44 ∷ (if shown.daylight then 49 else 48) ∷ 44 ∷ (shown.name ++ 10 ∷ []))
 
--- what follows the instant: its local time and the state, as `,1970-01-01T00:00:00,+00:00:00,0,UTC` and a newline
+-- the text that follows the instant: its local time and the state, as `,1970-01-01T00:00:00,+00:00:00,0,UTC` and a newline
 unfoldable pub rest_text : ℤ → Shown → List ℕ
 rest_text instant shown = 44 ∷ (local_text instant shown.offset ++ state_text shown)
 

@@ -7,7 +7,7 @@ use Rattle.std.proofs.lemmas.Option.{same_Some}
 use Rattle.zic_base.specs.State.{Shown}
 use Rattle.zic_lines.specs.declared.rules.Rules.{Rules}
 use Rattle.zic_base.proofs.Elements.{got, get_contained}
-use Rattle.zic_occurrences.specs.Laws.{IsLastNotAfter}
+use Rattle.zic_occurrences.specs.Laws.{IsLastOccurrence}
 use Rattle.zic_occurrences.specs.Occurrence.{RuleSet, Occurrence, nominal, year_second}
 use Rattle.zic_occurrences.proofs.Instants.{some_instant, instants_rise}
 use Rattle.zic_states.specs.Abbreviation.{abbreviation}
@@ -81,7 +81,7 @@ module _ (zone : Zone) (orderly : IsOrderly zone) (end : ℤ) (is_end : IsEnd zo
   ShowsFrom t o = (shows : ShowsByTail zone standard year tails by t) × (shows.occurrence ≡ o)
 
   -- where an occurrence of a later year is the last, it is of one of these rules, and the zone shows what the rule begins
-  shows_by : (t : ℤ) (o : Occurrence) (u : ℤ) → IsLastNotAfter set of.line.offset t o u → of.year <ℤ o.year → IsContinuing o.rule
+  shows_by : (t : ℤ) (o : Occurrence) (u : ℤ) → IsLastOccurrence set of.line.offset t o u → of.year <ℤ o.year → IsContinuing o.rule
       → KeepsJust zone t of.line (kept_from o) → ShowsFrom t o
   shows_by t o u last after continues keeps =
       let has = of.continuing.all o.number o.rule last.is.member continues in
@@ -93,7 +93,7 @@ module _ (zone : Zone) (orderly : IsOrderly zone) (end : ℤ) (is_end : IsEnd zo
         record {
           occurrence = o;
           instant = u;
-          current = subst (λ (s : ℤ). IsLastNotAfter set s t o u) (sym standard_is) last;
+          current = subst (λ (s : ℤ). IsLastOccurrence set s t o u) (sym standard_is) last;
           in_years = omega (arith, ints);
           place = has.0;
           number = at;
@@ -120,12 +120,12 @@ module _ (zone : Zone) (orderly : IsOrderly zone) (end : ℤ) (is_end : IsEnd zo
   -- ---- in turn
 
   module _ (both : AreOfBothFlags tails) (alternate : Alternate set of.year) (o : Occurrence) (u : ℤ)
-      (last : IsLastNotAfter set of.line.offset (year_second (of.year +ℤ pos 3) -ℤ pos 1) o u) where
+      (last : IsLastOccurrence set of.line.offset (year_second (of.year +ℤ pos 3) -ℤ pos 1) o u) where
     follows : FollowsAnother set of.year o
     follows = alternates_for_ever zone orderly of.number of.line of.name of.year of.tail some_number alternate o u last o last.is (omega (arith, ints))
 
     -- the occurrence before the last
-    before_last : (w : ℤ) × IsLastNotAfter set of.line.offset (u -ℤ pos 1) follows.before w
+    before_last : (w : ℤ) × IsLastOccurrence set of.line.offset (u -ℤ pos 1) follows.before w
     before_last =
         let from = given zone orderly of.number of.line of.name of.year of.tail in
         let pred = follows.predecessor in
@@ -143,7 +143,7 @@ module _ (zone : Zone) (orderly : IsOrderly zone) (end : ℤ) (is_end : IsEnd zo
         )
 
     -- which comes after the year too
-    not_before : (w : ℤ) → IsLastNotAfter set of.line.offset (u -ℤ pos 1) follows.before w → settled of.year ≤ℤ w
+    not_before : (w : ℤ) → IsLastOccurrence set of.line.offset (u -ℤ pos 1) follows.before w → settled of.year ≤ℤ w
     not_before w before =
         let from = given zone orderly of.number of.line of.name of.year of.tail in
         let number = follows.before.number in
@@ -177,7 +177,7 @@ module _ (zone : Zone) (orderly : IsOrderly zone) (end : ℤ) (is_end : IsEnd zo
         let settled_by = not_before w before in
         let earlier = before.not_after in
         let is = of.end_is in
-        let current : IsLastNotAfter set of.line.offset t o u = record {
+        let current : IsLastOccurrence set of.line.offset t o u = record {
           is = last.is;
           instant = last.instant;
           not_after = le;
@@ -187,7 +187,7 @@ module _ (zone : Zone) (orderly : IsOrderly zone) (end : ℤ) (is_end : IsEnd zo
         (keeps_from_last zone orderly of.number of.line of.name of.year of.tail t o u (omega (arith, ints)) current)
 
     -- one second before the last occurrence the zone shows what the one before it begins
-    one_before : (w : ℤ) → IsLastNotAfter set of.line.offset (u -ℤ pos 1) follows.before w → ShowsFrom (u -ℤ pos 1) follows.before
+    one_before : (w : ℤ) → IsLastOccurrence set of.line.offset (u -ℤ pos 1) follows.before w → ShowsFrom (u -ℤ pos 1) follows.before
     one_before w before =
         let settled_by = not_before w before in
         let earlier = before.not_after in
@@ -262,6 +262,6 @@ pub last_occurrence_is_change : LastIsChange
 last_occurrence_is_change zone orderly standard year tails tail both alternate end is_end o u last =
     let of = set_line_by zone orderly end is_end standard year tails tail in
     let two : 2 ≤ length tails = let many = tail.rules.as_many in let several = tail.several in omega (arith, many, several) in
-    let at_end = subst (λ (e : ℤ). IsLastNotAfter (set_of zone.source.rules tail.name) standard (e -ℤ pos 1) o u) of.end_is last in
+    let at_end = subst (λ (e : ℤ). IsLastOccurrence (set_of zone.source.rules tail.name) standard (e -ℤ pos 1) o u) of.end_is last in
     last_is_change zone orderly end is_end tails of two standard year tail.of_line tail.after_last both alternate o u
-    (subst (λ (s : ℤ). IsLastNotAfter (set_of zone.source.rules tail.name) s (year_second (tail.last +ℤ pos 3) -ℤ pos 1) o u) tail.of_line at_end)
+    (subst (λ (s : ℤ). IsLastOccurrence (set_of zone.source.rules tail.name) s (year_second (tail.last +ℤ pos 3) -ℤ pos 1) o u) tail.of_line at_end)

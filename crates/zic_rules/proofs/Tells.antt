@@ -16,7 +16,8 @@ use Rattle.zic_source.specs.Sound.{IsSoundRule, IsSoundLine}
 use Rattle.zic_occurrences.specs.declared.occurrence.TimedOccurrence.{TimedOccurrence}
 use Rattle.zic_occurrences.specs.Occurrence.{year_second}
 use Rattle.zic_occurrences.specs.Order.{IsInOrder}
-use Rattle.zic_states.specs.ByList.{AreRising, before, AreListedFor}
+use Rattle.zic_states.specs.ByList.{AreRising, before}
+use Rattle.zic_states.specs.code.Listed.{AreListedFor}
 use Rattle.zic_states.specs.Occurrences.{AreOccurrencesFor}
 use Rattle.zic_states.specs.Until.{IsUntil, set_of}
 use Rattle.zic_states.specs.Zone.{Zone, IsNotOver}

@@ -3,7 +3,7 @@ use Rattle.std.specs.Prelude.{ℤ, pos, ◌-ℤ◌, List}
 use Rattle.zic_base.specs.State.{Shown}
 use Rattle.zic_source.specs.Sound.{IsSoundSource}
 use Rattle.zic_words.specs.Limits.{IsWithinLimits}
-use Rattle.zic_occurrences.specs.Laws.{IsLastNotAfter}
+use Rattle.zic_occurrences.specs.Laws.{IsLastOccurrence}
 use Rattle.zic_occurrences.specs.Occurrence.{Occurrence}
 use Rattle.zic_states.specs.Change.{IsChange}
 use Rattle.zic_states.specs.End.{IsEnd}
@@ -25,4 +25,4 @@ abbrev pub LastIsChange : Type 0
 LastIsChange =
     (zone : Zone) → IsOrderly zone → (standard year : ℤ) (tails : List TailRule) (by : IsTailBy zone standard year tails)
     → AreOfBothFlags tails → Alternate (set_of zone.source.rules by.name) by.last → (end : ℤ) → IsEnd zone end → (o : Occurrence) (u : ℤ)
-    → IsLastNotAfter (set_of zone.source.rules by.name) standard (end -ℤ pos 1) o u → IsChange zone u
+    → IsLastOccurrence (set_of zone.source.rules by.name) standard (end -ℤ pos 1) o u → IsChange zone u

@@ -1,9 +1,9 @@
--- What a timeline says of the time from the explicit end on.
+-- The tail of a timeline: the time from the explicit end on.
 use Rattle.std.specs.Prelude.{◌≡◌, ◌≢◌, ◌≤◌, ◌<◌, ℕ, ℤ, pos, ◌+ℤ◌, ◌-ℤ◌, ◌≤ℤ◌, ◌⊎◌, List, [], ◌∷◌, length, All, AllPairs, Contains, Some, slice_get}
 use Rattle.zic_base.specs.State.{Shown, shown}
 use Rattle.zic_lines.specs.declared.rule.Rule.{Rule}
 use Rattle.zic_lines.specs.declared.zone_line.ZoneLine.{ZoneLine}
-use Rattle.zic_occurrences.specs.Laws.{IsLastNotAfter}
+use Rattle.zic_occurrences.specs.Laws.{IsLastOccurrence}
 use Rattle.zic_occurrences.specs.Occurrence.{RuleSet, IsMember, Occurrence}
 use Rattle.zic_states.specs.Abbreviation.{abbreviation}
 use Rattle.zic_states.specs.Change.{IsAfterChanges}
@@ -27,7 +27,7 @@ pub record IsTailRule (line : ZoneLine) (rule : Rule) (tail : TailRule) : Type 0
   pub saving : tail.saving ≡ rule.saving
   pub name : abbreviation line.format (line.offset +ℤ rule.saving.seconds) rule.saving.daylight (Some rule.letter) ≡ Some tail.name
 
--- what is shown once such a rule has occurred, on this standard offset
+-- the state that is shown once such a rule has occurred, on this standard offset
 abbrev pub tail_state : ℤ → TailRule → Shown
 tail_state standard tail = record { offset = standard +ℤ tail.saving.seconds; daylight = tail.saving.daylight; name = tail.name }
 
@@ -56,7 +56,7 @@ pub record IsTailBy (zone : Zone) (standard year : ℤ) (tails : List TailRule) 
 pub record ShowsByTail (zone : Zone) (standard year : ℤ) (tails : List TailRule) (by : IsTailBy zone standard year tails) (t : ℤ) : Type 0 where
   pub occurrence : Occurrence
   pub instant : ℤ
-  pub current : IsLastNotAfter (set_of zone.source.rules by.name) standard t occurrence instant
+  pub current : IsLastOccurrence (set_of zone.source.rules by.name) standard t occurrence instant
   pub in_years : year ≤ℤ occurrence.year
   pub place : ℕ
   pub number : slice_get by.numbers place ≡ Some occurrence.number
@@ -68,7 +68,7 @@ pub record ShowsByTail (zone : Zone) (standard year : ℤ) (tails : List TailRul
 abbrev pub AreOfBothFlags : List TailRule → Type 0
 AreOfBothFlags tails = (a b : TailRule) × (tails ≡ a ∷ b ∷ []) × (a.saving.daylight ≢ b.saving.daylight)
 
--- what a tail of rules says: from one second before the end on what the zone shows, and the same from the last change on where
+-- a tail of rules: from one second before the end on what the zone shows, and the same from the last change on where
 -- there are two rules, of both flags, that alternate
 pub record IsRulesTail (zone : Zone) (standard year : ℤ) (tails : List TailRule) : Type 0 where
   pub by : IsTailBy zone standard year tails
@@ -84,13 +84,13 @@ pub record HasConstantTail (zone : Zone) : Type 0 where
   pub few : HasNoSet line.rules ⊎ ((name : List ℕ) × (year : ℤ) × (numbers : List ℕ)
       × HasLastSet zone number line name year × AreContinuing (set_of zone.source.rules name) numbers × (length numbers ≤ 1))
 
--- What a constant tail says: from one second before the end on, and from the last change on, the zone shows this.
+-- A constant tail: from one second before the end on, and from the last change on, the zone shows this.
 pub record IsConstantTail (zone : Zone) (state : Shown) : Type 0 where
   pub few : HasConstantTail zone
   pub from_end : (end t : ℤ) → IsEnd zone end → (end -ℤ pos 1) ≤ℤ t → Shows zone t state
   pub from_change : (t : ℤ) → IsAfterChanges zone t → Shows zone t state
 
--- what a tail says
+-- the meaning of a tail
 abbrev pub IsTail : Zone → Tail → Type 0
 IsTail zone (Constant state) = IsConstantTail zone (shown state)
 IsTail zone (Rules standard year rules) = IsRulesTail zone standard year rules.now

@@ -1,4 +1,4 @@
--- What a timeline gives.
+-- The answers of a timeline.
 use Rattle.std.specs.Prelude.{◌≡◌, ◌<◌, ℕ, ℤ, Some, List, length, slice_get}
 use Rattle.zic_states.specs.Change as changes
 use Rattle.zic_states.specs.Change.{AreChanges}
@@ -18,9 +18,9 @@ change_of change = record { instant = change.0; state = shown change.1 }
 abbrev pub IsChangeAt : Zone → ℕ → changes.Change → Type 0
 IsChangeAt zone i change = (all : List changes.Change) × AreChanges zone all × (slice_get all i ≡ Some change)
 
--- What the laws of zones ask of one: it is a zone of a sound source, no fault applies to it, so that its sets are in order and its
+-- A zone of which the laws of zones hold: it is a zone of a sound source, no fault applies to it, so that its sets are in order and its
 -- UNTILs rise, and it has an explicit end.
-pub record IsWhole (zone : Zone) : Type 0 where
+pub record IsWholeZone (zone : Zone) : Type 0 where
   pub source : IsSoundSource zone.source
   pub is_zone : zone.number < length zone.source.zones
   pub sound : IsSound zone

@@ -2,13 +2,13 @@
 
 ghost use Rattle.zic_rules.specs.Laws.{ShowsWithinLimits, LastIsChange};
 
-/// A zone without a fault shows only offsets within 24 hours, and only abbreviations.
+/// States that a zone without a fault shows only offsets within 24 hours, and only abbreviations.
 pub fn a_sound_zone_shows_within_limits()
     ensures { ShowsWithinLimits }
 {}
 
-/// Where two rules of both flags go on for ever in turn, the last occurrence before the explicit
-/// end is a change.
+/// States that where two rules of both flags go on for ever in turn, the last occurrence before the
+/// explicit end is a change.
 pub fn the_last_occurrence_is_a_change()
     ensures { LastIsChange }
 {}

@@ -1,4 +1,4 @@
-//! What a zone shows at every instant: its first state, its changes, and what it shows after them.
+//! The states that a zone shows: its first state, its changes, and what it shows after them.
 //! The tests stand in `zone_tests`.
 //!
 //! Before the explicit end a zone is a list of periods: in each one line governs, and one

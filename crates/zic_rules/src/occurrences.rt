@@ -23,7 +23,8 @@ pub(crate) fn line_occurrences(
 ) -> Result<Vec<TimedOccurrence>, Stop>
     requires line { IsSoundLine source.now.rules line.now }
     requires before { before ≤ 9999 }
-    ensures order { IfOk result (λ _. IsOrderedOn source.now.rules line.now.offset line.now.rules) }
+    ensures order { IfOk result
+        (λ _. IsOrderedOn source.now.rules line.now.offset line.now.rules) }
     ensures all { IfOk result
         (λ xs. AreOccurrencesOn source.now.rules line.now.offset before line.now.rules xs.items) }
     ensures err { IfRefusal fault_of result

@@ -9,18 +9,19 @@ use zic_states::Abbreviation;
 pub struct TailRule {
     /// When it occurs in each year.
     pub moment: Moment,
-    /// What is added to standard time from then on, and whether this is daylight saving time.
+    /// The seconds that are added to standard time from then on, and whether this is daylight saving
+    /// time.
     pub saving: Saving,
     /// The abbreviation from then on.
     pub name: Abbreviation,
 }
 
-/// What a zone shows from its explicit end on, for ever.
+/// The states that a zone shows from its explicit end on, for ever.
 #[derive(Clone, Copy, Debug, PartialEq, Eq)]
 pub enum Tail<'a> {
     /// One state: fewer than two rules of the last line's set go on for ever.
     Constant(State<'a>),
-    /// What the last occurrence of these rules begins.
+    /// The saving and flag that the last occurrence of these rules begins.
     Rules {
         /// The last line's standard offset, in seconds, positive east.
         standard: i32,

@@ -11,7 +11,7 @@ ghost use Rattle.zic_rules.specs.code.Shown.{IsTimeline, shown_by, dated};
 ghost use Rattle.zic_rules.specs.code.Tail.{HasTailRules};
 ghost use Rattle.zic_base.specs.State.{shown};
 ghost use Rattle.zic_rules.specs.Tail.{IsTail};
-ghost use Rattle.zic_rules.specs.Timeline.{change_of, IsChangeAt, IsWhole};
+ghost use Rattle.zic_rules.specs.Timeline.{change_of, IsChangeAt, IsWholeZone};
 
 use crate::changes::DatedState;
 use crate::tail::{Tail, TailRule};
@@ -83,7 +83,7 @@ impl<'a> Timeline<'a> {
     /// listed come before it.
     pub fn end(&self) -> i64
         ensures end { IsEnd self.now result }
-        ensures whole { IsWhole self.now }
+        ensures whole { IsWholeZone self.now }
     {
         self.end
     }
@@ -130,7 +130,7 @@ impl<'a> Timeline<'a> {
     /// Returns what the zone shows from its explicit end on, for ever. Takes no memory.
     pub fn tail(&self) -> Tail<'_>
         ensures tail { IsTail self.now result }
-        ensures whole { IsWhole self.now }
+        ensures whole { IsWholeZone self.now }
     {
         if self.rules.len() < FEWEST_RULES {
             return Tail::Constant(state_of(self.last_state()));

@@ -39,7 +39,8 @@ impl<'a> Zone<'a> {
 
     /// Returns the place of the Zone line.
     pub fn place(self) -> Place
-        ensures { IsSomeAnd (lines_of (the_zone self.entry)) (λ lines. result ≡ lines.first.place) }
+        ensures { IsSomeAnd (lines_of (the_zone self.entry))
+            (λ lines. result ≡ lines.first.place) }
     {
         self.line(0).place
     }

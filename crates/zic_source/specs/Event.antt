@@ -1,4 +1,4 @@
--- What reading comes to, one after the other: the lines of each text, and after them its end.
+-- The events of reading, one after the other: the lines of each text, and after them its end.
 use Rattle.std.specs.Prelude.{ℕ, List, [], ◌∷◌, ◌++◌, map, flat_map}
 use Rattle.std.specs.List.{enumerate_from}
 use Rattle.zic_lines.specs.Line.{PlacedLine, text_lines}

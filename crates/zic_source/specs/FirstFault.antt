@@ -20,7 +20,7 @@ use Rattle.zic_source.specs.Whole.{HasFirst}
 abbrev pub SaysNext : SourceLines → PlacedLine → Entry → Type 0
 SaysNext source line entry = Says line (Some entry) × (is_continuation entry ≡ is_open source)
 
--- What comes next, after this source, has this fault: a line that of the first of its own checks that fails, or else of the first
+-- The event that comes next, after this source, has this fault: a line that of the first of its own checks that fails, or else of the first
 -- check of what it adds; the end of a text that of the last UNTIL, where a continuation line has to follow.
 abbrev pub Fails : SourceLines → Event → Fault → Type 0
 Fails source (Line line) fault =

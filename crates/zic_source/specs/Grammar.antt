@@ -9,7 +9,7 @@ use Rattle.zic_lines.specs.Grammar.{Says}
 use Rattle.zic_source.specs.declared.limit.TheConstants.{MAX_RULES, MAX_RULES_OF_SET, MAX_ZONE_LINES, MAX_NAMES}
 use Rattle.zic_source.specs.Event.{Event, Line, End, events_of}
 use Rattle.zic_source.specs.Source.{SourceLines, set_size, zone_lines_of, entries_of_zone}
-use Rattle.zic_source.specs.Whole.{IsWhole}
+use Rattle.zic_source.specs.Whole.{IsWholeSource}
 
 -- what an event says: a line its entry, where it isn't blank; the end of a text that the text ends
 pub data Statement : Type 0 where
@@ -86,4 +86,4 @@ IsReadable texts source = IsRead (events_of texts) source
 -- a zone.
 pub record IsSource (texts : List (List ℕ)) (source : SourceLines) : Type 0 where
   pub read : IsReadable texts source
-  pub whole : IsWhole source
+  pub whole : IsWholeSource source

@@ -1,4 +1,4 @@
--- What holds of every source; the layers above cite these names. The limits are own choice.
+-- Sound sources, as all are; the layers above cite these names. The limits are own choice.
 use Rattle.std.specs.Prelude.{◌≡◌, ◌≢◌, ◌≤◌, ◌+◌, ℕ, ℤ, pos, ◌≤ℤ◌, true, false, List, [], ◌∷◌, ◌++◌, length, map, All, AllPairs, IfSome}
 use Rattle.std.specs.Int.{IsInRange}
 use Rattle.zic_base.specs.Place.{IsBefore}

@@ -1,4 +1,4 @@
--- What a source says, as its lines stand: zic(8), FILES.
+-- The content of a source, in the order of its lines: zic(8), FILES.
 use Rattle.std.specs.Prelude.{ℕ, Bool, List, [], ◌∷◌, Option, map, filter, slice_get, count_by, flat_map, bytes_eq}
 use Rattle.std.specs.List.{list_any, enumerate_from}
 use Rattle.zic_lines.specs.declared.rule.Rule.{Rule}

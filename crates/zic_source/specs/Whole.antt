@@ -1,4 +1,4 @@
--- What can be wrong only with a source as a whole: zic(8), FILES; which fault is the first is own choice.
+-- Faults of a source as a whole: zic(8), FILES; which fault is the first is own choice.
 use Rattle.std.specs.Prelude.{◌≡◌, Bool, false, not, List, Contains, IsTrue}
 use Rattle.zic_base.specs.declared.place.Place.{Place}
 use Rattle.zic_base.specs.declared.fault.Fault.{Fault}
@@ -20,7 +20,7 @@ is_unknown rules (Amount saving) = false
 is_unknown rules (Set name) = not (is_set name rules)
 
 -- each set that a zone's line names has a rule, and each link's chain ends at a zone
-pub record IsWhole (source : SourceLines) : Type 0 where
+pub record IsWholeSource (source : SourceLines) : Type 0 where
   pub sets : (line : ZoneLine) → Contains (zone_lines_of source) line → is_unknown source.rules line.rules ≡ false
   pub links : (link : Link) → Contains source.links link → EndsAtZone source link
 

@@ -25,7 +25,11 @@ impl Model for ZoneEntry {
 
     ghost Value = { ZoneLines };
 
-    ghost view = { λ z. record { name = z.name; first = z.first; continuations = z.continuations.items } };
+    ghost view = { λ z. record {
+      name = z.name;
+      first = z.first;
+      continuations = z.continuations.items;
+    } };
 }
 
 impl ZoneEntry {

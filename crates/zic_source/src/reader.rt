@@ -114,12 +114,15 @@ impl<'a> Reader<'a> {
     fn add_rule(&mut self, alloc: Global, place: Place, rule: Rule) -> Result<(), Stop>
         requires { Tracks self.old }
         ensures added { OnOk result
-            (Adds (source_lines self.old.lines) (entries.Rule rule) (source_lines self.new.lines)) }
+            (Adds (source_lines self.old.lines) (entries.Rule rule)
+            (source_lines self.new.lines)) }
         ensures tracks { OnOk result (Tracks self.new) }
         ensures fault { IfRefusal fault_of result
-            (IsFirstFailed place (entry_checks (source_lines self.old.lines) (entries.Rule rule))) }
+            (IsFirstFailed place
+            (entry_checks (source_lines self.old.lines) (entries.Rule rule))) }
         ensures memory { OnOutOfMemory fault_of result
-            (first_failed (entry_checks (source_lines self.old.lines) (entries.Rule rule)) ≡ None) }
+            (first_failed (entry_checks (source_lines self.old.lines) (entries.Rule rule))
+            ≡ None) }
     {
         let number = self.lines.rules.len();
         if number >= MAX_RULES {
@@ -193,12 +196,15 @@ impl<'a> Reader<'a> {
     fn add_link(&mut self, place: Place, link: Link) -> Result<(), Stop>
         requires { Tracks self.old }
         ensures added { OnOk result
-            (Adds (source_lines self.old.lines) (entries.Link link) (source_lines self.new.lines)) }
+            (Adds (source_lines self.old.lines) (entries.Link link)
+            (source_lines self.new.lines)) }
         ensures tracks { OnOk result (Tracks self.new) }
         ensures fault { IfRefusal fault_of result
-            (IsFirstFailed place (entry_checks (source_lines self.old.lines) (entries.Link link))) }
+            (IsFirstFailed place
+            (entry_checks (source_lines self.old.lines) (entries.Link link))) }
         ensures memory { OnOutOfMemory fault_of result
-            (first_failed (entry_checks (source_lines self.old.lines) (entries.Link link)) ≡ None) }
+            (first_failed (entry_checks (source_lines self.old.lines) (entries.Link link))
+            ≡ None) }
     {
         if !self.has_room_for_name() {
             return Err(Stop::at(place, self.no_room(&link.name)));
@@ -304,9 +310,9 @@ fn read_texts<'a>(alloc: Global, texts: &'a [Vec<u8>]) -> Result<Reader<'a>, Sto
 /// text. Where no text has a fault, it is that of the first line that names a set without a rule,
 /// or of a link whose chain doesn't end at a zone.
 pub fn read_source(alloc: Global, texts: &[Vec<u8>]) -> Result<Source, Stop>
-    // What is read is a source, and this one.
+    // The texts that are read make a source, and this one.
     ensures found { IfOk result (λ source. IsSource (texts_of texts.now) source) }
-    // What is a source is read, unless memory runs out.
+    // Texts that make a source are read, unless memory runs out.
     ensures only { (source : SourceLines) → IsSource (texts_of texts.now) source
         → NeverRefuses fault_of result }
     // A fault is the first.

@@ -5,7 +5,7 @@ ghost use Rattle.zic_base.specs.Fault.{fault_of};
 ghost use Rattle.zic_base.specs.Memory.{IfRefusal};
 ghost use Rattle.zic_source.specs.Source.{SourceLines};
 ghost use Rattle.zic_source.specs.Links.{EndsAt};
-ghost use Rattle.zic_source.specs.Whole.{IsWhole, HasFirst};
+ghost use Rattle.zic_source.specs.Whole.{IsWholeSource, HasFirst};
 ghost use Rattle.zic_source.specs.code.Lines.{source_lines};
 ghost use Rattle.zic_source.specs.code.Owners.{IndexesNames};
 ghost use Rattle.zic_source.specs.code.Sets.{IndexesSets};
@@ -123,7 +123,7 @@ pub(crate) fn check_whole(
 ) -> Result<Vec<usize>, Stop>
     requires sets { IndexesSets sets.now lines.now.rules.items }
     requires names { IndexesNames names.now (source_lines lines.now) }
-    ensures whole { IfOk result (λ _. IsWhole (source_lines lines.now)) }
+    ensures whole { IfOk result (λ _. IsWholeSource (source_lines lines.now)) }
     ensures zones { IfOk result (λ zones. AreLinkZones (source_lines lines.now) zones.items) }
     ensures first { IfRefusal fault_of result (HasFirst (source_lines lines.now)) }
 {

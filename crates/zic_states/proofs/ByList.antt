@@ -14,7 +14,8 @@ use Rattle.zic_occurrences.specs.Order.{IsInOrder, IsInstant}
 use Rattle.zic_occurrences.specs.Listing.{StandsFor, IsListed, AreOccurrencesBefore, AreOccurrencesTo}
 use Rattle.zic_occurrences.proofs.Bounds.{instant_near_nominal}
 use Rattle.zic_occurrences.proofs.Same.{one_place, same_occurrence, one_instant}
-use Rattle.zic_states.specs.ByList.{AreRising, before, not_after, last_of, rule_at, IsLimit, AreListedFor}
+use Rattle.zic_states.specs.ByList.{AreRising, before, not_after, last_of, rule_at}
+use Rattle.zic_states.specs.code.Listed.{IsLimit, AreListedFor}
 use Rattle.zic_states.specs.Kept.{Kept, IsLastOf, NoneIs, kept_of, SetKeeps, RulesKeep, IsKeptBy, IsRuleOf}
 use Rattle.zic_states.specs.Until.{set_of}
 use Rattle.zic_states.specs.Zone.{Zone, IsNotOver}

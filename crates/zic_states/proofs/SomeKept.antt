@@ -10,7 +10,7 @@ use Rattle.zic_source.specs.Sound.{IsSoundRule, IsWithinDay}
 use Rattle.zic_occurrences.specs.Occurrence.{RuleSet}
 use Rattle.zic_occurrences.specs.Order.{IsInOrder}
 use Rattle.zic_occurrences.proofs.Instants.{last_not_after}
-use Rattle.zic_states.specs.ByList.{IsLimit}
+use Rattle.zic_states.specs.code.Listed.{IsLimit}
 use Rattle.zic_states.specs.Kept.{Kept, SetKeeps, RulesKeep, kept_from}
 use Rattle.zic_states.specs.Laws.{HasSetsInOrder}
 use Rattle.zic_states.specs.Until.{set_of}

@@ -5,7 +5,7 @@ use Rattle.std.proofs.lemmas.Int.{ints, by_lt_z}
 use Rattle.zic_lines.specs.declared.rules.Rules.{Rules}
 use Rattle.zic_lines.specs.declared.rules.Rules.TheVariants.{Standard, Amount, Set}
 use Rattle.zic_lines.specs.declared.zone_line.ZoneLine.{ZoneLine}
-use Rattle.zic_occurrences.specs.Laws.{IsLastNotAfter}
+use Rattle.zic_occurrences.specs.Laws.{IsLastOccurrence}
 use Rattle.zic_occurrences.specs.Occurrence.{RuleSet, Occurrence, year_second}
 use Rattle.zic_occurrences.proofs.Instants.{last_not_after}
 use Rattle.zic_states.specs.End.{IsLastLine, IsEndBy, IsEnd}
@@ -55,7 +55,7 @@ module _ (zone : Zone) (orderly : IsOrderly zone) (i : ℕ) (line : ZoneLine) (n
   abbrev set : RuleSet
   set = set_of zone.source.rules name
 
-  module _ (has : HasContinuing set) (o : Occurrence) (u : ℤ) (last : IsLastNotAfter set line.offset (year_second (year +ℤ pos 3) -ℤ pos 1) o u) where
+  module _ (has : HasContinuing set) (o : Occurrence) (u : ℤ) (last : IsLastOccurrence set line.offset (year_second (year +ℤ pos 3) -ℤ pos 1) o u) where
     last_is_settled : settled year ≤ℤ u
     last_is_settled =
         let (number, rule, member, continues) = has in
@@ -78,7 +78,7 @@ module _ (zone : Zone) (orderly : IsOrderly zone) (i : ℕ) (line : ZoneLine) (n
         }))
         (λ ge. by_one zone orderly i line name year tail o.number o.rule only t ge)
 
-    some_current : (t : ℤ) → u ≤ℤ t → (q : Occurrence) × (v : ℤ) × IsLastNotAfter set line.offset t q v
+    some_current : (t : ℤ) → u ≤ℤ t → (q : Occurrence) × (v : ℤ) × IsLastOccurrence set line.offset t q v
     some_current t le =
         let from = given zone orderly i line name year tail in
         elim (last_not_after set line.offset t from.ordered.sound from.ordered.within from.ordered.order) [

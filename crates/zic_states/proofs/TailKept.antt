@@ -6,7 +6,7 @@ use Rattle.std.proofs.lemmas.Option.{same_Some}
 use Rattle.zic_lines.specs.declared.rule.Rule.{Rule}
 use Rattle.zic_lines.specs.declared.rules.Rules.{Rules}
 use Rattle.zic_lines.specs.declared.zone_line.ZoneLine.{ZoneLine}
-use Rattle.zic_occurrences.specs.Laws.{IsLastNotAfter}
+use Rattle.zic_occurrences.specs.Laws.{IsLastOccurrence}
 use Rattle.zic_occurrences.specs.Listing.{IsLastNamed}
 use Rattle.zic_occurrences.specs.Occurrence.{RuleSet, Occurrence, IsOccurrence, year_second}
 use Rattle.zic_occurrences.specs.Order.{IsInstant}
@@ -62,7 +62,7 @@ module _ (zone : Zone) (orderly : IsOrderly zone) (i : ℕ) (line : ZoneLine) (n
       (keeps_what_by_itself zone orderly.sets i line name year t kept tail.last_year tail.is_last.is_line late by)
 
   -- what the current occurrence begins
-  pub keeps_from_last : (t : ℤ) (o : Occurrence) (u : ℤ) → settled year ≤ℤ t → IsLastNotAfter set line.offset t o u → KeepsJust zone t line (kept_from o)
+  pub keeps_from_last : (t : ℤ) (o : Occurrence) (u : ℤ) → settled year ≤ℤ t → IsLastOccurrence set line.offset t o u → KeepsJust zone t line (kept_from o)
   keeps_from_last t o u late last =
       let is_last : IsLastOf set line.offset (UpTo t) o = record {
         is = last.is;

@@ -6,7 +6,7 @@ use Rattle.zic_lines.specs.declared.rule.Rule.{Rule}
 use Rattle.zic_words.specs.declared.clock.ClockForm.{ClockForm}
 use Rattle.zic_words.specs.declared.clock.ClockForm.TheVariants.{Wall, Standard, Universal}
 use Rattle.zic_source.specs.Sound.{IsSoundRule}
-use Rattle.zic_occurrences.specs.Laws.{IsLastNotAfter}
+use Rattle.zic_occurrences.specs.Laws.{IsLastOccurrence}
 use Rattle.zic_occurrences.specs.Occurrence.{RuleSet, IsMember, Occurrence, IsOccurrence, nominal, year_second}
 use Rattle.zic_occurrences.specs.Order.{IsPredecessor, IsSavedBefore, IsInstant, IsInOrder, instant_by}
 use Rattle.zic_occurrences.proofs.Bounds.{years_apart, nominal_from, nominal_to, two_years, nominal_second-period, instant_near_nominal}
@@ -119,8 +119,8 @@ module _ (set : RuleSet) (offset year : ℤ) (given : IsNamedTo set offset year)
       }
 
   -- so does the last occurrence not after an instant
-  last_again : (t : ℤ) (o : Occurrence) (u : ℤ) → IsLate o → IsLastNotAfter set offset t o u
-      → IsLastNotAfter set offset (t +ℤ pos 12_622_780_800) (again o) (u +ℤ pos 12_622_780_800)
+  last_again : (t : ℤ) (o : Occurrence) (u : ℤ) → IsLate o → IsLastOccurrence set offset t o u
+      → IsLastOccurrence set offset (t +ℤ pos 12_622_780_800) (again o) (u +ℤ pos 12_622_780_800)
   last_again t o u late last =
       let before = last.not_after in
       let earlier = late.predecessor.earlier in
@@ -153,8 +153,8 @@ module _ (set : RuleSet) (offset year : ℤ) (given : IsNamedTo set offset year)
       }
 
   -- from a late one on each current occurrence comes again
-  pub current_again : (s t : ℤ) (o q : Occurrence) (u v : ℤ) → IsLate o → IsLastNotAfter set offset s o u → u ≤ℤ t → IsLastNotAfter set offset t q v
-      → IsLastNotAfter set offset (t +ℤ pos 12_622_780_800) (again q) (v +ℤ pos 12_622_780_800)
+  pub current_again : (s t : ℤ) (o q : Occurrence) (u v : ℤ) → IsLate o → IsLastOccurrence set offset s o u → u ≤ℤ t → IsLastOccurrence set offset t q v
+      → IsLastOccurrence set offset (t +ℤ pos 12_622_780_800) (again q) (v +ℤ pos 12_622_780_800)
   current_again s t o q u v late last le last_q =
       let not_before : u ≤ℤ v = last_q.last o u last.is last.instant le in
       let after : nominal o ≤ℤ nominal q = by_lt_z (nominal q) (nominal o)
@@ -184,7 +184,7 @@ module _ (set : RuleSet) (offset year : ℤ) (given : IsNamedTo set offset year)
       absurd (omega (arith, ints))))
       (λ late. inl (record { before = p; predecessor = pred; late = late }))
 
-  only_one : (o : Occurrence) (u saved : ℤ) → IsSavedBefore set o saved → (IsLate o → ⊥) → IsLastNotAfter set offset (year_second (year +ℤ pos 3) -ℤ pos 1) o u
+  only_one : (o : Occurrence) (u saved : ℤ) → IsSavedBefore set o saved → (IsLate o → ⊥) → IsLastOccurrence set offset (year_second (year +ℤ pos 3) -ℤ pos 1) o u
       → year <ℤ o.year → IsOnlyContinuing set o.number o.rule
   only_one o u saved is_saved not_late last after = record {
     member = last.is.member;
@@ -201,7 +201,7 @@ module _ (set : RuleSet) (offset year : ℤ) (given : IsNamedTo set offset year)
         (λ le. (order.differ (rule_in number rule later) o is_x last.is (omega (arith, ints))).number));
   }
 
-  pub late_or_only : (o : Occurrence) (u : ℤ) → IsLastNotAfter set offset (year_second (year +ℤ pos 3) -ℤ pos 1) o u → year <ℤ o.year
+  pub late_or_only : (o : Occurrence) (u : ℤ) → IsLastOccurrence set offset (year_second (year +ℤ pos 3) -ℤ pos 1) o u → year <ℤ o.year
       → IsLate o ⊎ IsOnlyContinuing set o.number o.rule
   late_or_only o u last after =
       let (saved, is_saved) = saved_before set o sound last.is in
@@ -250,7 +250,7 @@ module _ (set : RuleSet) (offset year : ℤ) (given : IsNamedTo set offset year)
       let follows = late_follows alternate (rule_in number rule (year +ℤ pos 4)) fourth (fourth_is_late number rule only.member only.continues) in
       follows.another (sym (only.only follows.before.number follows.before.rule follows.predecessor.is.member follows.continues))
 
-  pub follows_another : Alternate set year → (o : Occurrence) (u : ℤ) → IsLastNotAfter set offset (year_second (year +ℤ pos 3) -ℤ pos 1) o u
+  pub follows_another : Alternate set year → (o : Occurrence) (u : ℤ) → IsLastOccurrence set offset (year_second (year +ℤ pos 3) -ℤ pos 1) o u
       → year <ℤ o.year → (q : Occurrence) → IsOccurrence set q → nominal o ≤ℤ nominal q → FollowsAnother set year q
   follows_another alternate o u last after q is le =
       elim (late_or_only o u last after) [

@@ -4,7 +4,7 @@ use Rattle.std.specs.Prelude.{ℤ, pos, ◌+ℤ◌, ◌-ℤ◌, ◌<ℤ◌, ◌�
 use Rattle.std.proofs.lemmas.Int.{ints, by_lt_z}
 use Rattle.zic_lines.specs.declared.rule.Rule.{Rule}
 use Rattle.zic_source.specs.Sound.{IsSoundRule, IsWithinDay}
-use Rattle.zic_occurrences.specs.Laws.{IsLastNotAfter}
+use Rattle.zic_occurrences.specs.Laws.{IsLastOccurrence}
 use Rattle.zic_occurrences.specs.Listing.{IsLastNamed}
 use Rattle.zic_occurrences.specs.Occurrence.{RuleSet, IsMember, Occurrence, IsOccurrence, year_second}
 use Rattle.zic_occurrences.specs.Order.{IsInstant}
@@ -89,7 +89,7 @@ module _ (set : RuleSet) (offset year : ℤ) (given : IsNamedTo set offset year)
         omega (arith, ints)
 
     -- so the last occurrence not after an instant from the end on is of a year after the year
-    pub last_is_after : (t : ℤ) (o : Occurrence) (w : ℤ) → (year_second (year +ℤ pos 3) -ℤ pos 1) ≤ℤ t → IsLastNotAfter set offset t o w → year <ℤ o.year
+    pub last_is_after : (t : ℤ) (o : Occurrence) (w : ℤ) → (year_second (year +ℤ pos 3) -ℤ pos 1) ≤ℤ t → IsLastOccurrence set offset t o w → year <ℤ o.year
     last_is_after t o w late last =
         let is_one = occurs_after number rule (year +ℤ pos 1) member continues (omega (arith, ints)) in
         let is_two = occurs_after number rule (year +ℤ pos 2) member continues (omega (arith, ints)) in
@@ -106,7 +106,7 @@ module _ (set : RuleSet) (offset year : ℤ) (given : IsNamedTo set offset year)
         let rise = instants_rise set offset o (rule_in number rule (year +ℤ pos 2)) w v sound given.ordered.order last.is is_two last.instant at_v less in
         absurd (omega (arith, ints)))
 
-    pub some_last : (t : ℤ) → (year_second (year +ℤ pos 3) -ℤ pos 1) ≤ℤ t → (o : Occurrence) × (w : ℤ) × IsLastNotAfter set offset t o w
+    pub some_last : (t : ℤ) → (year_second (year +ℤ pos 3) -ℤ pos 1) ≤ℤ t → (o : Occurrence) × (w : ℤ) × IsLastOccurrence set offset t o w
     some_last t late =
         elim (last_not_after set offset t sound within given.ordered.order) [
           | inl found ↦ found

@@ -17,17 +17,17 @@ abbrev pub sign : ℤ → ℕ
 sign offset = if int_lt offset (pos 0) then 45 else 43
 
 -- `%z`: the shortest of `+hh`, `+hhmm` and `+hhmmss` that tells the UT offset, with `-` west of Greenwich
-abbrev pub offset_text : ℤ → List ℕ
-offset_text offset = sign offset ∷ (two_digits (unsigned_abs offset / 3600) ++ minutes_text (unsigned_abs offset % 3600))
+abbrev pub short_offset_text : ℤ → List ℕ
+short_offset_text offset = sign offset ∷ (two_digits (unsigned_abs offset / 3600) ++ minutes_text (unsigned_abs offset % 3600))
 
 -- FORMAT filled in, at this UT offset and daylight flag, with this letter if there is one; none where it wants a letter and there
 -- is none
 abbrev pub abbreviation : Format → ℤ → Bool → Option (List ℕ) → Option (List ℕ)
 abbreviation (Plain text) offset daylight letter = Some text
 abbreviation (Letter before after) offset daylight letter = option_map (λ l. before ++ l ++ after) letter
-abbreviation (Offset before after) offset daylight letter = Some (before ++ offset_text offset ++ after)
+abbreviation (Offset before after) offset daylight letter = Some (before ++ short_offset_text offset ++ after)
 abbreviation (Pair standard saving) offset daylight letter = Some (if daylight then saving else standard)
 
--- the abbreviation that octets are
+-- the abbreviation that bytes are
 abbrev pub abbreviation_of : List ℕ → Option (List ℕ)
 abbreviation_of octets = if is_abbreviation octets then Some octets else None

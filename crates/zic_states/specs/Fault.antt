@@ -1,4 +1,4 @@
--- What is wrong with a zone whose source was read.
+-- The faults of a zone whose source was read.
 use Rattle.std.specs.Prelude.{◌≡◌, ◌<◌, ◌≤ℤ◌, ◌+ℤ◌, ℕ, suc, ℤ, pos, true, false, List, Some, None, IsSomeAnd, unsigned_abs}
 use Rattle.zic_base.specs.Fault.{kind_number}
 use Rattle.zic_base.specs.declared.fault.Fault.{Fault}

@@ -1,5 +1,5 @@
--- What the RULES of a line keep: zic(8), FILES. That nothing is saved before the first occurrence, whatever the first rule of
--- standard time saves, is an own choice.
+-- The saving, flag and letter that the RULES of a line keep: zic(8), FILES. Own choice: nothing is saved before the first occurrence,
+-- even if the first rule of standard time has a saving.
 use Rattle.std.specs.Prelude.{◌≡◌, ℤ, pos, ◌≤ℤ◌, Bool, false, List, ℕ, Option, Some, None, IfSome, ◌⊎◌}
 use Rattle.zic_lines.specs.declared.rule.Rule.{Rule}
 use Rattle.zic_lines.specs.declared.rules.Rules.{Rules}
@@ -9,7 +9,7 @@ use Rattle.zic_occurrences.specs.Occurrence.{RuleSet, IsMember, Occurrence, IsOc
 use Rattle.zic_occurrences.specs.Order.{IsInstant}
 use Rattle.zic_states.specs.Until.{set_of}
 
--- what is added to standard time, whether that is daylight saving time, and what `%s` stands for, if there is a letter
+-- the saving that is added to standard time, whether that is daylight saving time, and the letter for `%s`, if there is one
 pub record Kept : Type 0 where
   pub saving : ℤ
   pub daylight : Bool
@@ -38,27 +38,27 @@ abbrev pub IsLetterBefore : RuleSet → Option (List ℕ) → Type 0
 IsLetterBefore set None = (o : Occurrence) → IsOccurrence set o → o.rule.saving.daylight ≡ false → ⊥
 IsLetterBefore set (Some letter) = (o : Occurrence) × IsFirstStandard set o × (letter ≡ o.rule.letter)
 
--- what a rule keeps once it has occurred
+-- the saving, flag and letter of a rule once it has occurred
 abbrev pub kept_of : Rule → Kept
 kept_of rule = record { saving = rule.saving.seconds; daylight = rule.saving.daylight; letter = Some rule.letter }
 
--- what an occurrence begins
+-- the saving, flag and letter that an occurrence begins
 abbrev pub kept_from : Occurrence → Kept
 kept_from o = kept_of o.rule
 
--- What a set keeps by the last occurrence whose instant is such; before all, standard time with the letter before all.
+-- A set keeps this by the last occurrence whose instant is such; before all, standard time with the letter before all.
 abbrev pub SetKeeps : RuleSet → ℤ → (ℤ → Type 0) → Kept → Type 0
 SetKeeps set offset IsSuch kept =
     ((o : Occurrence) × IsLastOf set offset IsSuch o × (kept ≡ kept_from o))
     ⊎ (NoneIs set offset IsSuch × (kept.saving ≡ pos 0) × (kept.daylight ≡ false) × IsLetterBefore set kept.letter)
 
--- What the RULES of a line keep by the last occurrence whose instant is such: standard time, the amount, or what the set keeps.
+-- The RULES of a line keep this by the last occurrence whose instant is such: standard time, the amount, or what the set keeps.
 abbrev pub RulesKeep : List Rule → ZoneLine → Rules → (ℤ → Type 0) → Kept → Type 0
 RulesKeep rules line Standard IsSuch kept = kept ≡ record { saving = pos 0; daylight = false; letter = None }
 RulesKeep rules line (Amount saving) IsSuch kept = kept ≡ record { saving = saving.seconds; daylight = saving.daylight; letter = None }
 RulesKeep rules line (Set name) IsSuch kept = SetKeeps (set_of rules name) line.offset IsSuch kept
 
--- What RULES keep by the rule of this number, and with none before all occurrences.
+-- RULES keep this by the rule of this number, and with none before all occurrences.
 abbrev pub IsKeptBy : List Rule → Rules → Option ℕ → Kept → Type 0
 IsKeptBy rules Standard number kept = kept ≡ record { saving = pos 0; daylight = false; letter = None }
 IsKeptBy rules (Amount saving) number kept = kept ≡ record { saving = saving.seconds; daylight = saving.daylight; letter = None }

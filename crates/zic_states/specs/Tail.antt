@@ -1,10 +1,10 @@
--- What decides what a zone shows from its explicit end on: the rules of the last line's set that have no last year.
+-- The rules that decide what a zone shows from its explicit end on: those of the last line's set that have no last year.
 use Rattle.std.specs.Prelude.{◌≡◌, ◌≢◌, ℕ, ◌*◌, ℤ, pos, ◌+ℤ◌, ◌<ℤ◌, ◌≤ℤ◌, List, None}
 use Rattle.zic_lines.specs.declared.rule.Rule.{Rule}
 use Rattle.zic_lines.specs.declared.rules.Rules.{Rules}
 use Rattle.zic_lines.specs.declared.rules.Rules.TheVariants.{Standard, Amount, Set}
 use Rattle.zic_lines.specs.declared.zone_line.ZoneLine.{ZoneLine}
-use Rattle.zic_occurrences.specs.Laws.{IsLastNotAfter}
+use Rattle.zic_occurrences.specs.Laws.{IsLastOccurrence}
 use Rattle.zic_occurrences.specs.Occurrence.{RuleSet, IsMember, Occurrence, IsOccurrence}
 use Rattle.zic_occurrences.specs.Order.{IsPredecessor}
 use Rattle.zic_states.specs.End.{IsLastLine, IsLastYear}
@@ -66,7 +66,7 @@ KeepsFrom zone t line kept = (u : ℤ) → t ≤ℤ u → KeepsJust zone u line 
 pub record KeepsByContinuing (zone : Zone) (t : ℤ) (line : ZoneLine) (name : List ℕ) (year : ℤ) : Type 0 where
   pub occurrence : Occurrence
   pub instant : ℤ
-  pub current : IsLastNotAfter (set_of zone.source.rules name) line.offset t occurrence instant
+  pub current : IsLastOccurrence (set_of zone.source.rules name) line.offset t occurrence instant
   pub after : year <ℤ occurrence.year
   pub continues : IsContinuing occurrence.rule
   pub keeps : KeepsJust zone t line (kept_from occurrence)

@@ -2,7 +2,7 @@
 use Rattle.std.specs.Prelude.{◌<◌, ℕ, ℤ, pos, ◌+ℤ◌, ◌-ℤ◌, ◌<ℤ◌, ◌≤ℤ◌, List, length}
 use Rattle.zic_lines.specs.declared.rule.Rule.{Rule}
 use Rattle.zic_lines.specs.declared.zone_line.ZoneLine.{ZoneLine}
-use Rattle.zic_occurrences.specs.Laws.{IsLastNotAfter}
+use Rattle.zic_occurrences.specs.Laws.{IsLastOccurrence}
 use Rattle.zic_occurrences.specs.Occurrence.{Occurrence, IsOccurrence, nominal, year_second}
 use Rattle.zic_states.specs.Change.{IsChange, IsAfterChanges}
 use Rattle.zic_states.specs.End.{IsLastLine, IsEnd}
@@ -49,7 +49,7 @@ ByNone =
     → (HasContinuing (set_of zone.source.rules name) → ⊥)
     → (kept : Kept) × KeepsFrom zone (year_second (year +ℤ pos 3) -ℤ pos 1) line kept
 
--- What the zone keeps at some instant it keeps before the end; so what it shows at some instant it shows before the end, and a
+-- All that the zone keeps at some instant it keeps before the end; so all that it shows at some instant it shows before the end, and a
 -- fault of some instant is one of an instant before the end.
 pub record KeptBefore : Type 0 where
   pub keeps : (zone : Zone) → IsOrderly zone → (end : ℤ) → IsEnd zone end → (t : ℤ) (line : ZoneLine) (kept : Kept)
@@ -61,13 +61,13 @@ pub record KeptBefore : Type 0 where
   pub bad_abbreviation : (zone : Zone) → IsOrderly zone → (end : ℤ) → IsEnd zone end → HasBadAbbreviation zone
       → (fault : HasBadAbbreviation zone) × (fault.t <ℤ end)
 
--- What a zone shows comes again after 400 years, from one second before the end on; and where a rule of the last line's set goes on
+-- The states of a zone come again after 400 years, from one second before the end on; and where a rule of the last line's set goes on
 -- for ever, from the last occurrence before the end on.
 pub record RepeatsForEver : Type 0 where
   pub from_end : (zone : Zone) → IsOrderly zone → (end : ℤ) → IsEnd zone end → Repeats zone (end -ℤ pos 1)
   pub from_last : (zone : Zone) → IsOrderly zone → (i : ℕ) (line : ZoneLine) (name : List ℕ) (year : ℤ)
       → HasLastSet zone i line name year → HasContinuing (set_of zone.source.rules name) → (o : Occurrence) (start : ℤ)
-      → IsLastNotAfter (set_of zone.source.rules name) line.offset (year_second (year +ℤ pos 3) -ℤ pos 1) o start
+      → IsLastOccurrence (set_of zone.source.rules name) line.offset (year_second (year +ℤ pos 3) -ℤ pos 1) o start
       → Repeats zone start
 
 -- Where rules of the last line's set go on for ever and alternate, each occurrence from the last before the end on follows one of
@@ -76,11 +76,11 @@ abbrev pub AlternatesForEver : Type 0
 AlternatesForEver =
     (zone : Zone) → IsOrderly zone → (i : ℕ) (line : ZoneLine) (name : List ℕ) (year : ℤ) → HasLastSet zone i line name year
     → HasContinuing (set_of zone.source.rules name) → Alternate (set_of zone.source.rules name) year → (o : Occurrence) (u : ℤ)
-    → IsLastNotAfter (set_of zone.source.rules name) line.offset (year_second (year +ℤ pos 3) -ℤ pos 1) o u
+    → IsLastOccurrence (set_of zone.source.rules name) line.offset (year_second (year +ℤ pos 3) -ℤ pos 1) o u
     → (q : Occurrence) → IsOccurrence (set_of zone.source.rules name) q → nominal o ≤ℤ nominal q
     → FollowsAnother (set_of zone.source.rules name) year q
 
--- What the zone shows at an instant before the end it shows since the last change.
+-- The state at an instant before the end is shown since the last change.
 abbrev pub StaysSinceChange : Type 0
 StaysSinceChange =
     (zone : Zone) → IsOrderly zone → zone.number < length zone.source.zones → (HasNoLetter zone → ⊥)

@@ -19,7 +19,7 @@ abbrev pub IsStage : RuleSet → Option Occurrence → Type 0
 IsStage set None = Unit {0}
 IsStage set (Some o) = IsOccurrence set o
 
--- what is saved after it; 0 before the first
+-- the saving after it; 0 before the first
 abbrev pub saved_after : Option Occurrence → ℤ
 saved_after None = pos 0
 saved_after (Some o) = o.rule.saving.seconds
@@ -30,7 +30,7 @@ ComesBefore c None = ⊥
 ComesBefore None (Some b) = Unit {0}
 ComesBefore (Some c) (Some b) = nominal c <ℤ nominal b
 
--- an UNTIL, read on a line of this standard offset while so many seconds are saved
+-- an UNTIL, read on a line of this standard offset with this saving
 abbrev pub until_by : ℤ → Until → ℤ → ℤ
 until_by offset until saved = instant_by until.moment.at.form offset saved (nominal_second (pos until.year) until.moment)
 
@@ -49,7 +49,7 @@ pub record IsReadAfter (set : RuleSet) (offset : ℤ) (until : Until) (b : Optio
 abbrev pub set_of : List Rule → List ℕ → RuleSet
 set_of rules name = record { rules = rules; name = name }
 
--- what is saved at an UNTIL: nothing, the line's own amount, or what its set saves
+-- the saving at an UNTIL: none, the line's own amount, or that of its set
 abbrev pub IsSavedAtUntil : List Rule → ℤ → Until → Rules → ℤ → Type 0
 IsSavedAtUntil rules offset until Standard saved = saved ≡ pos 0
 IsSavedAtUntil rules offset until (Amount saving) saved = saved ≡ saving.seconds

@@ -1,4 +1,4 @@
--- What a zone shows at an instant: zic(8), FILES. The window at the start of a line with a set is an own choice: it is taken
+-- The state that a zone shows at an instant: zic(8), FILES. The window at the start of a line with a set is an own choice: it is taken
 -- once, and includes its last instant.
 use Rattle.std.specs.Prelude.{◌≡◌, ℕ, zero, suc, ℤ, pos, ◌+ℤ◌, ◌-ℤ◌, ◌<ℤ◌, ◌≤ℤ◌, List, Option, Some, None, IsSomeAnd, slice_get}
 use Rattle.std.specs.Int.{int_max}
@@ -46,13 +46,13 @@ pub record Governs (zone : Zone) (i : ℕ) (line : ZoneLine) (t : ℤ) : Type 0 
   pub begun : HasBegun zone i t
   pub not_over : IsNotOver zone line t
 
--- What the line keeps by the last of its occurrences, of those before its UNTIL, that isn't after t.
+-- The line keeps this by the last of its occurrences, of those before its UNTIL, that isn't after t.
 abbrev pub KeepsBy : Zone → ZoneLine → ℤ → Kept → Type 0
 KeepsBy zone line t kept = RulesKeep zone.source.rules line line.rules (λ u. (u ≤ℤ t) × IsNotOver zone line u) kept
 
 -- The window of a line that follows another. The earlier line shows an offset one second before the start; by itself the later
 -- line would show another at the start. Where that one is less, clocks go back by the difference, and what the later line's
--- occurrences say within so many seconds holds from the start on.
+-- occurrences say within that number of seconds holds from the start on.
 pub record IsWindowEnd (zone : Zone) (i : ℕ) (Keeps : ZoneLine → ℤ → Kept → Type 0) (later : ZoneLine) (end : ℤ) : Type 0 where
   pub start : ℤ
   pub starts : Ends zone i start
@@ -64,7 +64,7 @@ pub record IsWindowEnd (zone : Zone) (i : ℕ) (Keeps : ZoneLine → ℤ → Kep
   pub keeps_by_itself : KeepsBy zone later start by_itself
   pub is : end ≡ start +ℤ int_max (pos 0) ((earlier.offset +ℤ kept.saving) -ℤ (later.offset +ℤ by_itself.saving))
 
--- What the line of this number keeps at t: by its last occurrence not after t, or in its window not after the window's end.
+-- The line of this number keeps this at t: by its last occurrence not after t, or in its window not after the window's end.
 unfoldable pub Keeps : Zone → ℕ → ZoneLine → ℤ → Kept → Type 0
 Keeps zone zero line t kept = KeepsBy zone line t kept
 Keeps zone (suc i) line t kept =

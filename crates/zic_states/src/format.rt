@@ -7,7 +7,7 @@ ghost use Rattle.zic_words.specs.Limits.{is_abbreviation};
 ghost use Rattle.zic_states.specs.Refusal.{IsRefusal};
 
 use crate::abbreviation::Abbreviation;
-use crate::offset_text::offset_text;
+use crate::offset_text::short_offset_text;
 use arrayvec::ArrayVec;
 use zic_base::{Kind, LONGEST_ABBREVIATION};
 use zic_lines::Format;
@@ -37,7 +37,7 @@ pub fn abbreviation(
             None => return Err(Kind::NoLetter),
         },
         Format::Offset(before, after) => {
-            let middle = offset_text(offset);
+            let middle = short_offset_text(offset);
             joined(before.octets(), middle.as_slice(), after.octets())
         }
         Format::Pair(standard, saving) => {

@@ -12,5 +12,5 @@ mod until;
 
 pub use abbreviation::{Abbreviation, is_abbreviation};
 pub use current::{before, rule_at};
-pub use observance::{Observance, kept_is_found_in_list, observance_by};
+pub use observance::{Observance, observance_by};
 pub use until::until_instant;

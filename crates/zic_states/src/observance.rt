@@ -4,7 +4,6 @@ ghost use Rattle.std.specs.Prelude.{◌≡◌, ◌<◌, ◌↔◌, pos, false, A
 ghost use Rattle.std.specs.Option.{ForSome, option_copied};
 ghost use Rattle.zic_source.specs.Sound.{IsSoundRule};
 ghost use Rattle.zic_occurrences.specs.Occurrence.{nominal_second};
-ghost use Rattle.zic_states.specs.ByList.{KeptByList};
 ghost use Rattle.zic_states.specs.Observance.{kept};
 ghost use Rattle.zic_states.specs.Kept.{IsLetterBefore, IsKeptBy, IsRuleOf};
 ghost use Rattle.zic_states.specs.Until.{set_of};
@@ -114,8 +113,3 @@ fn first_second(rule: &Rule) -> i64
 {
     nominal_second(rule.first, &rule.moment)
 }
-
-/// The law that a line keeps what a list of its set's occurrences says. Does nothing.
-pub fn kept_is_found_in_list()
-    ensures { KeptByList }
-{}

@@ -3,7 +3,7 @@
 ghost use Rattle.std.specs.Prelude.{◌≡◌, ◌+◌, ◌<◌, ◌≤◌, ◌++◌, unsigned_abs};
 ghost use Rattle.arrayvec.specs.ArrayVec.{array_vec_len};
 ghost use Rattle.zic_base.specs.Digits.{two_digits};
-ghost use Rattle.zic_states.specs.Abbreviation.{minutes_text, sign, offset_text};
+ghost use Rattle.zic_states.specs.Abbreviation.{minutes_text, sign, short_offset_text};
 
 use arrayvec::ArrayVec;
 use zic_base::two_digits;
@@ -18,9 +18,9 @@ type Text = ArrayVec<u8, LONGEST_OFFSET_TEXT>;
 
 /// Returns the shortest of `+hh`, `+hhmm` and `+hhmmss` that tells a UT offset in seconds, with `-`
 /// west of Greenwich.
-pub(crate) fn offset_text(offset: i32) -> Text
+pub(crate) fn short_offset_text(offset: i32) -> Text
     requires { unsigned_abs offset ≤ GREATEST_OFFSET }
-    ensures { result.items ≡ offset_text offset }
+    ensures { result.items ≡ short_offset_text offset }
 {
     let seconds = offset.unsigned_abs();
     let mut text = Text::new();

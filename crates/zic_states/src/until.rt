@@ -13,8 +13,8 @@ use zic_source::Source;
 /// Returns the instant of a line's UNTIL, in seconds from 1970-01-01T00:00:00 UT without leap
 /// seconds; none where the line has no UNTIL. A time of day by the wall clock is read with what is
 /// saved by the line's own RULES: where they name a set, after the least number of its occurrences
-/// after which the next isn't before the UNTIL so read. So an occurrence at the very instant of the
-/// UNTIL doesn't count.
+/// such that the next one isn't before the instant that results. So an occurrence at the exact
+/// instant of the UNTIL doesn't count.
 pub fn until_instant(
     source: &Source,
     line: &ZoneLine,

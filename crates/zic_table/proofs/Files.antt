@@ -6,7 +6,7 @@ use Rattle.zic_base.specs.State.{Shown}
 use Rattle.zic_base.proofs.Checks.{each_passes}
 use Rattle.zic_states.specs.Change as of_zone
 use Rattle.zic_states.specs.Zone.{Zone, Shows}
-use Rattle.zic_rules.specs.Timeline.{IsWhole}
+use Rattle.zic_rules.specs.Timeline.{IsWholeZone}
 use Rattle.zic_posix.specs.Footer.{TzString, version_of}
 use Rattle.zic_posix.specs.Grammar.{IsTzString}
 use Rattle.zic_posix.specs.Printing.{printed}
@@ -26,7 +26,7 @@ use Rattle.zic_table.proofs.ChangeBounds.{change_fits}
 use Rattle.zic_table.proofs.Footers.{footer_goes_on}
 use Rattle.zic_table.proofs.Instants.{gives_shows}
 
-module _ (zone : Zone) (whole : IsWhole zone) (f : TzString) (made : IsMade zone f) (content : Content) (of : IsContentOf zone f content) where
+module _ (zone : Zone) (whole : IsWholeZone zone) (f : TzString) (made : IsMade zone f) (content : Content) (of : IsContentOf zone f content) where
   abbrev states : List Shown
   states = states_of of.first of.changes
 

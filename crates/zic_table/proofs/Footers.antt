@@ -7,7 +7,7 @@ use Rattle.zic_base.specs.declared.fault.Kind.TheVariants as kind
 use Rattle.zic_lines.specs.declared.rules.Rules.{Rules}
 use Rattle.zic_lines.specs.declared.zone_line.ZoneLine.{ZoneLine}
 use Rattle.zic_base.proofs.Elements.{only_one}
-use Rattle.zic_occurrences.specs.Laws.{IsLastNotAfter}
+use Rattle.zic_occurrences.specs.Laws.{IsLastOccurrence}
 use Rattle.zic_occurrences.specs.Occurrence.{RuleSet, year_second}
 use Rattle.zic_words.specs.Limits.{is_abbreviation}
 use Rattle.zic_states.specs.End.{IsEnd, IsEndBy}
@@ -21,7 +21,7 @@ use Rattle.zic_states.proofs.TailKept.{given, keeps_from_last, by_one, by_none}
 use Rattle.zic_states.proofs.TailLine.{governs_from_end, fixed_tail}
 use Rattle.zic_states.proofs.TailSet.{rule_in, own_instant}
 use Rattle.zic_rules.specs.Tail.{AreContinuing, IsTailBy, IsRulesTail, HasConstantTail}
-use Rattle.zic_rules.specs.Timeline.{IsWhole}
+use Rattle.zic_rules.specs.Timeline.{IsWholeZone}
 use Rattle.zic_rules.specs.declared.tail.TailRule.{TailRule}
 use Rattle.zic_rules.proofs.Limits.{shows_within_limits}
 use Rattle.zic_rules.proofs.TailTurns.{rules_tail}
@@ -35,7 +35,7 @@ use Rattle.zic_footer.proofs.OneTail.{same_name, same_last}
 use Rattle.zic_footer.proofs.Pairs.{sound_pair, is_string}
 use Rattle.zic_footer.proofs.TailRules.{HasRule, AreTwo, two_rules, sound_tails}
 
-module _ (zone : Zone) (whole : IsWhole zone) (end : ℤ) (is_end : IsEnd zone end) where
+module _ (zone : Zone) (whole : IsWholeZone zone) (end : ℤ) (is_end : IsEnd zone end) where
   -- ---- one state for ever
 
   -- from one second before the end the zone keeps one thing
@@ -145,7 +145,7 @@ module _ (zone : Zone) (whole : IsWhole zone) (end : ℤ) (is_end : IsEnd zone e
         let from = given zone whole.orderly by.number by.line by.name by.last by.last_set in
         let (later, t, occurs, at, late, early) = own_instant set by.line.offset by.last from n of is.member is.continues in
         let o = rule_in n of later in
-        let current : IsLastNotAfter set by.line.offset t o t = record { is = occurs; instant = at; not_after = omega (arith, ints); last = λ q u is_q at_q le. le } in
+        let current : IsLastOccurrence set by.line.offset t o t = record { is = occurs; instant = at; not_after = omega (arith, ints); last = λ q u is_q at_q le. le } in
         let keeps = keeps_from_last zone whole.orderly by.number by.line by.name by.last by.last_set t o t (omega (arith, ints)) current in
         let state : Shown = record { offset = by.line.offset +ℤ of.saving.seconds; daylight = of.saving.daylight; name = rule.name } in
         let shows : Shows zone t state = record { line = by.line; kept = kept_of of; keeps = keeps.keeps; offset = refl; daylight = refl; name = is.is.name } in
@@ -166,7 +166,7 @@ module _ (zone : Zone) (whole : IsWhole zone) (end : ℤ) (is_end : IsEnd zone e
   made_is_string f (inl (state, for_ever, standard, is)) = subst IsTzString (sym is) (constant_is_string state for_ever)
   made_is_string f (inr (standard, starting, ending, turns, is)) = subst IsTzString (sym is) (rules_are_string standard starting ending turns)
 
-pub footer_goes_on : (zone : Zone) → IsWhole zone → (f : TzString) → IsMade zone f → GoesOn zone f × IsTzString f
+pub footer_goes_on : (zone : Zone) → IsWholeZone zone → (f : TzString) → IsMade zone f → GoesOn zone f × IsTzString f
 footer_goes_on zone whole f made =
     let (end, is_end) = whole.has_end in
     (made_goes_on zone whole end is_end f made, made_is_string zone whole end is_end f made)

@@ -28,7 +28,7 @@ use Rattle.zic_footer.specs.Making.{GoesOn}
 use Rattle.zic_content.specs.declared.content.Change.{Change}
 use Rattle.zic_content.specs.Content.{Content, IsFooter, IsStateOfType, IsWritable, type_state}
 use Rattle.zic_table.specs.ContentOf.{before, states_of, names_of, local_type, transition, content_of, IsContentOf}
-use Rattle.zic_tzif.specs.Answer.{IsLastNotAfter, IsBeforeAll, IsBeforeLast, IsTypeAt, Gives, Answers}
+use Rattle.zic_tzif.specs.Answer.{IsLastChange, IsBeforeAll, IsBeforeLast, IsTypeAt, Gives, Answers}
 use Rattle.zic_tzif.proofs.AnswerLemmas.{answer_at}
 use Rattle.zic_table.proofs.Types.{is_state, type_at_number, state_of_type}
 
@@ -146,7 +146,7 @@ module _ (zone : Zone) (source : IsSoundSource zone.source) (is_zone : zone.numb
       ]
 
   -- no change lies between the last transition not after t and t
-  none_between : (t : ℤ) (c : Change) → IsLastNotAfter content t c → (u : ℤ) → IsChange zone u → c.instant <ℤ u → t <ℤ u
+  none_between : (t : ℤ) (c : Change) → IsLastChange content t c → (u : ℤ) → IsChange zone u → c.instant <ℤ u → t <ℤ u
   none_between t c last u is after =
       let (e, has, instant) = has_transition u is in
       elim (not_after_or_later last.earlier last.later c last.is e has) [

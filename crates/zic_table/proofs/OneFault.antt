@@ -19,7 +19,7 @@ use Rattle.zic_states.specs.Fault.{Applies, IsFaultOfStates, IsSound}
 use Rattle.zic_states.specs.Zone.{Zone, lines_of}
 use Rattle.zic_states.proofs.Lines.{orderly, some_and_has}
 use Rattle.zic_rules.specs.Tail.{IsTailBy}
-use Rattle.zic_rules.specs.Timeline.{IsWhole}
+use Rattle.zic_rules.specs.Timeline.{IsWholeZone}
 use Rattle.zic_rules.specs.declared.tail.TailRule.{TailRule}
 use Rattle.zic_posix.specs.Footer.{TzString}
 use Rattle.zic_footer.specs.Making.{IsMade, IsFaultOfFooter}
@@ -75,7 +75,7 @@ module _ (zone : Zone) where
   has_end f (inr (offset, starting, ending, turns, is)) = end_by_tail offset turns.year turns.tails turns.by
 
   module _ (source : IsSoundSource zone.source) (is_zone : zone.number < length zone.source.zones) (sound : IsSound zone) where
-    whole : (end : ℤ) × IsEnd zone end → IsWhole zone
+    whole : (end : ℤ) × IsEnd zone end → IsWholeZone zone
     whole some_end = record { source = source; is_zone = is_zone; sound = sound; orderly = orderly zone source sound; has_end = some_end }
 
     one_of_footer : (place : Place) (a b : Fault) → IsFaultOfFooter zone place a → IsFaultOfFooter zone place b → a ≡ b

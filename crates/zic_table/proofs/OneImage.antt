@@ -22,7 +22,7 @@ use Rattle.zic_states.proofs.Ends.{one_end}
 use Rattle.zic_states.proofs.Lines.{last_line, some_and_has}
 use Rattle.zic_states.proofs.States.{one_state}
 use Rattle.zic_rules.specs.Tail.{AreContinuing, IsTailBy, HasConstantTail}
-use Rattle.zic_rules.specs.Timeline.{IsWhole}
+use Rattle.zic_rules.specs.Timeline.{IsWholeZone}
 use Rattle.zic_rules.specs.declared.tail.TailRule.{TailRule}
 use Rattle.zic_posix.specs.Footer.{TzString, constant}
 use Rattle.zic_footer.specs.Making.{IsForEver, AreInTurn, IsMade, IsFaultOfFooter, by_rules}
@@ -47,7 +47,7 @@ only_one_of [] m n short has other = absurd (omega (arith, has.1))
 only_one_of (x ∷ []) m n short has other = sym (only_one x m has) ∙ only_one x n other
 only_one_of (x ∷ y ∷ xs) m n short has other = absurd (omega (arith, short))
 
-module _ (zone : Zone) (whole : IsWhole zone) where
+module _ (zone : Zone) (whole : IsWholeZone zone) where
   -- ---- one last line
 
   same_line : (i j : ℕ) (a b : ZoneLine) → IsLastLine zone i a → IsLastLine zone j b → a ≡ b

@@ -26,7 +26,7 @@ use Rattle.zic_states.specs.Zone.{Zone, Shows}
 use Rattle.zic_states.proofs.Changes.{has_beginning, one_list_of_changes}
 use Rattle.zic_states.proofs.States.{one_state}
 use Rattle.zic_words.specs.Limits.{IsWithinLimits}
-use Rattle.zic_rules.specs.Timeline.{IsWhole}
+use Rattle.zic_rules.specs.Timeline.{IsWholeZone}
 use Rattle.zic_rules.proofs.Limits.{shows_within_limits}
 use Rattle.zic_footer.specs.Making.{IsMade, GoesOn}
 use Rattle.zic_content.specs.Content.{Content, IsFooter, IsLocalType, IsWritable, type_state}
@@ -71,7 +71,7 @@ known_version (Some dst) v e = chosen_version (is_of_day dst.start && is_of_day 
 
 -- ---- what a zone shows
 
-module _ (zone : Zone) (whole : IsWhole zone) (first : Shown) (changes : List of_zone.Change) (are : of_zone.AreChanges zone changes) (is_first : of_zone.IsFirstState zone first) where
+module _ (zone : Zone) (whole : IsWholeZone zone) (first : Shown) (changes : List of_zone.Change) (are : of_zone.AreChanges zone changes) (is_first : of_zone.IsFirstState zone first) where
   abbrev states : List Shown
   states = states_of first changes
 
@@ -179,7 +179,7 @@ module _ (zone : Zone) (whole : IsWhole zone) (first : Shown) (changes : List of
 
 -- ---- the table
 
-module _ (zone : Zone) (whole : IsWhole zone) where
+module _ (zone : Zone) (whole : IsWholeZone zone) where
   -- any list of the changes is as long
   pub same_count : (some all : List of_zone.Change) → of_zone.AreChanges zone some → of_zone.AreChanges zone all → length some ≡ length all
   same_count some all are_some are_all = ap (λ (l : List of_zone.Change). length l) (one_list_of_changes zone whole.orderly some all are_some are_all)

@@ -23,7 +23,7 @@ use Rattle.zic_words.specs.Limits.{is_abbreviation}
 use Rattle.zic_states.specs.Kept.{IsKeptBy, kept_of}
 use Rattle.zic_states.specs.Zone.{Zone}
 use Rattle.zic_rules.specs.Tail.{IsTailBy}
-use Rattle.zic_rules.specs.Timeline.{IsWhole}
+use Rattle.zic_rules.specs.Timeline.{IsWholeZone}
 use Rattle.zic_rules.specs.declared.tail.TailRule.{TailRule}
 use Rattle.zic_rules.proofs.Limits.{shows_within_limits}
 use Rattle.zic_rules.proofs.TailHeld.{held_for_ever}
@@ -109,7 +109,7 @@ abbreviation_length name e =
     let lengths = (and_parts (nat_le SHORTEST_ABBREVIATION (length name) && nat_le (length name) LONGEST_ABBREVIATION) (list_all is_abbreviation_byte name) e).0 in
     leb-true _ _ (and_parts (nat_le SHORTEST_ABBREVIATION (length name)) (nat_le (length name) LONGEST_ABBREVIATION) lengths).1
 
-module _ (zone : Zone) (whole : IsWhole zone) where
+module _ (zone : Zone) (whole : IsWholeZone zone) where
   -- what a rule that goes on begins is shown some time, so its name is an abbreviation
   tail_name : (standard year : ℤ) (tails : List TailRule) → IsTailBy zone standard year tails → (k : ℕ) (tail : TailRule) → slice_get tails k ≡ Some tail
       → length tail.name ≤ LONGEST_ABBREVIATION

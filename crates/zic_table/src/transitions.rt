@@ -5,7 +5,7 @@ ghost use Rattle.zic_base.specs.Fault.{fault_at, fault_of};
 ghost use Rattle.zic_base.specs.Memory.{IfRefusal};
 ghost use Rattle.zic_base.specs.State.{shown};
 ghost use Rattle.zic_states.specs.Change.{IsFirstState};
-ghost use Rattle.zic_rules.specs.Timeline.{IsWhole};
+ghost use Rattle.zic_rules.specs.Timeline.{IsWholeZone};
 ghost use Rattle.zic_table.specs.code.Transitions.{AreTransitions, HasManyTypes};
 
 use crate::numbering::Numbering;
@@ -29,7 +29,7 @@ pub(crate) fn transitions<'a>(
     t: &'a Timeline<'_>,
     first: State<'a>,
 ) -> Result<Numbered<'a>, Stop>
-    requires whole { IsWhole t.now }
+    requires whole { IsWholeZone t.now }
     requires first { IsFirstState t.now (shown first) }
     ensures ok { IfOk result (λ made. AreTransitions t.now made.numbering made.changes.items) }
     ensures err { IfRefusal fault_of result

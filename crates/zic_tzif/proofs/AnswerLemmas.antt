@@ -13,7 +13,7 @@ use Rattle.zic_posix.proofs.StringLemmas.{spells_one, limits_of}
 use Rattle.zic_content.specs.declared.content.Change.{Change}
 use Rattle.zic_content.specs.declared.content.LocalType.{LocalType}
 use Rattle.zic_content.specs.Content.{Content, IsStateOfType, type_state}
-use Rattle.zic_tzif.specs.Answer.{IsLastNotAfter, IsBeforeAll, IsBeforeLast, IsTypeAt, HasNeither, Gives, IsUnspecified, Answers}
+use Rattle.zic_tzif.specs.Answer.{IsLastChange, IsBeforeAll, IsBeforeLast, IsTypeAt, HasNeither, Gives, IsUnspecified, Answers}
 use Rattle.zic_tzif.specs.Reading.{HasFooter}
 use Rattle.zic_tzif.proofs.Transitions.{AllPairs-first, AllPairs-rest}
 
@@ -65,7 +65,7 @@ one_last t (x ∷ earlier) [] later other_later a b same from_a from_b last_a la
 one_last t (x ∷ earlier) (y ∷ other_earlier) later other_later a b same from_a from_b last_a last_b =
     one_last t earlier other_earlier later other_later a b (same_tail x y (earlier ++ a ∷ later) (other_earlier ++ b ∷ other_later) same) from_a from_b last_a last_b
 
-not_before_all : (content : Content) (t : ℤ) (c : Change) → IsBeforeAll content t → IsLastNotAfter content t c → ⊥
+not_before_all : (content : Content) (t : ℤ) (c : Change) → IsBeforeAll content t → IsLastChange content t c → ⊥
 not_before_all content t c none found =
     let above : t <ℤ c.instant = member_of (λ (c : Change). t <ℤ c.instant) found.earlier found.later c (subst (All (λ (c : Change). t <ℤ c.instant)) found.is none) in
     omega (arith, ints, above, found.not_after)

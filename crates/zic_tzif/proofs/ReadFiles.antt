@@ -19,7 +19,7 @@ use Rattle.zic_tzif.specs.declared.reason.Reason.{Reason}
 use Rattle.zic_tzif.specs.declared.reason.Reason.TheVariants as reason
 use Rattle.zic_tzif.specs.Header.{second_counts, footer_place}
 use Rattle.zic_tzif.specs.Block.{type_in, times_in, do_rise, numbers_in, changes_at, type_records, names_in, is_type_record, footer_text}
-use Rattle.zic_tzif.specs.Reading.{first_checks, second_checks, block_checks, footer_checks, checks, content_in, HasFooter, IsWhole, IsFile, IsSomeFile, IsFault, MayRunOutOfMemory, reason_of}
+use Rattle.zic_tzif.specs.Reading.{first_checks, second_checks, block_checks, footer_checks, checks, content_in, HasFooter, EndsAfterFooter, IsFile, IsSomeFile, IsFault, ReadNeedsMemory, reason_of}
 use Rattle.zic_tzif.specs.code.Kept.{IsKept}
 use Rattle.zic_tzif.specs.code.Parts.{HasParts, AreParts, times_of, records_of, checks_of, content_of}
 use Rattle.zic_tzif.proofs.Passed.{pieces_length}
@@ -69,7 +69,7 @@ fails_footer o r e1 e2 e3 e =
 
 -- behind those checks
 fails_later : (o : List ℕ) (r : Reason) → first_failed (checks o) ≡ None
-    → ((r ≡ reason.Footer) × (HasFooter (content_in o) → ⊥)) ⊎ ((r ≡ reason.TrailingBytes) × HasFooter (content_in o) × (IsWhole o → ⊥)) → IsFault o r
+    → ((r ≡ reason.Footer) × (HasFooter (content_in o) → ⊥)) ⊎ ((r ≡ reason.TrailingBytes) × HasFooter (content_in o) × (EndsAfterFooter o → ⊥)) → IsFault o r
 fails_later o r e why = at_none (first_failed (checks o)) _ _ e why
 
 -- the checks of a block that has the parts
@@ -112,7 +112,7 @@ footer_fault o p (Some r) passes parts none =
     fails_later o r passes (inl (none.0, λ has. none.1 (subst HasFooter (sym (content_is o p parts)) has)))
 
 -- memory may be wanting with a long name
-pub footer_memory : (o : List ℕ) (p : Parts) (r : Option Reason) → first_failed (checks o) ≡ None → AreParts o p → IfNone r (NeedsMemory p.version p.text.now) → IfNone r (MayRunOutOfMemory o)
+pub footer_memory : (o : List ℕ) (p : Parts) (r : Option Reason) → first_failed (checks o) ≡ None → AreParts o p → IfNone r (NeedsMemory p.version p.text.now) → IfNone r (ReadNeedsMemory o)
 footer_memory o p (Some r) passes parts needs = tt
 footer_memory o p None passes parts needs =
     inr (passes, subst (λ (content : Content). NeedsMemory content.version content.text) (content_is o p parts) needs)
@@ -182,7 +182,7 @@ one_reason None Known Whole a b h k = one_later Known Whole a b h k
 one_reason (Some first) Known Whole a b h k = h ∙ sym k
 
 pub fault_is_one : (o : List ℕ) (a b : Reason) → IsFault o a → IsFault o b → a ≡ b
-fault_is_one o a b h k = one_reason (first_failed (checks o)) (HasFooter (content_in o)) (IsWhole o) a b h k
+fault_is_one o a b h k = one_reason (first_failed (checks o)) (HasFooter (content_in o)) (EndsAfterFooter o) a b h k
 
 no_reason : (o : List ℕ) (r : Option Reason) → IfSome r (IsFault o) → IsSomeFile o → IfSome r (λ _. ⊥)
 no_reason o None err file = tt

@@ -8,7 +8,7 @@ use Rattle.zic_posix.specs.Footer.{TzString}
 use Rattle.zic_posix.specs.Meaning.{Means}
 use Rattle.zic_content.specs.declared.content.Change.{Change}
 use Rattle.zic_content.specs.Content.{Content, IsFooter}
-use Rattle.zic_tzif.specs.Answer.{IsLastNotAfter, IsBeforeLast, IsTypeAt, Gives, IsUnspecified}
+use Rattle.zic_tzif.specs.Answer.{IsLastChange, IsBeforeLast, IsTypeAt, Gives, IsUnspecified}
 use Rattle.zic_tzif.specs.Block.{changes_at}
 use Rattle.zic_tzif.specs.code.After.{IsNumberAfter, IsStateAfter}
 use Rattle.zic_tzif.specs.code.Window.{IsSplit}
@@ -85,7 +85,7 @@ module _ (content : Content) (t : ℤ) (n : ℕ) (point : IsFound content.change
   not_after_below : (k : ℕ) → k < n → (d : Change) → (get_or content.changes k d).instant ≤ℤ t
   not_after_below k below d = point.not_after k below d
 
-  last_at : (k : ℕ) (c : Change) → n ≡ suc k → slice_get content.changes k ≡ Some c → IsLastNotAfter content t c
+  last_at : (k : ℕ) (c : Change) → n ≡ suc k → slice_get content.changes k ≡ Some c → IsLastChange content t c
   last_at k c is at = record {
     earlier = take k content.changes;
     later = drop (suc k) content.changes;

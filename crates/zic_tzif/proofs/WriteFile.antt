@@ -17,7 +17,7 @@ use Rattle.zic_tzif.specs.declared.reason.Reason.{Reason}
 use Rattle.zic_tzif.specs.declared.reason.Reason.TheVariants as reason
 use Rattle.zic_tzif.specs.Header.{Counts, counts_at, second_header, second_block, second_counts, footer_place}
 use Rattle.zic_tzif.specs.Block.{type_in, times_in, do_rise, numbers_in, changes_at, type_records, names_in, indicators_in, behind_newline, footer_text, is_type_record}
-use Rattle.zic_tzif.specs.Reading.{are_counts, checks, content_in, IsWhole, IsFile}
+use Rattle.zic_tzif.specs.Reading.{are_counts, checks, content_in, EndsAfterFooter, IsFile}
 use Rattle.zic_tzif.specs.Writing.{type_octets, written, WrittenIsFile}
 use Rattle.zic_tzif.proofs.Transitions.{do_rise_again, numbers_again, changes_again}
 use Rattle.zic_tzif.proofs.WriteText.{IsOneLine, one_line}
@@ -175,7 +175,7 @@ module _ (octets : List ℕ) (content : Content) (laid : IsLaid octets content) 
   text_is : footer_text octets ≡ content.text
   text_is = ap (before_first (λ b. b == 10)) (behind_newline_is octets content laid) ∙ up_to_newline content.text (one_line content.version content.text fits.footer.0 fits.footer.1.spells)
 
-  whole : IsWhole octets
+  whole : EndsAfterFooter octets
   whole = omega (arith, laid.size, footer_at octets content laid, ap length text_is)
 
   says : content ≡ content_in octets

@@ -1,4 +1,4 @@
--- What a file answers at an instant: RFC 9636, 3.2 and 3.3.
+-- The answer of a file at an instant: RFC 9636, 3.2 and 3.3.
 use Rattle.std.specs.Prelude.{◌≡◌, ◌≢◌, ℕ, ℤ, ◌<ℤ◌, ◌≤ℤ◌, ◌⊎◌, List, [], ◌∷◌, ◌++◌, All, Any, Option, Some, None}
 use Rattle.zic_base.specs.State.{Shown, shown}
 use Rattle.zic_posix.specs.Footer.{TzString}
@@ -12,7 +12,7 @@ use Rattle.zic_tzif.specs.declared.zone.Answer.{Answer}
 use Rattle.zic_tzif.specs.declared.zone.Answer.TheVariants as answer
 
 -- the last transition that isn't after t
-pub record IsLastNotAfter (content : Content) (t : ℤ) (c : Change) : Type 0 where
+pub record IsLastChange (content : Content) (t : ℤ) (c : Change) : Type 0 where
   pub earlier : List Change
   pub later : List Change
   pub is : content.changes ≡ earlier ++ c ∷ later
@@ -29,7 +29,7 @@ IsBeforeLast content t = Any (λ c. t <ℤ c.instant) content.changes
 
 -- the number of the type in force by the transitions: type 0 before all of them, and then that of the last one not after t
 abbrev pub IsTypeAt : Content → ℤ → ℕ → Type 0
-IsTypeAt content t number = (IsBeforeAll content t × (number ≡ 0)) ⊎ ((c : Change) × IsLastNotAfter content t c × (number ≡ c.number))
+IsTypeAt content t number = (IsBeforeAll content t × (number ≡ 0)) ⊎ ((c : Change) × IsLastChange content t c × (number ≡ c.number))
 
 -- no transition and no footer
 abbrev pub HasNeither : Content → Type 0
@@ -53,7 +53,7 @@ abbrev pub answered : Answer → Option Shown
 answered (answer.Known state) = Some (shown state)
 answered answer.Unspecified = None
 
--- what a content answers at an instant
+-- the answer of a content at an instant
 abbrev pub Answers : Content → ℤ → Option Shown → Type 0
 Answers content t (Some state) = Gives content t state
 Answers content t None = IsUnspecified content t
@@ -62,7 +62,7 @@ Answers content t None = IsUnspecified content t
 abbrev pub HasTransitionAt : Content → ℤ → Type 0
 HasTransitionAt content t = Any (λ c. c.instant ≡ t) content.changes
 
--- What is answered may change at the instant: it is a transition's, or, from the last transition on, an edge of the footer.
+-- The answer may change at the instant: it is a transition's, or, from the last transition on, an edge of the footer.
 abbrev pub MayChangeAt : Content → ℤ → Type 0
 MayChangeAt content t =
     HasTransitionAt content t

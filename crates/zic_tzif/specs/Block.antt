@@ -54,7 +54,7 @@ names_in octets = take (second_counts octets).characters (drop (names_place octe
 abbrev pub indicators_in : List ℕ → List ℕ
 indicators_in octets = take ((second_counts octets).standard_indicators + (second_counts octets).ut_indicators) (drop (indicators_place octets) octets)
 
--- what stands after the footer's first newline, and its text, which ends at the next newline
+-- the bytes after the footer's first newline, and its text, which ends at the next newline
 abbrev pub behind_newline : List ℕ → List ℕ
 behind_newline octets = drop (footer_place octets + 1) octets
 

@@ -64,7 +64,7 @@ footer_checks octets =
 abbrev pub checks : List ℕ → List (Check Reason)
 checks octets = first_checks octets ++ second_checks octets ++ block_checks octets ++ footer_checks octets
 
--- what the bytes say, where they are a file
+-- the content of the bytes, where they are a file
 abbrev pub content_in : List ℕ → Content
 content_in octets = record {
   version = slice_index octets 4 - 48;
@@ -79,21 +79,21 @@ abbrev pub HasFooter : Content → Type 0
 HasFooter content = (content.text ≡ []) ⊎ ((f : TzString) × IsFooter content f)
 
 -- nothing follows the second newline
-abbrev pub IsWhole : List ℕ → Type 0
-IsWhole octets = length octets ≡ footer_place octets + length (footer_text octets) + 2
+abbrev pub EndsAfterFooter : List ℕ → Type 0
+EndsAfterFooter octets = length octets ≡ footer_place octets + length (footer_text octets) + 2
 
 -- the bytes are a file, and this is what it says
 pub record IsFile (octets : List ℕ) (content : Content) : Type 0 where
   pub passes : first_failed (checks octets) ≡ None
   pub footer : HasFooter content
-  pub whole : IsWhole octets
+  pub whole : EndsAfterFooter octets
   pub says : content ≡ content_in octets
 
 -- the first check that the bytes fail has this reason
 abbrev pub IsFault : List ℕ → Reason → Type 0
 IsFault octets r = MatchOption (first_failed (checks octets))
     (((r ≡ reason.Footer) × (HasFooter (content_in octets) → ⊥))
-    ⊎ ((r ≡ reason.TrailingBytes) × HasFooter (content_in octets) × (IsWhole octets → ⊥)))
+    ⊎ ((r ≡ reason.TrailingBytes) × HasFooter (content_in octets) × (EndsAfterFooter octets → ⊥)))
     (λ first. r ≡ first)
 
 -- the bytes are a file
@@ -102,8 +102,8 @@ IsSomeFile octets = (content : Content) × IsFile octets content
 
 -- Where a reader may run out of memory: with bytes that are a file, or that pass all checks up to the second newline, with a footer's text that
 -- spells a TZ string with a long name. Whether such a footer agrees with the last transition is seen by what takes memory.
-abbrev pub MayRunOutOfMemory : List ℕ → Type 0
-MayRunOutOfMemory octets =
+abbrev pub ReadNeedsMemory : List ℕ → Type 0
+ReadNeedsMemory octets =
     IsSomeFile octets
     ⊎ ((first_failed (checks octets) ≡ None) × NeedsMemory (content_in octets).version (footer_text octets))
 

@@ -1,4 +1,4 @@
--- What only the proofs of this crate's code use. No public contract cites it.
+-- Definitions for the code of this crate and for proofs. No contract of an exported function cites them.
 pub mod After
 pub mod Kept
 pub mod Parts

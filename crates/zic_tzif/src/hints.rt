@@ -5,7 +5,7 @@ ghost use Rattle.std.specs.Prelude.{◌<◌};
 use std::alloc::{AllocError, Global};
 
 /// The most slots are 2 to the power of this.
-const MOST_SLOT_BITS: u32 = 10;
+const MAX_SLOT_BITS: u32 = 10;
 
 /// How many times come before each slot, where a slot is one of up to 1,024 equal parts of the time
 /// from the first of them to the last. They only tell a search where to begin: what it finds there
@@ -25,7 +25,7 @@ impl Hints {
     pub fn new(alloc: Global, times: &[i64]) -> Result<Hints, AllocError> {
         let first = times.first().copied().unwrap_or(0);
         let last = times.last().copied().unwrap_or(0);
-        let slot_bits = ((times.len() + 1).ilog2() + 2).min(MOST_SLOT_BITS);
+        let slot_bits = ((times.len() + 1).ilog2() + 2).min(MAX_SLOT_BITS);
         let reach = first.abs_diff(last).max(1);
         let shift = (reach.ilog2() + 1).saturating_sub(slot_bits).min(63);
         let counts = vec![in alloc; 0u16; 1usize << slot_bits]?;

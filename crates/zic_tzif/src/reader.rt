@@ -9,7 +9,7 @@ ghost use Rattle.zic_base.specs.State.{shown};
 ghost use Rattle.zic_posix.specs.Parsing.{NeedsMemory};
 ghost use Rattle.zic_content.specs.Content.{IsFooter, type_state};
 ghost use Rattle.zic_tzif.specs.Header.{second_header, footer_place};
-ghost use Rattle.zic_tzif.specs.Reading.{first_checks, second_checks, footer_checks, checks, HasFooter, IsFile, IsSomeFile, IsFault, MayRunOutOfMemory, reason_of};
+ghost use Rattle.zic_tzif.specs.Reading.{first_checks, second_checks, footer_checks, checks, HasFooter, IsFile, IsSomeFile, IsFault, ReadNeedsMemory, reason_of};
 ghost use Rattle.zic_tzif.specs.code.Kept.{IsKept};
 ghost use Rattle.zic_tzif.specs.code.Parts.{Checks, IsFirstPart, IsBlock, IsText, AreParts, DoesAgree, checks_of, content_of};
 
@@ -233,7 +233,7 @@ pub fn read(alloc: Global, octets: &[u8]) -> Result<Zone, ReadStop>
     ensures ok { IfOk result (IsFile octets.now) }
     ensures only { IsSomeFile octets.now → NeverRefuses reason_of result }
     ensures err { IfRefusal reason_of result (IsFault octets.now) }
-    ensures memory { OnOutOfMemory reason_of result (MayRunOutOfMemory octets.now) }
+    ensures memory { OnOutOfMemory reason_of result (ReadNeedsMemory octets.now) }
 {
     let parts = parts_of(octets)?;
     let footer = footer_of(alloc, &parts)?;

@@ -2,8 +2,8 @@
 
 ghost use Rattle.zic_words.specs.Laws.{RoundToNearest};
 
-/// Each time has just one nearest second, of two that are as near the even one: that to which times
-/// are rounded.
+/// States that each time has just one nearest second, of two that are as near the even one: that to
+/// which times are rounded.
 pub fn times_round_to_nearest()
     ensures { RoundToNearest }
 {}

@@ -19,7 +19,7 @@ fn places_in_order(rt: HostRuntime) {
     assert!(rt; second.is_before(Place { text: 2, line: 4 }));
 }
 
-/// A text of these octets, and a clone of it.
+/// A text of these bytes, and a clone of it.
 fn twice(alloc: Global, octets: &[u8]) -> Result<(ShortText<4>, ShortText<4>), Fail> {
     let text = ShortText::new(alloc, octets)?;
     let copy = text.clone()?;

@@ -21,13 +21,13 @@ count_of pieces = div_ceil (length pieces.source.zones) pieces.size
 abbrev pub start_of : Pieces → ℕ → ℕ
 start_of pieces i = min (i * pieces.size) (length pieces.source.zones)
 
--- what holds of the pieces of a source
+-- the pieces of a source are so
 pub record ArePieces (pieces : Pieces) : Type 0 where
   pub some : 0 < pieces.size
   pub most : pieces.size ≤ MAX_OF_PIECE
   pub few : length pieces.source.zones ≤ MAX_NAMES
 
--- What a piece comes to: the images of its zones, or the fault of the first of them that has one.
+-- The outcome of a piece: the images of its zones, or the fault of the first of them that has one.
 abbrev pub IsOutcomeOf : Pieces → ℕ → Result (List FileImage) Fault → Type 0
 IsOutcomeOf pieces i (Ok images) =
     AreImagesWithin pieces.source (start_of pieces i) (start_of pieces (i + 1)) images

@@ -4,13 +4,13 @@ use Rattle.zic_columns.specs.Column.{AreWholeRecords, column_records}
 use Rattle.zic_columns.specs.Round.{ArePiecesOf, records_of}
 use Rattle.zic_columns.specs.code.Range.{AreWithin, pieces_at}
 use Rattle.zic_columns.specs.declared.pieces.Cut.{Cut}
-use Rattle.zic_columns.specs.declared.pieces.TheConstants.{MAX_PIECES}
+use Rattle.zic_columns.specs.declared.pieces.TheConstants.{MAX_ROUND_PIECES}
 
 -- pieces of `size` records each, which have the records before the cut
 pub record IsCut (bytes : List ℕ) (size : ℕ) (cut : Cut) : Type 0 where
   pub within : cut.len ≤ length bytes
   pub ranges : AreWithin cut.ranges.items cut.len
-  pub few : length cut.ranges.items ≤ MAX_PIECES
+  pub few : length cut.ranges.items ≤ MAX_ROUND_PIECES
   pub sizes : ArePiecesOf size (pieces_at bytes cut.ranges.items)
   pub records : column_records (take cut.len bytes) ≡ records_of (pieces_at bytes cut.ranges.items)
   pub whole : (drop cut.len bytes ≡ []) ⊎ AreWholeRecords (take cut.len bytes)

@@ -1,4 +1,4 @@
--- How a CSV reader's machine reads the bytes of one record.
+-- A CSV reader's machine, as it reads the bytes of one record.
 use Rattle.std.specs.Prelude.{◌≡◌, ◌<◌, ◌≤◌, ℕ, true, false, List, ◌++◌, length, slice_index, take, Some}
 use Rattle.csv.specs.Machine.{ends_at_end, is_end, next_record, step}
 use Rattle.csv.specs.Reading.{default_config}

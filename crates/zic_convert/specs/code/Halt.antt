@@ -7,7 +7,7 @@ use Rattle.zic_convert.specs.Convert.{Outcome, WritesAtOf, WritesPartOf}
 use Rattle.zic_convert.specs.declared.halt.Halt.{Halt}
 use Rattle.zic_convert.specs.declared.halt.Halt.TheVariants as halt
 
--- what was written where the column could not be read on, or where the conversion ends for another cause
+-- the output where the column could not be read on, or where the conversion ends for another cause
 abbrev pub WritesAtHalt : Outcome → Halt → Option (List ℕ) → Option (List ℕ) → Type 0
 WritesAtHalt Converts halt.Unread old new = WritesPartOf Converts old new
 WritesAtHalt Converts (halt.Stop stop) old new = WritesAtOf Converts stop old new

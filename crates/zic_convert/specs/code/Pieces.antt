@@ -2,7 +2,7 @@
 use Rattle.std.specs.Prelude.{◌≡◌, ℕ, ◌+◌, ◌*◌, ◌≤◌, Bool, true, List, [], ◌∷◌, ◌++◌, length, slice_get, Option, Some, None, IsSome, IfSome, Result, Ok, Err}
 use Rattle.zic_columns.specs.Column.{column_records}
 use Rattle.zic_columns.specs.Round.{ArePiecesOf}
-use Rattle.zic_columns.specs.declared.pieces.TheConstants.{MAX_PIECES}
+use Rattle.zic_columns.specs.declared.pieces.TheConstants.{MAX_ROUND_PIECES}
 use Rattle.zic_files.specs.File.{File}
 use Rattle.zic_plan.specs.declared.stop.RowKind.{RowKind}
 use Rattle.zic_plan.specs.declared.plan.TheConstants.{MAX_OF_PIECE, MAX_ROWS}
@@ -18,19 +18,19 @@ pub record Pieces : Type 0 where
   pub size : ℕ
   pub stops : Bool
 
--- what holds of the pieces of a round
+-- the pieces of a round are so
 pub record ArePieces (p : Pieces) : Type 0 where
   pub some : 1 ≤ p.size
   pub small : p.size ≤ MAX_OF_PIECE
   pub cut : ArePiecesOf p.size p.pieces
-  pub few : length p.pieces ≤ MAX_PIECES
+  pub few : length p.pieces ≤ MAX_ROUND_PIECES
   pub first : p.first ≤ MAX_ROWS + 1
 
 -- the rows of a piece's records
 abbrev pub AreRowsOfPiece : Pieces → ℕ → RowsOf → Type 0
 AreRowsOfPiece p i rows = IfSome (slice_get p.pieces i) (λ piece. AreRowsOf p.files p.most (p.first + i * p.size) (column_records piece) rows)
 
--- What a piece comes to: its rows, up to the first that has a fault, or where that is to stop the task a fault.
+-- The outcome of a piece: its rows, up to the first that has a fault, or where that is to stop the task a fault.
 abbrev pub IsOutcomeOf : Pieces → ℕ → Result RowsOf (Unit {0}) → Type 0
 IsOutcomeOf p i (Ok rows) = AreRowsOfPiece p i rows
 IsOutcomeOf p i (Err fault) = (p.stops ≡ true) × (rows : RowsOf) × AreRowsOfPiece p i rows × IsSome rows.fault

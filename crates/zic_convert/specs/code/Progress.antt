@@ -26,6 +26,6 @@ pub record IsSoFar (files : List File) (most : ℕ) (all : List (List (List ℕ)
   pub counted : count ≡ length texts
   pub wrote : Appends old new (concat texts)
 
--- what records come to, as rows from the first on
+-- the outcome of records, as rows from the first on
 abbrev pub RowsOfRecords : List File → ℕ → List (List (List ℕ)) → Outcome
 RowsOfRecords files most records = ComeTo files most 1 records

@@ -1,4 +1,4 @@
--- What a record asks for.
+-- The query of a record.
 use Rattle.std.specs.Prelude.{◌≡◌, ℕ, ℤ, false, List, [], ◌∷◌, Some, None, IsSomeAnd}
 use Rattle.zic_plan.specs.declared.stop.RowKind.{RowKind}
 use Rattle.zic_plan.specs.declared.stop.RowKind.TheVariants as kind

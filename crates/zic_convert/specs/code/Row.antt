@@ -11,7 +11,7 @@ pub record RowsOf : Type 0 where
   pub count : ℕ
   pub fault : Option RowKind
 
--- what these records come to, the first of which is the row of this number
+-- the outcome of these records, the first of which is the row of this number
 pub record AreRowsOf (files : List File) (most first : ℕ) (records : List (List (List ℕ))) (rows : RowsOf) : Type 0 where
   pub texts : List (List ℕ)
   pub come : ComeTo files most first records texts rows.fault

@@ -1,4 +1,4 @@
--- What was written.
+-- Rows that were written.
 use Rattle.std.specs.Prelude.{◌≡◌, ℕ, ◌+◌, ◌⊎◌, List, Option, Some, None}
 use Rattle.std.specs.Io.KnownBytes.{Appends}
 use Rattle.zic_counted.specs.Counts.{Counts}
@@ -9,7 +9,7 @@ use Rattle.zic_columns.specs.Round.{records_of}
 use Rattle.zic_convert.specs.code.Row.{AreRowsOf, RowsOf}
 use Rattle.zic_convert.specs.code.Pieces.{Pieces}
 
--- what the writer holds, where that is known, grew by these bytes, and nothing failed
+-- the writer's bytes, where they are known, grew by these bytes, and nothing failed
 abbrev pub Wrote : {W : Type 0} → (W → Option (List ℕ)) → Counts W → Counts W → List ℕ → Type 0
 Wrote contents old new bytes = Appends (contents old.inner) (contents new.inner) bytes × (new.failures ≡ old.failures)
 

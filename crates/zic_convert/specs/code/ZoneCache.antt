@@ -1,4 +1,4 @@
--- What a cache keeps from row to row.
+-- The zone that a cache keeps from row to row.
 use Rattle.std.specs.Prelude.{◌≡◌, ℕ, false, List, [], ◌∷◌, Option, Some, None, Contains, IfSome, MatchOption}
 use Rattle.zic_base.specs.State.{Shown}
 use Rattle.zic_files.specs.File.{File}

@@ -1,4 +1,4 @@
--- What the type of files keeps.
+-- The fields of the type of files.
 use Rattle.std.specs.Prelude.{◌<◌, List, length, map, All}
 use Rattle.zic_files.specs.File.{FileImage, file_of}
 use Rattle.zic_files.specs.Sound.{AreSoundFiles}

@@ -4,7 +4,7 @@ use Rattle.zic_files.specs.declared.entry.Entry.{Entry}
 use Rattle.zic_files.specs.declared.name_index.NameIndex.{NameIndex}
 use Rattle.zic_files.specs.declared.name_index.TheConstants.{BUCKETS}
 
--- a number of a name of so many bytes: by their number, the last three, and the one in the middle
+-- a number of a name of this length: by its length, the last three, and the one in the middle
 abbrev pub mixed : List ℕ → ℕ → ℕ
 mixed name len =
     len % 256 * 1143 + (slice_index name (len - 1) * 2267 + slice_index name (len - 2) * 1465)

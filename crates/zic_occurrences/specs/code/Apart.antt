@@ -20,7 +20,7 @@ LiesApart set j = (k : ℕ) (r s : Rule) → IsMember set j r → IsMember set k
 abbrev pub LieFarApart : RuleSet → Type 0
 LieFarApart set = (j : ℕ) → LiesApart set j
 
--- A set whose occurrences come in order before so many years after the last that it names is in order for ever: 405 years are
+-- A set whose occurrences come in order up to this number of years after the last that it names is in order for ever: 405 years are
 -- enough for each set, three for one whose rules lie far apart.
 pub record AreEnoughYears (set : RuleSet) (years : ℕ) : Type 0 where
   pub few : years ≤ 405

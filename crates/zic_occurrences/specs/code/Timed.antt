@@ -10,7 +10,7 @@ use Rattle.zic_occurrences.specs.Order.{instant_by}
 unfoldable pub saving_of : List Rule → ℕ → ℤ
 saving_of rules number = option_map_or (λ rule. rule.saving.seconds) (slice_get rules number) (pos 0)
 
--- the instant of an occurrence, where so many seconds were saved just before
+-- the instant of an occurrence, where this saving held just before
 unfoldable pub instant_of : List Rule → ℤ → ℤ → Nominal → ℤ
 instant_of rules offset saved n = option_map_or (λ rule. instant_by rule.moment.at.form offset saved n.second) (slice_get rules n.rule) (pos 0)
 
@@ -18,7 +18,7 @@ instant_of rules offset saved n = option_map_or (λ rule. instant_by rule.moment
 abbrev pub timed_of : List Rule → ℤ → ℤ → Nominal → TimedOccurrence
 timed_of rules offset saved n = record { instant = instant_of rules offset saved n; rule = n.rule; year = n.year }
 
--- occurrences with their instants, where so many seconds were saved before the first
+-- occurrences with their instants, where this saving held before the first
 unfoldable pub timed_from : List Rule → ℤ → ℤ → List Nominal → List TimedOccurrence
 timed_from rules offset saved [] = []
 timed_from rules offset saved (n ∷ ns) = timed_of rules offset saved n ∷ timed_from rules offset (saving_of rules n.rule) ns

@@ -10,7 +10,7 @@ use Rattle.zic_pieces.specs.code.Work.{IsWork}
 abbrev pub Each : {A : Type 0} → (A → Type 0) → List A → Type 0
 Each {A} P xs = (k : ℕ) (x : A) → get_elem? xs k ≡ some x → P x
 
--- what the passes stand for, added up
+-- the parts that the passes stand for, added up
 abbrev pub parts_of : List Held → ℕ
 parts_of [] = 0
 parts_of (p ∷ ps) = p.known.parts + parts_of ps
@@ -32,7 +32,7 @@ module _ {X F : Type 0} where
   HasWorked outcome w =
       IsWork outcome w.pass.known.pieces w.pass.known.events w.values.items w.halt
 
-  -- the worker ended, did its work, and its pass stands for so many
+  -- the worker ended, did its work, and its pass stands for this number
   abbrev pub DidWork : (ℕ → Result X F → Type 0) → Shared → ℕ → Worked X F → Type 0
   DidWork outcome claims parts w =
       HasEnded claims w × (w.pass.known.parts ≡ parts) × HasWorked outcome w

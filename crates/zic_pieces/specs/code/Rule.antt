@@ -3,8 +3,10 @@ use Rattle.std.specs.Prelude.{◌≡◌, ℕ, ◌+◌, ◌≤◌, Bool, true, []
 use Rattle.atomic_table.specs.Table.{State, Me, Step}
 use Rattle.zic_pieces.specs.declared.event.Known.{Known}
 use Rattle.zic_pieces.specs.Events.{past}
-use Rattle.zic_pieces.specs.Given.{given, is_whole}
-use Rattle.zic_pieces.specs.Core.{drew, reported, glanced, IsCore}
+use Rattle.zic_pieces.specs.Given.{given}
+use Rattle.zic_pieces.specs.code.Whole.{is_whole}
+use Rattle.zic_pieces.specs.Core.{drew, reported, glanced}
+use Rattle.zic_pieces.specs.code.Core.{IsCore}
 use Rattle.zic_pieces.specs.Passes.{IsSound}
 
 -- the table shows a state of the core: its words are NEXT and FAULT, and the views of its seats
@@ -32,7 +34,7 @@ Looked st m least m' =
 abbrev pub Learned : Step (Unit {0}) → Sat → ℕ → Sat → Type 0
 Learned st m found m' = (m' ≡ m) × IsSound m.0
 
--- what a pass keeps between calls: no slots, its room, whether it has ended, and how many numbers
+-- a pass is so between calls: no slots, its room, whether it has ended, and how many numbers
 -- were given; each draw of a piece has its glance
 abbrev pub IsKept : Sat → ℕ → Bool → ℕ → Type 0
 IsKept m room ended count =

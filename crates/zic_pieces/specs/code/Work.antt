@@ -1,4 +1,4 @@
--- What a worker, or several, did.
+-- The work of one worker or several.
 use Rattle.std.specs.Prelude.{◌≡◌, ℕ, ◌<◌, ◌≤◌, ◌⊎◌, true, nat_lt, List, [], ◌∷◌, ◌++◌, Option, Some, None, Result, Ok, if◌then◌else◌}
 use mathlib.Core.Option.{some}
 use lib.ListN.{get_elem?}
@@ -6,7 +6,8 @@ use Rattle.zic_pieces.specs.declared.event.Event.{Event}
 use Rattle.zic_pieces.specs.declared.event.Event.TheVariants.{Reported}
 use Rattle.zic_pieces.specs.declared.task.PieceStop.{PieceStop}
 use Rattle.zic_pieces.specs.Events.{Has, times}
-use Rattle.zic_pieces.specs.Given.{given, is_whole}
+use Rattle.zic_pieces.specs.Given.{given}
+use Rattle.zic_pieces.specs.code.Whole.{is_whole}
 use Rattle.zic_pieces.specs.Task.{IsReason}
 
 -- the halt at the lesser piece

@@ -11,7 +11,7 @@ use Rattle.zic_posix.specs.declared.limit.TheConstants.{SHORTEST_NAME, MAX_HOURS
 use Rattle.zic_posix.specs.Footer.{TzString}
 use Rattle.zic_posix.specs.Grammar.{is_letter, is_digit, decimal}
 
--- what a function returned, without where it lies in memory, is what is read
+-- a function returned what is read, apart from where it lies in memory
 abbrev pub Reads : {X Y : Type 0} → (X → Y) → Option X → Option Y → Type 0
 Reads view None read = read ≡ None
 Reads view (Some x) read = read ≡ Some (view x)

@@ -1,4 +1,4 @@
--- What the code of spans computes; no public contract cites it.
+-- Values that the code of spans computes.
 use Rattle.std.specs.Prelude.{◌≡◌, ◌≤◌, ℤ, pos, ◌+ℤ◌, ◌<ℤ◌, ◌≤ℤ◌, unsigned_abs, MatchBool}
 use Rattle.zic_posix.specs.declared.footer.Dst.{Dst}
 use Rattle.zic_posix.specs.declared.span.Around.{Around}

@@ -1,9 +1,9 @@
--- What the code of states computes; no public contract cites it.
+-- Values that the code of states computes.
 use Rattle.std.specs.Prelude.{◌≡◌, ℤ, pos, ◌+ℤ◌, ◌-ℤ◌, ◌*ℤ◌, ◌<ℤ◌, ◌≤ℤ◌}
 use Rattle.zic_posix.specs.declared.footer.Edge.{Edge}
 use Rattle.zic_calendar.specs.declared.clock.TheConstants.{SECONDS_OF_DAY}
 use Rattle.zic_posix.specs.declared.state.TheConstants.{CYCLE, FARTHEST_DAYS}
-use Rattle.zic_posix.specs.Laws.{IsInYear, IsLastNotAfter}
+use Rattle.zic_posix.specs.Laws.{IsInYear, IsLastEdge}
 use Rattle.zic_posix.specs.Meaning.{local_second}
 
 -- an instant of the first 400 years from 1970 on
@@ -26,4 +26,4 @@ instant_in edge offset year = local_second year edge -ℤ offset
 pub record IsLastInstant (edge : ℤ → ℤ) (t instant : ℤ) : Type 0 where
   pub year : ℤ
   pub is : instant ≡ edge year
-  pub is_last : IsLastNotAfter edge t year
+  pub is_last : IsLastEdge edge t year

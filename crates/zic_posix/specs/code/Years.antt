@@ -1,4 +1,4 @@
--- What the code of tables by kinds of years computes; no public contract cites it.
+-- Tables of edges by kinds of years.
 use Rattle.std.specs.Prelude.{◌≡◌, ℕ, ◌+◌, ◌<◌, ◌≤◌, unsigned_abs, ℤ, pos, ◌+ℤ◌, ◌-ℤ◌, ◌≤ℤ◌, if◌then◌else◌, IsSomeAnd, List, length, slice_index_or}
 use Rattle.zic_calendar.specs.Calendar.{day_number, is_leap_year}
 use Rattle.zic_calendar.specs.Weekday.{weekday_of}

@@ -1,4 +1,4 @@
--- What a writer of rows keeps from row to row; no public contract cites it.
+-- The parts of a row that a writer keeps for the next.
 use Rattle.std.specs.Prelude.{◌≡◌, ℕ, ◌≤◌, ℤ, pos, ◌-ℤ◌, Bool, if◌then◌else◌, List, [], ◌∷◌, ◌++◌, take}
 use Rattle.zic_base.specs.Digits.{offset_text}
 use Rattle.zic_base.specs.State.{shown}
@@ -15,7 +15,7 @@ kept_date day = 44 ∷ (date_text (civil_of (pos day -ℤ pos DAYS_TO_1970) 0) +
 unfoldable pub before_name : ℤ → Bool → List ℕ
 before_name offset daylight = 44 ∷ (offset_text offset ++ 44 ∷ (if daylight then 49 else 48) ∷ 44 ∷ [])
 
--- Of these bytes so many are the text of the state, which a row may have.
+-- The first of these bytes, up to this number, are the text of the state, which a row may have.
 pub record IsTextOf (state : State) (octets : List ℕ) (len : ℕ) : Type 0 where
   pub may : IsRowState (shown state)
   pub text : take len octets ≡ state_text (shown state)

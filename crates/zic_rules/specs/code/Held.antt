@@ -1,4 +1,4 @@
--- What holds from one period to the next.
+-- Lines and rules that hold from one period to the next.
 use Rattle.std.specs.Prelude.{◌≡◌, ℕ, zero, suc, ℤ, ◌<ℤ◌, ◌≤ℤ◌, List, [], ◌∷◌, Option, Some, None}
 use Rattle.zic_states.specs.Zone.{Zone, Ends}
 use Rattle.zic_rules.specs.declared.period.Period.{Period}

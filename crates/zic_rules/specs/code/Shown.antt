@@ -1,4 +1,4 @@
--- What is shown from one period to the next.
+-- States that are shown from one period to the next.
 use Rattle.std.specs.Prelude.{◌≡◌, ◌≢◌, ◌≤◌, ◌<◌, ℕ, zero, suc, ℤ, ◌+ℤ◌, ◌<ℤ◌, List, [], ◌∷◌, ◌++◌, true, false, Option, Some, None, option_map, IfSome, Contains, slice_get, slice_index, length, unsigned_abs}
 use Rattle.zic_base.specs.declared.fault.Kind.{Kind}
 use Rattle.zic_base.specs.declared.fault.Kind.TheVariants as kind
@@ -22,7 +22,7 @@ use Rattle.zic_rules.specs.declared.zone_state.ZoneState.{ZoneState}
 use Rattle.zic_rules.specs.Period.{ArePeriods, Holds}
 use Rattle.zic_rules.specs.code.Held.{IsFrom, ComesAfter}
 
--- what a state of the code says
+-- the state that a state of the code stands for
 abbrev pub shown_by : ZoneState → Shown
 shown_by s = record { offset = s.offset; daylight = s.daylight; name = s.name }
 

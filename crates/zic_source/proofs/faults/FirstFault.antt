@@ -4,7 +4,7 @@ use Rattle.zic_base.specs.declared.fault.Fault.{Fault}
 use Rattle.zic_source.specs.Event.{events_of}
 use Rattle.zic_source.specs.Source.{SourceLines}
 use Rattle.zic_source.specs.Grammar.{IsReadable, IsSource}
-use Rattle.zic_source.specs.Whole.{IsWhole, HasFirst}
+use Rattle.zic_source.specs.Whole.{IsWholeSource, HasFirst}
 use Rattle.zic_source.specs.FirstFault.{IsFirstFault}
 use Rattle.zic_source.proofs.links.NamesDiffer.{NamesDiffer, once_differ}
 use Rattle.zic_source.proofs.faults.Whole.{whole_or_first, whole_has_none}
@@ -30,7 +30,7 @@ source_or_fault texts = ⊎_elim
 pub source_has_no_fault : (texts : List (List ℕ)) (source : SourceLines) (fault : Fault) → IsSource texts source → IsFirstFault texts fault → ⊥
 source_has_no_fault texts source fault is (inl reading) = read_never_stops texts source fault is.read reading
 source_has_no_fault texts source fault is (inr (other, read, first)) =
-    let whole : IsWhole other = subst IsWhole (read_once (events_of texts) source other is.read read) is.whole in
+    let whole : IsWholeSource other = subst IsWholeSource (read_once (events_of texts) source other is.read read) is.whole in
     whole_has_none other (names_differ texts other read) fault.place fault.kind whole first.has
 
 pub one_first_fault : (texts : List (List ℕ)) (a b : Fault) → IsFirstFault texts a → IsFirstFault texts b → a ≡ b

@@ -17,7 +17,7 @@ use Rattle.zic_source.specs.declared.owners.Owners.{Owners}
 use Rattle.zic_source.specs.Source.{SourceLines, ZoneLines, lines_of_zone}
 use Rattle.zic_source.specs.code.Owners.{IndexesNames}
 use Rattle.zic_source.specs.Links.{EndsAtZone}
-use Rattle.zic_source.specs.Whole.{is_unknown, IsWhole, HasAt, HasFirst}
+use Rattle.zic_source.specs.Whole.{is_unknown, IsWholeSource, HasAt, HasFirst}
 use Rattle.zic_base.specs.Fault.{fault_at}
 use Rattle.zic_source.specs.code.Faults.{IsEarlier, IsFirst, LineIsRight, LineHas, ZoneIsRight, ZoneHas, LinkHas, IsFirstOfZones, IsFirstOfLinks}
 use Rattle.zic_base.proofs.Elements.{from_flat_map, into_flat_map}
@@ -61,7 +61,7 @@ module _ (source : SourceLines) where
         of_zones of_links found earlier zones links
 
     -- a source without a fault is whole
-    pub whole_if_none : found ≡ None → IsWhole source
+    pub whole_if_none : found ≡ None → IsWholeSource source
     whole_if_none none =
         let right = subst (IsFirst _ _) none first in
         record {

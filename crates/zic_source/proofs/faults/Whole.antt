@@ -11,7 +11,7 @@ use Rattle.zic_lines.specs.declared.link.Link.{Link}
 use Rattle.zic_lines.specs.declared.zone_line.ZoneLine.{ZoneLine}
 use Rattle.zic_source.specs.Source.{SourceLines, zone_lines_of}
 use Rattle.zic_source.specs.Links.{EndsAtZone, EndsNowhere, HasNoEnd}
-use Rattle.zic_source.specs.Whole.{is_unknown, IsWhole, HasAt, HasFirst}
+use Rattle.zic_source.specs.Whole.{is_unknown, IsWholeSource, HasAt, HasFirst}
 use Rattle.zic_base.proofs.Elements.{first_contained, only_one, from_flat_map, into_flat_map}
 use Rattle.zic_source.proofs.links.NamesDiffer.{NamesDiffer, not_nowhere, not_endless, nowhere_ends}
 use Rattle.zic_source.proofs.links.ThreeEnds.{three_ends}
@@ -103,7 +103,7 @@ module _ (source : SourceLines) (differ : NamesDiffer source) where
   at_zone link at none (inl (inr nowhere)) = absurd (none (fault_at link.place UnknownTarget) (has_listed link.place UnknownTarget (link, at, refl, nowhere)))
   at_zone link at none (inr never) = absurd (none (fault_at link.place LinkCycle) (has_listed link.place LinkCycle (link, at, refl, never)))
 
-  by_list : (all : List Fault) → faults ≡ all → IsWhole source ⊎ ((fault : Fault) × HasFirst source fault)
+  by_list : (all : List Fault) → faults ≡ all → IsWholeSource source ⊎ ((fault : Fault) × HasFirst source fault)
   by_list [] e =
       let none : (fault : Fault) → Contains faults fault → ⊥ = λ fault has. let empty : Contains [] fault = subst (λ (fs : List Fault). Contains fs fault) e has in absurd (omega (arith, empty.1)) in
       inl (record {
@@ -115,11 +115,11 @@ module _ (source : SourceLines) (differ : NamesDiffer source) where
       let is : IsFirstOf faults first.0 = subst (λ (fs : List Fault). IsFirstOf fs first.0) (sym e) first.1 in
       inr (first.0, record { has = listed_has first.0 is.0; first = λ place kind has sooner. is.1 (fault_at place kind) (has_listed place kind has) sooner })
 
-  pub whole_or_first : IsWhole source ⊎ ((fault : Fault) × HasFirst source fault)
+  pub whole_or_first : IsWholeSource source ⊎ ((fault : Fault) × HasFirst source fault)
   whole_or_first = by_list faults refl
 
   -- a whole source has no fault as a whole
-  pub whole_has_none : (place : Place) (kind : Kind) → IsWhole source → HasAt source place kind → ⊥
+  pub whole_has_none : (place : Place) (kind : Kind) → IsWholeSource source → HasAt source place kind → ⊥
   whole_has_none place UnknownRules whole (line, at, same, unknown) = let known = whole.sets line at in cc
   whole_has_none place UnknownTarget whole (link, at, same, nowhere) = not_nowhere source differ link (whole.links link at) nowhere
   whole_has_none place LinkCycle whole (link, at, same, never) = not_endless source differ link (whole.links link at) never

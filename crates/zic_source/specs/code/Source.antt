@@ -1,4 +1,4 @@
--- What holds of the source that the code keeps; no public contract cites it.
+-- The source as the code keeps it.
 use Rattle.std.specs.Prelude.{ℕ, List}
 use Rattle.zic_source.specs.declared.entries.Entries.{Entries}
 use Rattle.zic_source.specs.declared.sets.Sets.{Sets}

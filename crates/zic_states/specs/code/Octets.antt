@@ -1,4 +1,4 @@
--- How an abbreviation is kept in 16 octets.
+-- Abbreviations in 16 bytes.
 use Rattle.std.specs.Prelude.{◌≡◌, ℕ, ◌-◌, true, List, ◌++◌, length, replicate, take}
 use Rattle.zic_base.specs.declared.limit.TheConstants.{LONGEST_ABBREVIATION}
 use Rattle.zic_words.specs.Limits.{is_abbreviation}
@@ -7,7 +7,7 @@ use Rattle.zic_words.specs.Limits.{is_abbreviation}
 abbrev pub padded : List ℕ → List ℕ
 padded name = name ++ replicate (LONGEST_ABBREVIATION - length name) 0
 
--- So many of the octets are an abbreviation, and the others are zeros.
+-- The first bytes, up to this number, are an abbreviation, and the others are zeros.
 pub record HoldAbbreviation (octets : List ℕ) (len : ℕ) : Type 0 where
   pub zeros : octets ≡ padded (take len octets)
   pub within : len ≡ length (take len octets)

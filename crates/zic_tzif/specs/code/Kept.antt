@@ -1,4 +1,4 @@
--- What a file that was read keeps beside its content.
+-- The numbers that a file keeps beside its content once it was read.
 use Rattle.std.specs.Prelude.{ℕ, ℤ, List, map, ◌≡◌, ◌<◌, ◌≤◌, ◌<ℤ◌, Option, [], length, All, AllPairs}
 use Rattle.std.specs.Option.{MatchOption}
 use Rattle.zic_posix.specs.Footer.{TzString}

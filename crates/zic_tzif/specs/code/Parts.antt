@@ -1,4 +1,4 @@
--- What a reader finds in bytes that pass a group of checks.
+-- The parts that a reader finds in bytes that pass a group of checks.
 use Rattle.std.specs.Prelude.{◌≡◌, ℕ, ◌+◌, ◌-◌, ◌≤◌, ◌⊎◌, nat_lt, nat_le, ℤ, List, [], ◌∷◌, map, slice_index, length, Some, None, Result, Ok, Err}
 use Rattle.std.specs.List.{list_all}
 use Rattle.zic_base.specs.Check.{Check, check, first_failed}
@@ -72,7 +72,7 @@ pub record AreParts (octets : List ℕ) (p : Parts) : Type 0 where
   pub passes : first_failed (checks_of p.block) ≡ None
   pub text : IsText octets p.text.now
 
--- what they say
+-- their content
 abbrev pub content_of : Parts → Content
 content_of p = record {
   version = p.version;

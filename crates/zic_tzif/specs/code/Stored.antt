@@ -3,7 +3,7 @@ use Rattle.zic_content.specs.Content.{Content}
 use Rattle.zic_tzif.specs.declared.stored.Stored.{Stored}
 use Rattle.zic_tzif.specs.Block.{changes_at}
 
--- what they say
+-- their content
 abbrev pub stored_content : Stored → Content
 stored_content stored = record {
   version = stored.version;

@@ -1,6 +1,6 @@
 use Rattle.zic_base.specs.Fault.{fault_of}
 use Rattle.zic_base.proofs.MemoryLemmas.{on_want}
-use Rattle.zic_bulk.specs.Files.{MayRunOutOfMemory}
+use Rattle.zic_bulk.specs.Files.{CompileNeedsMemory}
 use Rattle.zic_bulk.proofs.Zones.{all_images, memory_after}
 use Rattle.zic_bulk.proofs.compiler.compile.Goals as goal
 
@@ -11,4 +11,4 @@ pub returns-in_err-files-clause-memory : goal.returns-in_err-files-clause-memory
 returns-in_err-files-clause-memory c =
     let images = c.in_ok-images.images.items in
     let are = all_images c.args.source.now c.zones.result images c.zones.ensures.count c.in_ok-images.ensures.ok in
-    on_want fault_of c.from_residual-in_err-files.result (MayRunOutOfMemory c.args.source.now) (memory_after c.args.source.now images are c.in_err-files.ensures.memory)
+    on_want fault_of c.from_residual-in_err-files.result (CompileNeedsMemory c.args.source.now) (memory_after c.args.source.now images are c.in_err-files.ensures.memory)

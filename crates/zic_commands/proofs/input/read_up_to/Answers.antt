@@ -9,7 +9,7 @@ pub loop-init : goal.loop-init
 loop-init g c =
     let none = c.new-bytes.ensures.items in
     let known = g.R.Read.remaining c.args.reader.now.inner in
-    (omega arith, omega (arith, ap length none), (refl, omega (arith, ap length none)), subst (Consumes known known) (sym none) (Consumes-nil known))
+    (omega arith, omega (arith, ap length none), (refl, omega (arith, ap length none), λ some. omega (arith, some, ap length none)), subst (Consumes known known) (sym none) (Consumes-nil known))
 
 pub returns-then-branch-eq0-clause-bytes : goal.returns-then-branch-eq0-clause-bytes
 returns-then-branch-eq0-clause-bytes g c =
@@ -32,7 +32,7 @@ loop-preserved g c =
     (Consumes-trans _ _ _ c.loop.bytes.items (appended_bytes c.loop.bytes.items new) inv.3 e.consumes) in (
       omega (arith, inv.0, e.count, c.if-branch-eq0.false),
       omega (arith, inv.1, e.count, e.room, length-take c.min-room.result c.loop.block, c.min-room.ensures),
-      (e.taken.failures ∙ inv.2.0, omega (arith, e.taken.taken, inv.2.1, e.count)),
+      (e.taken.failures ∙ inv.2.0, omega (arith, e.taken.taken, inv.2.1, e.count), λ some. omega (arith, e.taken.taken)),
       given,
     )
 

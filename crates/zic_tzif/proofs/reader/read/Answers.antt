@@ -1,7 +1,7 @@
 use Rattle.std.proofs.Common.{inl, sym, subst}
 use Rattle.std.proofs.lemmas.Result.{err_from_is_err_and}
 use Rattle.zic_base.proofs.MemoryLemmas.{on_want}
-use Rattle.zic_tzif.specs.Reading.{IsFile, MayRunOutOfMemory, reason_of}
+use Rattle.zic_tzif.specs.Reading.{IsFile, ReadNeedsMemory, reason_of}
 use Rattle.zic_tzif.specs.code.Parts.{content_of}
 use Rattle.zic_tzif.proofs.ReadFiles.{footer_fault, footer_memory, trails, is_file, kept, file_has_no_fault, never}
 use Rattle.zic_tzif.proofs.reader.read.Goals as goal
@@ -31,7 +31,7 @@ returns-then-octets-end-clause-only c = λ file. file_has_no_fault c.args.octets
 pub returns-in_err-zone_of-clause-memory : goal.returns-in_err-zone_of-clause-memory
 returns-in_err-zone_of-clause-memory c =
     let file = is_file c.args.octets.now c.in_ok-parts.parts c.in_ok-footer.footer c.in_ok-parts.ensures.0 c.in_ok-parts.ensures.1 c.in_ok-footer.ensures.ok c.if-octets-end.false in
-    on_want reason_of c.from_residual-in_err-zone_of.result (MayRunOutOfMemory c.args.octets.now) (inl (content_of c.in_ok-parts.parts, file))
+    on_want reason_of c.from_residual-in_err-zone_of.result (ReadNeedsMemory c.args.octets.now) (inl (content_of c.in_ok-parts.parts, file))
 
 pub returns-clause-ok : goal.returns-clause-ok
 returns-clause-ok c =

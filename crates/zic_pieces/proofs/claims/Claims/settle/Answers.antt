@@ -1,6 +1,6 @@
 use Rattle.std.proofs.Common.{◌≡◌, ℕ, true, sym, ap, ◌∙◌, subst}
 use Rattle.zic_pieces.specs.declared.event.Known.{Known}
-use Rattle.zic_pieces.specs.Given.{is_whole}
+use Rattle.zic_pieces.specs.code.Whole.{is_whole}
 use Rattle.zic_pieces.specs.Passes.{Shared, Held}
 use Rattle.zic_pieces.proofs.Settles.{Facts, settles}
 use Rattle.zic_pieces.proofs.claims.Claims.settle.Goals as goal
