@@ -1,14 +1,22 @@
 -- A law of claims, in terms of their calls.
 use Rattle.std.specs.Prelude.{ℕ, ◌<◌, ◌≤◌}
 use Rattle.zic_pieces.specs.declared.event.Known.{Known}
-use Rattle.zic_pieces.specs.declared.claim.Claim.TheVariants.{Do}
-use Rattle.zic_pieces.specs.Core.{drew, reported, both}
+use Rattle.zic_pieces.specs.declared.event.Event.{Event}
+use Rattle.zic_pieces.specs.declared.event.Event.TheVariants.{Reported}
+use Rattle.zic_pieces.specs.Events.{Has}
+use Rattle.zic_pieces.specs.Core.{drew}
 use Rattle.zic_pieces.specs.Passes.{IsSound}
-use Rattle.zic_pieces.specs.Answers.{Answers}
+use Rattle.zic_pieces.specs.Answers.{DrawsThenGlances}
 
--- A pass p reported i, and then drew a. Another pass q was given j, which is above a, and became
--- r. Then j is at most i, as soon as the two are joined
+-- the pass has all events of the other
+abbrev pub HasEventsOf : Known → Known → Type 0
+HasEventsOf all v = (e : Event) → Has v.events e → Has all.events e
+
+-- A pass p, or one that was joined to it, reported i. Then p drew a. A claim of another pass q drew
+-- j, which is above a, glanced at g, and made r of q. Then g is at most i, as soon as one pass has
+-- the events of both
 abbrev pub ReportsAreHeard : Type 0
 ReportsAreHeard =
-    (p q r : Known) (i a j : ℕ) → Answers q (Do j) r → IsSound (both (drew a (reported i p)) r)
-    → a < j → j ≤ i
+    (p q r all : Known) (i a j g : ℕ) → IsSound p → Has p.events (Reported i)
+    → DrawsThenGlances j g q r → a < j
+    → IsSound all → HasEventsOf all (drew a p) → HasEventsOf all r → g ≤ i

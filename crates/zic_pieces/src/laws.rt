@@ -2,8 +2,8 @@
 
 ghost use Rattle.zic_pieces.specs.Laws.{ReportsAreHeard};
 
-/// A report that was made before a draw of its own pass is seen by every claim of a greater
-/// number.
+/// A report that a pass, or one that was joined to it, made before a draw of the pass is seen by
+/// every claim of a greater number.
 pub fn reports_are_heard()
     ensures { ReportsAreHeard }
 {}
