@@ -51,22 +51,24 @@ predecessor_year set L o p sound last is pred after =
     absurd (omega (arith, ints, pred.greatest (in_year (o.year -ℤ pos 1) o) before.0 before.1)))
     (λ le. le)
 
--- from L + 3 on a shift keeps predecessors
-pub predecessor_moves : (set : RuleSet) (L : ℕ) (years seconds : ℤ) (o p : Occurrence) (year year_p : ℤ) → All IsSoundRule set.rules → IsLastNamed set L → IsShift years seconds → IsOccurrence set o → IsPredecessor set o p → (pos L +ℤ pos 3) ≤ℤ o.year → year ≡ o.year +ℤ years → (pos L +ℤ pos 3) ≤ℤ year → year_p ≡ p.year +ℤ years → IsPredecessor set (in_year year o) (in_year year_p p)
-predecessor_moves set L years seconds o p year year_p sound last shift is pred from e there e_p =
-    let near = predecessor_year set L o p sound last is pred (omega (arith, ints)) in
-    let before = year_before set L o (o.year -ℤ pos 1) sound last is (omega (arith, ints)) (omega (arith, ints)) in
-    let before_there = occurs_again set L o (year -ℤ pos 1) last is (omega (arith, ints)) (omega (arith, ints)) in
+-- Where an occurrence of a year after L + 1 comes before o, a shift keeps predecessors of o
+predecessor_by : (set : RuleSet) (L : ℕ) (years seconds : ℤ) (o p w : Occurrence) (year year_p : ℤ) → All IsSoundRule set.rules → IsLastNamed set L → IsShift years seconds → IsPredecessor set o p → IsOccurrence set w → nominal w <ℤ nominal o → (pos L +ℤ pos 2) ≤ℤ w.year → (pos L +ℤ pos 2) ≤ℤ (w.year +ℤ years) → year ≡ o.year +ℤ years → year_p ≡ p.year +ℤ years → IsPredecessor set (in_year year o) (in_year year_p p)
+predecessor_by set L years seconds o p w year year_p sound last shift pred is_w below from there e e_p =
+    let year_w = w.year +ℤ years in
+    let high = pred.greatest w is_w below in
+    let near : w.year ≤ℤ (p.year +ℤ pos 1) = by_lt_z (p.year +ℤ pos 1) w.year
+    (λ lt. absurd (omega (arith, ints, high, two_years set p w sound pred.is is_w (omega (arith, ints)))))
+    (λ le. le) in
+    let w_there = occurs_again set L w year_w last is_w (omega (arith, ints)) (omega (arith, ints)) in
     let moved = shift.moves o.year year o.rule.moment e in
     let moved_p = shift.moves p.year year_p p.rule.moment e_p in
-    let moved_before = shift.moves (o.year -ℤ pos 1) (year -ℤ pos 1) o.rule.moment (omega (arith, ints)) in
-    let high = pred.greatest (in_year (o.year -ℤ pos 1) o) before.0 before.1 in
+    let moved_w = shift.moves w.year year_w w.rule.moment refl in
     record {
       is = occurs_again set L p year_p last pred.is (omega (arith, ints)) (omega (arith, ints));
       earlier = let less = pred.earlier in omega (arith, ints);
-      greatest = λ q is_q less. by_lt_z q.year (year -ℤ pos 2)
+      greatest = λ q is_q less. by_lt_z q.year (year_w -ℤ pos 1)
           (λ lt.
-          let below = two_years set q (in_year (year -ℤ pos 1) o) sound is_q before_there (omega (arith, ints)) in
+          let low = two_years set q (in_year year_w w) sound is_q w_there (omega (arith, ints)) in
           omega (arith, ints))
           (λ ge.
           let back = occurs_again set L q (q.year -ℤ years) last is_q (omega (arith, ints)) (omega (arith, ints)) in
@@ -75,21 +77,38 @@ predecessor_moves set L years seconds o p year year_p sound last shift is pred f
           omega (arith, ints));
     }
 
+-- from L + 3 on a shift keeps predecessors
+pub predecessor_moves : (set : RuleSet) (L : ℕ) (years seconds : ℤ) (o p : Occurrence) (year year_p : ℤ) → All IsSoundRule set.rules → IsLastNamed set L → IsShift years seconds → IsOccurrence set o → IsPredecessor set o p → (pos L +ℤ pos 3) ≤ℤ o.year → year ≡ o.year +ℤ years → (pos L +ℤ pos 3) ≤ℤ year → year_p ≡ p.year +ℤ years → IsPredecessor set (in_year year o) (in_year year_p p)
+predecessor_moves set L years seconds o p year year_p sound last shift is pred from e there e_p =
+    let before = year_before set L o (o.year -ℤ pos 1) sound last is (omega (arith, ints)) (omega (arith, ints)) in
+    predecessor_by set L years seconds o p (in_year (o.year -ℤ pos 1) o) year year_p sound last shift pred before.0 before.1 (omega (arith, ints)) (omega (arith, ints)) e e_p
+
 instant_by-moves : (form : ClockForm) (offset saved second seconds : ℤ) → instant_by form offset saved second +ℤ seconds ≡ instant_by form offset saved (second +ℤ seconds)
 instant_by-moves Universal offset saved second seconds = refl
 instant_by-moves Standard offset saved second seconds = omega (arith, ints)
 instant_by-moves Wall offset saved second seconds = omega (arith, ints)
 
 -- and moves instants with their nominal seconds
-pub instant_moves : (set : RuleSet) (offset : ℤ) (L : ℕ) (years seconds : ℤ) (o : Occurrence) (t year : ℤ) → All IsSoundRule set.rules → IsLastNamed set L → IsShift years seconds → IsOccurrence set o → IsInstant set offset o t → (pos L +ℤ pos 3) ≤ℤ o.year → year ≡ o.year +ℤ years → (pos L +ℤ pos 3) ≤ℤ year → IsInstant set offset (in_year year o) (t +ℤ seconds)
-instant_moves set offset L years seconds o t year sound last shift is at from e there =
+instant_from_earlier : (set : RuleSet) (offset : ℤ) (L : ℕ) (years seconds : ℤ) (o w : Occurrence) (t year : ℤ) → All IsSoundRule set.rules → IsLastNamed set L → IsShift years seconds → IsInstant set offset o t → IsOccurrence set w → nominal w <ℤ nominal o → (pos L +ℤ pos 2) ≤ℤ w.year → (pos L +ℤ pos 2) ≤ℤ (w.year +ℤ years) → year ≡ o.year +ℤ years → IsInstant set offset (in_year year o) (t +ℤ seconds)
+instant_from_earlier set offset L years seconds o w t year sound last shift at is_w below from there e =
     record {
       saved = at.saved;
       is_saved = elim at.is_saved [
-        | inl first ↦
-            let before = year_before set L o (o.year -ℤ pos 1) sound last is (omega (arith, ints)) (omega (arith, ints)) in
-            absurd (omega (arith, ints, first.0 (in_year (o.year -ℤ pos 1) o) before.0, before.1))
-        | inr before ↦ inr (in_year (before.0.year +ℤ years) before.0, predecessor_moves set L years seconds o before.0 year (before.0.year +ℤ years) sound last shift is before.1 from e there refl, before.2)
+        | inl first ↦ absurd (omega (arith, ints, first.0 w is_w, below))
+        | inr before ↦ inr (in_year (before.0.year +ℤ years) before.0, predecessor_by set L years seconds o before.0 w year (before.0.year +ℤ years) sound last shift before.1 is_w below from there e refl, before.2)
       ];
       is = rw (shift.moves o.year year o.rule.moment e, at.is) (instant_by-moves o.rule.moment.at.form offset at.saved (nominal o) seconds);
     }
+
+pub instant_moves : (set : RuleSet) (offset : ℤ) (L : ℕ) (years seconds : ℤ) (o : Occurrence) (t year : ℤ) → All IsSoundRule set.rules → IsLastNamed set L → IsShift years seconds → IsOccurrence set o → IsInstant set offset o t → (pos L +ℤ pos 3) ≤ℤ o.year → year ≡ o.year +ℤ years → (pos L +ℤ pos 3) ≤ℤ year → IsInstant set offset (in_year year o) (t +ℤ seconds)
+instant_moves set offset L years seconds o t year sound last shift is at from e there =
+    let before = year_before set L o (o.year -ℤ pos 1) sound last is (omega (arith, ints)) (omega (arith, ints)) in
+    instant_from_earlier set offset L years seconds o (in_year (o.year -ℤ pos 1) o) t year sound last shift at before.0 before.1 (omega (arith, ints)) (omega (arith, ints)) e
+
+-- from L + 4 on it moves the predecessor's instant too: the rule of o occurs before the predecessor in a year after L + 1
+pub predecessor_instant_moves : (set : RuleSet) (offset : ℤ) (L : ℕ) (years seconds : ℤ) (o p : Occurrence) (t year : ℤ) → All IsSoundRule set.rules → IsLastNamed set L → IsShift years seconds → IsOccurrence set o → IsPredecessor set o p → IsInstant set offset p t → (pos L +ℤ pos 4) ≤ℤ o.year → (pos L +ℤ pos 4) ≤ℤ (o.year +ℤ years) → year ≡ p.year +ℤ years → IsInstant set offset (in_year year p) (t +ℤ seconds)
+predecessor_instant_moves set offset L years seconds o p t year sound last shift is pred at from there e =
+    let one = year_before set L o (o.year -ℤ pos 1) sound last is (omega (arith, ints)) (omega (arith, ints)) in
+    let two = year_before set L (in_year (o.year -ℤ pos 1) o) (o.year -ℤ pos 2) sound last one.0 (omega (arith, ints)) (omega (arith, ints)) in
+    let high = pred.greatest (in_year (o.year -ℤ pos 1) o) one.0 one.1 in
+    instant_from_earlier set offset L years seconds p (in_year (o.year -ℤ pos 2) o) t year sound last shift at two.0 (omega (arith, ints, two.1, high)) (omega (arith, ints)) (omega (arith, ints)) e

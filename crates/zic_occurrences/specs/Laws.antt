@@ -2,7 +2,7 @@
 use Rattle.std.specs.Prelude.{◌≡◌, ℕ, ◌*◌, ℤ, pos, ◌+ℤ◌, ◌<ℤ◌, ◌≤ℤ◌, ◌⊎◌, ◌↔◌, All}
 use Rattle.zic_source.specs.Sound.{IsSoundRule, IsWithinDay}
 use Rattle.zic_occurrences.specs.Occurrence.{RuleSet, Occurrence, IsOccurrence, nominal, year_second}
-use Rattle.zic_occurrences.specs.Order.{IsInstant, IsInOrder, IsOutOfOrder}
+use Rattle.zic_occurrences.specs.Order.{IsPredecessor, IsInstant, IsInOrder, IsOutOfOrder}
 use Rattle.zic_occurrences.specs.Listing.{IsLastNamed}
 
 -- an instant lies within 21 days outside its year
@@ -13,8 +13,8 @@ StaysNearYear =
     → (year_second o.year ≤ℤ (t +ℤ pos (21 * 86_400)))
     × (t <ℤ (year_second (o.year +ℤ pos 1) +ℤ pos (21 * 86_400)))
 
--- After the last year that a set names each of its rules that occurs does so in every year. 400 years are 146,097 days, and from
--- three years later on instants come again after them too.
+-- After the last year that a set names each of its rules that occurs does so in every year. 400 years are 146,097 days. From three
+-- years later on instants and predecessors come again after them too, and after these three years the predecessors' instants.
 pub record RepeatAfterLast : Type 0 where
   pub occurrences : (set : RuleSet) (last : ℕ) (o : Occurrence) (year : ℤ) → IsLastNamed set last → IsOccurrence set o
       → pos last <ℤ o.year → pos last <ℤ year → IsOccurrence set (record o { year = year })
@@ -22,6 +22,12 @@ pub record RepeatAfterLast : Type 0 where
   pub instants : (set : RuleSet) (offset : ℤ) (last : ℕ) (o : Occurrence) (t : ℤ)
       → All IsSoundRule set.rules → IsLastNamed set last → IsOccurrence set o → (pos last +ℤ pos 3) ≤ℤ o.year
       → IsInstant set offset o t ↔ IsInstant set offset (record o { year = o.year +ℤ pos 400 }) (t +ℤ pos (146_097 * 86_400))
+  pub predecessors : (set : RuleSet) (last : ℕ) (o p : Occurrence)
+      → All IsSoundRule set.rules → IsLastNamed set last → IsOccurrence set o → (pos last +ℤ pos 3) ≤ℤ o.year
+      → IsPredecessor set o p ↔ IsPredecessor set (record o { year = o.year +ℤ pos 400 }) (record p { year = p.year +ℤ pos 400 })
+  pub predecessor_instants : (set : RuleSet) (offset : ℤ) (last : ℕ) (o p : Occurrence) (t : ℤ)
+      → All IsSoundRule set.rules → IsLastNamed set last → IsOccurrence set o → (pos last +ℤ pos 3) <ℤ o.year → IsPredecessor set o p
+      → IsInstant set offset p t ↔ IsInstant set offset (record p { year = p.year +ℤ pos 400 }) (t +ℤ pos (146_097 * 86_400))
 
 -- an occurrence of a sound set has an instant, and where the set is in order no other
 pub record EachHasOneInstant : Type 0 where

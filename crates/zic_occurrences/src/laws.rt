@@ -7,7 +7,9 @@ pub fn instants_stay_near_year()
     ensures { StaysNearYear }
 {}
 
-/// States that after the last year that a set names its occurrences come again after 400 years.
+/// States that after the last year that a set names its occurrences come again after 400 years, and
+/// from three years later on so do their instants, the occurrences before them, and the instants of
+/// these.
 pub fn instants_repeat_after_last()
     ensures { RepeatAfterLast }
 {}

@@ -14,7 +14,7 @@ use Rattle.zic_pieces.specs.Events.{Has, draws, past, weigh}
 use Rattle.zic_pieces.specs.Core.{first, drew, reported, glanced, left, right, both, spent}
 use Rattle.zic_pieces.specs.code.Core.{total, parts_if, SomeHas, Stands, IsCore}
 use Rattle.zic_pieces.proofs.Totals.{total_set, total_snoc, weigh_draws, past_append}
-use Rattle.zic_pieces.proofs.Members.{there as there_is, has_either, has_none, has_front, has_back, after_set, still_set, after_gain, still_gain, new_gain, after_snoc, still_snoc}
+use Rattle.zic_pieces.proofs.Members.{there as there_is, has_one, has_either, has_none, has_front, has_back, after_set, still_set, after_gain, still_gain, new_gain, after_snoc, still_snoc}
 
 -- each pass stands after one was changed
 stands_set : (n next fault next' fault' : ℕ) (vs : List Known) (id : ℕ) (w : Known)
@@ -23,7 +23,7 @@ stands_set : (n next fault next' fault' : ℕ) (vs : List Known) (id : ℕ) (w :
     → (j : ℕ) (u : Known) → get_elem? (set vs id w) j ≡ some u → Stands n next' fault' u
 stands_set n next fault next' fault' vs id w old more less new j u e = ⊎_elim
     (λ (x : (j ≡ id) × (w ≡ u)). subst (λ (t : Known). Stands n next' fault' t) x.1 new)
-    (λ (x : (j ≢ id) × (get_elem? vs j ≡ some u)). let o = old j u x.1 in record { idle = o.idle; pieces = o.pieces; seen = λ h. (let a = o.seen h in omega arith); drawn = (let a = o.drawn in omega arith); over = λ h. (let a = o.over h in omega arith) })
+    (λ (x : (j ≢ id) × (get_elem? vs j ≡ some u)). let o = old j u x.1 in record { idle = o.idle; pieces = o.pieces; seen = λ h. (let a = o.seen h in omega arith); within = o.within; told = o.told; found = o.found; drawn = (let a = o.drawn in omega arith); over = λ h. (let a = o.over h in omega arith) })
     (at_set vs id j w u e)
 
 -- more draws are past n by at most what the pass stands for
@@ -48,7 +48,7 @@ module _ (n next fault : ℕ) (vs : List Known) (id : ℕ) (v : Known) (core : I
         least = ⊎_elim inl (λ h. inr (still_gain vs id v w x (Reported fault) at refl h)) core.least;
         within = core.within;
         stands = stands_set n next fault (suc next) fault vs id w core.stands (omega arith) (omega arith)
-            record { idle = λ z. absurd (idle_not z); pieces = mine.pieces; seen = mine.seen; drawn = (let p = past_append v.events (x ∷ []) in omega arith); over = λ h. (let q = leb-true v.pieces next h in let r = mine.pieces busy in omega arith) };
+            record { idle = λ z. absurd (idle_not z); pieces = mine.pieces; seen = mine.seen; within = mine.within; told = λ k h. ⊎_elim (mine.told k) (λ o. (let e : x ≡ Reported k = has_one x (Reported k) o in absurd (cc))) (has_either v.events (x ∷ []) (Reported k) h); found = λ g b h. ⊎_elim (mine.found g b) (λ o. (let e : x ≡ Glanced g b = has_one x (Glanced g b) o in absurd (cc))) (has_either v.events (x ∷ []) (Glanced g b) h); drawn = (let p = past_append v.events (x ∷ []) in omega arith); over = λ h. (let q = leb-true v.pieces next h in let r = mine.pieces busy in omega arith) };
         kept = λ i s h. ⊎_elim (core.kept i s) (λ (e : x ≡ Drew i s). (let is : v.seen ≡ s = cc in omega arith)) (after_gain vs id v w x (Drew i s) at refl h);
         told = λ i h. ⊎_elim (core.told i) (λ (e : x ≡ Reported i). absurd (cc)) (after_gain vs id v w x (Reported i) at refl h);
         glances = λ g b h. ⊎_elim
@@ -82,7 +82,7 @@ module _ (n next fault : ℕ) (vs : List Known) (id : ℕ) (v : Known) (core : I
             (λ gt. let is : min fault i ≡ i = omega arith in inr (subst (λ k. SomeHas (set vs id w) (Reported k)) (sym is) (new_gain vs id v w x at refl)));
         within = (let a = core.within in omega arith);
         stands = stands_set n next fault next (min fault i) vs id w core.stands (omega arith) (omega arith)
-            record { idle = λ z. absurd (idle_not z); pieces = mine.pieces; seen = λ h. omega arith; drawn = (let p = past_append v.events (x ∷ []) in omega arith); over = mine.over };
+            record { idle = λ z. absurd (idle_not z); pieces = mine.pieces; seen = λ h. omega arith; within = λ h. (let a = mine.within h in omega arith); told = λ k h. ⊎_elim (λ o. (let a = mine.told k o in omega arith)) (λ o. (let e : x ≡ Reported k = has_one x (Reported k) o in let is : i ≡ k = cc in omega arith)) (has_either v.events (x ∷ []) (Reported k) h); found = λ g b h. ⊎_elim (λ o. (let a = mine.found g b o in omega arith)) (λ o. (let e : x ≡ Glanced g b = has_one x (Glanced g b) o in absurd (cc))) (has_either v.events (x ∷ []) (Glanced g b) h); drawn = (let p = past_append v.events (x ∷ []) in omega arith); over = mine.over };
         kept = λ k s h. ⊎_elim (λ o. (let a = core.kept k s o in omega arith)) (λ (e : x ≡ Drew k s). absurd (cc)) (after_gain vs id v w x (Drew k s) at refl h);
         told = λ k h. ⊎_elim (λ o. (let a = core.told k o in ((let b = a.0 in omega arith), a.1))) (λ (e : x ≡ Reported k). (let is : i ≡ k = cc in (omega arith, omega arith))) (after_gain vs id v w x (Reported k) at refl h);
         glances = λ g b h. ⊎_elim
@@ -114,7 +114,7 @@ module _ (n next fault : ℕ) (vs : List Known) (id : ℕ) (v : Known) (core : I
         least = ⊎_elim inl (λ h. inr (still (Reported fault) h)) core.least;
         within = core.within;
         stands = stands_set n next fault next fault vs id w core.stands (omega arith) (omega arith)
-            record { idle = λ z. absurd (idle_not z); pieces = mine.pieces; seen = λ h. omega arith; drawn = (let p = past_append v.events (x ∷ []) in omega arith); over = mine.over };
+            record { idle = λ z. absurd (idle_not z); pieces = mine.pieces; seen = λ h. omega arith; within = λ h. (let a = mine.within h in omega arith); told = λ k h. ⊎_elim (λ o. (let a = mine.told k o in omega arith)) (λ o. (let e : x ≡ Reported k = has_one x (Reported k) o in absurd (cc))) (has_either v.events (x ∷ []) (Reported k) h); found = λ g b h. ⊎_elim (λ o. (let a = mine.found g b o in omega arith)) (λ o. (let e : x ≡ Glanced g b = has_one x (Glanced g b) o in let is : fault ≡ g = cc in omega arith)) (has_either v.events (x ∷ []) (Glanced g b) h); drawn = (let p = past_append v.events (x ∷ []) in omega arith); over = mine.over };
         kept = λ k s h. ⊎_elim (core.kept k s) (λ (e : x ≡ Drew k s). absurd (cc)) (after_gain vs id v w x (Drew k s) at refl h);
         told = λ k h. ⊎_elim (core.told k) (λ (e : x ≡ Reported k). absurd (cc)) (after_gain vs id v w x (Reported k) at refl h);
         glances = λ g b h. ⊎_elim
@@ -173,8 +173,8 @@ split_keeps n next fault vs id v core at more =
     let low = mine.drawn in
     let ls : List Known = set vs id (left v) in
     let idle_left : v.parts - 1 ≡ 0 → ⊥ = λ z. omega arith in
-    let stands_left : Stands n next fault (left v) = record { idle = λ z. absurd (idle_left z); pieces = λ h. mine.pieces (omega arith); seen = λ h. mine.seen (omega arith); drawn = mine.drawn; over = mine.over } in
-    let stands_right : Stands n next fault (right v) = record { idle = λ z. refl; pieces = λ h. mine.pieces (omega arith); seen = λ h. mine.seen (omega arith); drawn = omega arith; over = mine.over } in
+    let stands_left : Stands n next fault (left v) = record { idle = λ z. absurd (idle_left z); pieces = λ h. mine.pieces (omega arith); seen = λ h. mine.seen (omega arith); within = λ h. mine.within (omega arith); told = mine.told; found = mine.found; drawn = mine.drawn; over = mine.over } in
+    let stands_right : Stands n next fault (right v) = record { idle = λ z. refl; pieces = λ h. mine.pieces (omega arith); seen = λ h. mine.seen (omega arith); within = λ h. mine.within (omega arith); told = λ k h. absurd (has_none (Reported k) h); found = λ g b h. absurd (has_none (Glanced g b) h); drawn = omega arith; over = mine.over } in
     let old = stands_set n next fault next fault vs id (left v) core.stands (omega arith) (omega arith) stands_left in
     rearranged n next fault vs (ls ++ right v ∷ []) core
     (λ e h. still_snoc ls (right v) e (still_set vs id v (left v) e at (λ m. m) h))
@@ -198,8 +198,8 @@ join_keeps n next fault vs id v other w core at differ there some_v some_w same 
     let low_v = mine.drawn in
     let low_w = theirs.drawn in
     let idle_both : v.parts + w.parts ≡ 0 → ⊥ = λ z. omega arith in
-    let stands_both : Stands n next fault b = record { idle = λ z. absurd (idle_both z); pieces = λ h. mine.pieces some_v; seen = λ h. omega arith; drawn = (let p = past_append v.events w.events in omega arith); over = either_over v.ended w.ended n next mine.over theirs.over } in
-    let stands_spent : Stands n next fault spent = record { idle = λ z. refl; pieces = λ h. absurd (omega arith); seen = λ h. absurd (omega arith); drawn = omega arith; over = λ h. absurd (cc) } in
+    let stands_both : Stands n next fault b = record { idle = λ z. absurd (idle_both z); pieces = λ h. mine.pieces some_v; seen = λ h. omega arith; within = λ h. (let a = mine.within some_v in omega arith); told = λ k h. ⊎_elim (λ o. (let a = mine.told k o in omega arith)) (λ o. (let a = theirs.told k o in omega arith)) (has_either v.events (w.events) (Reported k) h); found = λ g b h. ⊎_elim (λ o. (let a = mine.found g b o in omega arith)) (λ o. (let a = theirs.found g b o in omega arith)) (has_either v.events (w.events) (Glanced g b) h); drawn = (let p = past_append v.events w.events in omega arith); over = either_over v.ended w.ended n next mine.over theirs.over } in
+    let stands_spent : Stands n next fault spent = record { idle = λ z. refl; pieces = λ h. absurd (omega arith); seen = λ h. absurd (omega arith); within = λ h. absurd (omega arith); told = λ k h. absurd (has_none (Reported k) h); found = λ g b h. absurd (has_none (Glanced g b) h); drawn = omega arith; over = λ h. absurd (cc) } in
     let old = stands_set n next fault next fault vs id b core.stands (omega arith) (omega arith) stands_both in
     rearranged n next fault vs (set bs other spent) core
     (λ e h. joined_to e h)
@@ -243,5 +243,5 @@ begins n =
     none_yet e (suc id) v is h = some-ne-none v (sym is)
 
     alone : (id : ℕ) (v : Known) → get_elem? (first n ∷ []) id ≡ some v → Stands n 0 n v
-    alone zero v is = let one : Stands n 0 n (first n) = record { idle = λ z. refl; pieces = λ h. refl; seen = λ h. omega arith; drawn = omega arith; over = λ h. absurd (cc) } in subst (λ (u : Known). Stands n 0 n u) (some-injective (first n) v is) one
+    alone zero v is = let one : Stands n 0 n (first n) = record { idle = λ z. refl; pieces = λ h. refl; seen = λ h. omega arith; within = λ h. omega arith; told = λ k h. absurd (has_none (Reported k) h); found = λ g b h. absurd (has_none (Glanced g b) h); drawn = omega arith; over = λ h. absurd (cc) } in subst (λ (u : Known). Stands n 0 n u) (some-injective (first n) v is) one
     alone (suc id) v is = absurd (some-ne-none v (sym is))

@@ -89,7 +89,7 @@ kept_left m room count ended k more = (
   k.2,
   k.3,
   k.4,
-  (let s = k.5 in record { once = s.once; heard = s.heard; bounded = s.bounded; few = s.few; parts = (let p = s.parts in omega arith) }),
+  (let s = k.5 in record { once = s.once; heard = s.heard; within = s.within; told = s.told; found = s.found; bounded = s.bounded; few = s.few; parts = (let p = s.parts in omega arith) }),
 )
 
 pub kept_right : (m : Sat) (room count : ℕ) (ended : Bool) → IsKept m room ended count → IsKept (right m.0, []) 0 ended 0
@@ -99,7 +99,7 @@ kept_right m room count ended k = (
   k.2,
   refl,
   refl,
-  record { once = λ x. omega arith; heard = λ i s g b d. absurd (some-ne-none _ (sym d.1)); bounded = omega arith; few = omega arith; parts = omega arith },
+  record { once = λ x. omega arith; heard = λ i s g b d. absurd (some-ne-none _ (sym d.1)); within = k.5.within; told = λ i h. absurd (some-ne-none _ (sym h.1)); found = λ g b h. absurd (some-ne-none _ (sym h.1)); bounded = omega arith; few = omega arith; parts = omega arith },
 )
 
 -- two passes that were joined

@@ -7,6 +7,7 @@ pub mod Steps
 pub mod Kept
 pub mod Settles
 pub mod Works
+pub mod OneAnswer
 pub mod Orders
 pub mod Crews
 pub mod Decides

@@ -64,6 +64,9 @@ sound n next fault vs id v core at busy =
     record {
       once = λ x. (let t = total_at (λ u. weigh (one_at x) (draws u.events)) vs id v at in let d = core.drawn (one_at x) in let m = below_most x next in omega arith);
       heard = λ i s g b d h. core.heard i s g b (id, v, at, d) (id, v, at, h);
+      within = (let w = mine.within busy in omega arith);
+      told = mine.told;
+      found = mine.found;
       bounded = (let p = mine.drawn in omega arith);
       few = (let t = total_at (λ u. weigh (λ y. 1) (draws u.events)) vs id v at in let d = core.drawn (λ y. 1) in let c = below_count next in let w = weigh_count (draws v.events) in omega arith);
       parts = (let t = total_at (λ u. u.parts) vs id v at in let p = core.parts in omega arith);

@@ -2,6 +2,7 @@
 
 ghost use Rattle.std.specs.Prelude.{◌≡◌, ◌+◌, length};
 ghost use Rattle.zic_pieces.specs.Given.{given};
+ghost use Rattle.zic_pieces.specs.Passes.{IsSound};
 
 use crate::event::Known;
 use atomic_table::Seat;
@@ -34,7 +35,8 @@ impl Model for Pass {
 impl Pass {
     /// Returns how often the pass can still be split, at most 1,023 times.
     pub fn room(&self) -> u64
-        ensures { self.now.known.parts ≡ result + 1 }
+        ensures room { self.now.known.parts ≡ result + 1 }
+        ensures sound { IsSound self.now.known }
     {
         self.room
     }

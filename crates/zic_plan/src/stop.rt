@@ -20,6 +20,17 @@ pub enum RowKind {
     TooManyRows = 39,
 }
 
+impl RowKind {
+    ghost use Rattle.zic_plan.specs.Stop.{row_kind_number};
+
+    /// Returns the number of the kind, 35 to 39.
+    pub fn number(self) -> u8
+        ensures { result ≡ row_kind_number self }
+    {
+        self as u8
+    }
+}
+
 /// Why a run ends early.
 #[derive(Clone, Copy, Debug, PartialEq, Eq)]
 pub enum RunStop {

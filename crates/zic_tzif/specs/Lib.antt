@@ -4,6 +4,7 @@ pub mod code
 pub mod Header
 pub mod Laws
 pub mod Reading
+pub mod Reason
 pub mod States
 pub mod Writing
 pub use Rattle.zic_posix.specs.Footer

@@ -1,8 +1,10 @@
 //! Reasons why bytes are no TZif file.
 
+ghost use Rattle.std.specs.Prelude.{◌≡◌};
+
 use std::alloc::{AllocError, AllocFailed};
 
-/// The check of a reader that fails first.
+/// The check of a reader that fails first. The number of each is fixed.
 #[derive(Clone, Copy, Debug, PartialEq, Eq)]
 pub enum Reason {
     /// The bytes end before the file does.
@@ -37,6 +39,17 @@ pub enum Reason {
     TooLarge = 14,
 }
 
+impl Reason {
+    ghost use Rattle.zic_tzif.specs.Reason.{reason_number};
+
+    /// Returns the number of the reason, 1 to 14.
+    pub fn number(self) -> u8
+        ensures { result ≡ reason_number self }
+    {
+        self as u8
+    }
+}
+
 /// The reason why a file isn't read.
 #[derive(Clone, Copy, Debug, PartialEq, Eq)]
 pub enum ReadStop {
@@ -47,7 +60,6 @@ pub enum ReadStop {
 }
 
 impl From<Reason> for ReadStop {
-    ghost use Rattle.std.specs.Prelude.{◌≡◌};
     ghost use Rattle.zic_tzif.specs.declared.reason.ReadStop.TheVariants.{Bad};
 
     ghost from_gives = { λ r e. e ≡ Bad r };
@@ -58,7 +70,6 @@ impl From<Reason> for ReadStop {
 }
 
 impl From<AllocError> for ReadStop {
-    ghost use Rattle.std.specs.Prelude.{◌≡◌};
     ghost use Rattle.zic_tzif.specs.declared.reason.ReadStop.TheVariants.{Memory};
 
     ghost from_gives = { λ _ e. e ≡ Memory };
@@ -69,7 +80,6 @@ impl From<AllocError> for ReadStop {
 }
 
 impl<T: Drop> From<AllocFailed<T>> for ReadStop {
-    ghost use Rattle.std.specs.Prelude.{◌≡◌};
     ghost use Rattle.zic_tzif.specs.declared.reason.ReadStop.TheVariants.{Memory};
 
     ghost from_gives = { λ _ e. e ≡ Memory };

@@ -26,11 +26,15 @@ abbrev pub SomeHas : List Known → Event → Type 0
 SomeHas passes e = (id : ℕ) × (v : Known) × (get_elem? passes id ≡ some v) × Has v.events e
 
 -- A pass that is part of another has no events. Any other is one of n pieces, and FAULT is at most
--- what it has seen. No pass drew NEXT or more, and where one has ended every piece was drawn
+-- what it has seen, which is at most n and each number that it reported or found. No pass drew NEXT
+-- or more, and where one has ended every piece was drawn
 pub record Stands (n next fault : ℕ) (v : Known) : Type 0 where
   pub idle : v.parts ≡ 0 → v.events ≡ []
   pub pieces : 0 < v.parts → v.pieces ≡ n
   pub seen : 0 < v.parts → fault ≤ v.seen
+  pub within : 0 < v.parts → v.seen ≤ n
+  pub told : (i : ℕ) → Has v.events (Reported i) → v.seen ≤ i
+  pub found : (g b : ℕ) → Has v.events (Glanced g b) → v.seen ≤ g
   pub drawn : past v.events ≤ next
   pub over : v.ended ≡ true → n ≤ next
 
