@@ -207,7 +207,9 @@ fn rows_together(rt: HostRuntime) -> Result<(), Fail> {
     let mut text = Vec::new(rt.alloc());
     let mut writer = RowWriter::new(standard);
     writer.push(&mut text, b"Z/NY", 1_173_596_399)?;
-    writer.set_state(daylight);
+    let summer = StateText::new(daylight);
+    assert!(rt; summer.state() == daylight);
+    writer.set_text(&summer);
     writer.push(&mut text, b"Z/NY", 1_173_596_400)?;
     text.extend_from_slice(b"Z/NY,1194155999")?;
     writer.push_rest(&mut text, 1_194_155_999)?;

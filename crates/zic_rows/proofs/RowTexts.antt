@@ -1,8 +1,9 @@
 -- The text of a row in its bytes.
-use Rattle.std.proofs.Common.{◌≡◌, refl, ℕ, ◌+◌, ◌-◌, ◌*◌, ◌/◌, ◌%◌, ◌<◌, Bool, List, [], ◌∷◌, ◌++◌, sym, ◌∙◌, ap, arith, ℤ, pos, negsuc, ◌+ℤ◌, ◌-ℤ◌, unsigned_abs, append_assoc, length, take, drop, set, length-take-le, length-drop}
+use Rattle.std.proofs.Common.{◌≡◌, ◌≤◌, subst, refl, ℕ, ◌+◌, ◌-◌, ◌*◌, ◌/◌, ◌%◌, ◌<◌, Bool, List, [], ◌∷◌, ◌++◌, sym, ◌∙◌, ap, ap₂, length-append, arith, ℤ, pos, negsuc, ◌+ℤ◌, ◌-ℤ◌, unsigned_abs, append_assoc, length, take, drop, set, length-take-le, length-drop}
 use Rattle.std.proofs.lemmas.Int.{ints}
-use Rattle.std.proofs.lemmas.List.{take_more_set}
+use Rattle.std.proofs.lemmas.List.{drop-drop, take-append-le, take_more_set, take-take}
 use Rattle.std.proofs.lemmas.Slice.{take-put_mid}
+use Rattle.std.proofs.Math.Seq.{drop-append-add, take-append-add}
 use borrow.Rule.Slice.PartMut.{put_mid, same_len_mid}
 use Rattle.std.specs.Prelude.{if◌then◌else◌}
 use Rattle.std.specs.Fmt.{signed_decimal}
@@ -15,7 +16,7 @@ use Rattle.zic_base.specs.State.{Shown, shown}
 use Rattle.zic_base.specs.declared.state.State.{State}
 use Rattle.zic_rows.specs.Local.{day_at, second_at, local_time, civil_of}
 use Rattle.zic_rows.specs.Row.{four_digits, date_text, civil_text, local_text, state_text, rest_text, row_text, IsRowState}
-use Rattle.zic_rows.specs.code.Kept.{kept_date, before_name}
+use Rattle.zic_rows.specs.code.Kept.{kept_date, before_name, IsRestOf}
 use Rattle.zic_rows.proofs.LocalTime.{on_day}
 
 -- a date
@@ -107,17 +108,52 @@ rest_kept instant s seconds day counted of_day =
     let second = seconds % 86_400 in
     ap (λ (d : ℕ). kept_date d ++ (clock_text second ++ state_text s)) of_day ∙ sym (rest_text-parts instant s seconds (sym counted))
 
--- the rest of a row, appended in its parts
-pub rest_joined : (old dated clocked new date clock : List ℕ) (instant : ℤ) (s : Shown) (seconds day : ℕ) → pos seconds ≡ instant +ℤ s.offset +ℤ pos (719_162 * 86_400) → day ≡ seconds / 86_400
-    → date ≡ kept_date day → dated ≡ old ++ date → clock ≡ clock_text (seconds % 86_400) → clocked ≡ dated ++ clock → new ≡ clocked ++ state_text s → new ≡ old ++ rest_text instant s
-rest_joined old dated clocked new date clock instant s seconds day counted of_day is_date with_date is_clock with_clock with_state =
-    let S = state_text s in
-    let D = kept_date day in
-    let C = clock_text (seconds % 86_400) in
-    let all : new ≡ ((old ++ D) ++ C) ++ S =
-    with_state ∙ ap (λ (l : List ℕ). l ++ S) (with_clock ∙ ap (λ (l : List ℕ). dated ++ l) is_clock ∙ ap (λ (l : List ℕ). l ++ C) (with_date ∙ ap (λ (l : List ℕ). old ++ l) is_date)) in
-    let parts : ((old ++ D) ++ C) ++ S ≡ old ++ (D ++ (C ++ S)) = simp append_assoc in
-    all ∙ parts ∙ ap (λ (l : List ℕ). old ++ l) (rest_kept instant s seconds day counted of_day)
+-- the date that stands before a text which was written after it
+pub date_before : (old new date : List ℕ) → take 20 new ≡ take 20 old → take 12 old ≡ date → take 12 new ≡ date
+date_before old new date same is =
+    sym (take-take 12 20 new (omega arith)) ∙ ap (take 12) same ∙ take-take 12 20 old (omega arith) ∙ is
+
+-- the rest of rows of a day and a state
+pub rest_of : (day : ℕ) (text : Shown) (state : State) (octets : List ℕ) (len : ℕ) → shown state ≡ text → IsRowState text → take 12 octets ≡ kept_date day
+    → take len (drop 20 octets) ≡ state_text text → len ≤ 32 → IsRestOf day state octets len
+rest_of day text state octets len is may date written fits = record {
+  may = subst IsRowState (sym is) may;
+  date = date;
+  text = written ∙ ap state_text (sym is);
+  fits = fits;
+}
+
+-- a row's rest, copied whole, with the time of day written into it and what is after it cut off
+pub rest_copied : (old octets date clock text : List ℕ) (start len : ℕ) → start ≡ length old → length octets ≡ 52 → take 12 octets ≡ date → length clock ≡ 8
+    → take len (drop 20 octets) ≡ text → take (start + 20 + len) (put_mid (start + 12) 8 (old ++ octets) clock) ≡ old ++ (date ++ (clock ++ text))
+rest_copied old octets date clock text start len at long is_date eight is_text =
+    let front : take (start + 12) (old ++ octets) ≡ old ++ date = ap (λ (n : ℕ). take (n + 12) (old ++ octets)) at ∙ take-append-add old octets 12 ∙ ap (λ (l : List ℕ). old ++ l) is_date in
+    let at_time : drop (start + 12) (old ++ octets) ≡ drop 12 octets = ap (λ (n : ℕ). drop (n + 12) (old ++ octets)) at ∙ drop-append-add old octets 12 in
+    let after : drop 8 (drop (start + 12) (old ++ octets)) ≡ drop 20 octets = ap (drop 8) at_time ∙ drop-drop 8 12 octets in
+    let parts : put_mid (start + 12) 8 (old ++ octets) clock ≡ (old ++ (date ++ clock)) ++ drop 20 octets =
+    ap₂ (λ (a b : List ℕ). a ++ (clock ++ b)) front after ∙ simp append_assoc in
+    let short : length date ≡ 12 = ap length (sym is_date) ∙ length-take-le 12 octets (omega (arith, long)) in
+    let size : start + 20 ≡ length (old ++ (date ++ clock)) = omega (arith, at, short, eight, length-append old (date ++ clock), length-append date clock) in
+    ap (take (start + 20 + len)) parts ∙ ap (λ (n : ℕ). take (n + len) ((old ++ (date ++ clock)) ++ drop 20 octets)) size
+    ∙ take-append-add (old ++ (date ++ clock)) (drop 20 octets) len ∙ ap (λ (l : List ℕ). (old ++ (date ++ clock)) ++ l) is_text ∙ simp append_assoc
+
+-- the same, as a slice of what was appended is written back
+pub rest_written : (old octets copied given date clock text behind : List ℕ) (start len size : ℕ) → start ≡ length old → length octets ≡ 52 → take 12 octets ≡ date → length clock ≡ 8
+    → take len (drop 20 octets) ≡ text → len ≤ 32 → copied ≡ old ++ octets → given ≡ clock → size ≡ start + 52
+    → take (start + 20 + len) (take size (put_mid (start + 12) (start + 20 - (start + 12)) copied given ++ behind)) ≡ old ++ (date ++ (clock ++ text))
+rest_written old octets copied given date clock text behind start len size at long is_date eight is_text fits with_octets with_clock room =
+    let written = put_mid (start + 12) (start + 20 - (start + 12)) copied given in
+    let of_time : start + 20 - (start + 12) ≡ 8 = omega arith in
+    let same : written ≡ put_mid (start + 12) 8 (old ++ octets) clock =
+    ap₂ (λ (xs ys : List ℕ). put_mid (start + 12) (start + 20 - (start + 12)) xs ys) with_octets with_clock
+    ∙ ap (λ (k : ℕ). put_mid (start + 12) k (old ++ octets) clock) of_time in
+    let all : length (old ++ octets) ≡ start + 52 = omega (arith, length-append old octets, at, long) in
+    let behind_date = length-take-le 8 (drop (start + 12) (old ++ octets)) (omega (arith, all, length-drop (start + 12) (old ++ octets))) in
+    let size_of : length written ≡ start + 52 =
+    ap length same ∙ same_len_mid (start + 12) 8 (old ++ octets) clock (omega (arith, eight, behind_date)) ∙ all in
+    take-take (start + 20 + len) size (written ++ behind) (omega (arith, fits, room))
+    ∙ take-append-le (start + 20 + len) written behind (omega (arith, fits, size_of))
+    ∙ ap (take (start + 20 + len)) same ∙ rest_copied old octets date clock text start len at long is_date eight is_text
 
 -- a row, appended in its parts
 pub row_joined : (old named parted numbered new name digits : List ℕ) (instant : ℤ) (s : Shown) → named ≡ old ++ name → parted ≡ named ++ 44 ∷ []

@@ -6,9 +6,11 @@ mod date;
 mod instant;
 pub mod laws;
 mod limit;
+mod rest;
 mod row;
 mod state_text;
 
 pub use instant::{is_plain, parse_instant};
 pub use limit::{FARTHEST_OFFSET, FIRST_INSTANT, LAST_INSTANT, MAX_DIGITS};
 pub use row::{RowWriter, push_row};
+pub use state_text::StateText;

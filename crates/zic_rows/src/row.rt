@@ -5,13 +5,13 @@ ghost use Rattle.zic_base.specs.State.{shown};
 ghost use Rattle.zic_rows.specs.Instant.{IsRowInstant, IsRowOffset};
 ghost use Rattle.zic_rows.specs.Row.{row_text, rest_text, IsRowState};
 
-use crate::date::KeptDate;
 use crate::limit::{DAY, DAYS, DAYS_TO_1970};
+use crate::rest::KeptRest;
 use crate::state_text::StateText;
 use itoa::Buffer;
 use std::alloc::AllocError;
 use std::marker::Model;
-use zic_base::{State, clock_text};
+use zic_base::State;
 
 /// Appends the text of a row: the name, the instant in plain decimals, its local time, the UT
 /// offset, the daylight flag and the abbreviation, between commas, and a newline. The instant is
@@ -35,8 +35,7 @@ pub fn push_row(
 /// the state's text. Clauses see the state.
 #[derive(Drop)]
 pub struct RowWriter<'a> {
-    state: StateText<'a>,
-    date: KeptDate,
+    rest: KeptRest<'a>,
 }
 
 impl<'a> Model for RowWriter<'a> {
@@ -44,7 +43,7 @@ impl<'a> Model for RowWriter<'a> {
 
     ghost Value = { Shown };
 
-    ghost view = { λ w. shown w.state.state };
+    ghost view = { λ w. shown w.rest.state };
 }
 
 impl<'a> RowWriter<'a> {
@@ -55,8 +54,7 @@ impl<'a> RowWriter<'a> {
         ensures { result ≡ shown state.entry }
     {
         RowWriter {
-            state: StateText::new(state),
-            date: KeptDate::new(DAYS_TO_1970),
+            rest: KeptRest::new(DAYS_TO_1970, &StateText::new(state)),
         }
     }
 
@@ -65,7 +63,14 @@ impl<'a> RowWriter<'a> {
         requires { IsRowState (shown state) }
         ensures { self.new ≡ shown state.entry }
     {
-        self.state.turn_to(state);
+        self.rest.set_text(&StateText::new(state));
+    }
+
+    /// Sets the state of the rows to come, by its text.
+    pub fn set_text(&mut self, text: &StateText<'a>)
+        ensures { self.new ≡ text.now }
+    {
+        self.rest.set_text(text);
     }
 
     /// Appends the text of a row. The instant is one that a row may have. Where memory runs out, a
@@ -91,11 +96,9 @@ impl<'a> RowWriter<'a> {
         ensures state { self.new ≡ self.old }
         ensures ok { OnOk result (text.new.items ≡ text.old.items ++ rest_text instant self.old) }
     {
-        let seconds = local_seconds(instant, self.state.offset());
-        self.date.turn_to((seconds / DAY as u64) as u32);
-        text.extend_from_slice(self.date.octets())?;
-        text.extend_from_slice(&clock_text((seconds % DAY as u64) as u32))?;
-        self.state.push(text)
+        let seconds = local_seconds(instant, self.rest.offset());
+        self.rest.turn_to((seconds / DAY as u64) as u32);
+        self.rest.push(text, (seconds % DAY as u64) as u32)
     }
 }
 

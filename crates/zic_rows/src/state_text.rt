@@ -1,70 +1,68 @@
 //! The text of a state at the end of a row.
 
-ghost use Rattle.std.specs.Prelude.{◌≡◌, ◌≤◌, ◌++◌, take, OnOk};
+ghost use Rattle.std.specs.Prelude.{◌≡◌, ◌≤◌, take, drop};
 ghost use Rattle.zic_base.specs.State.{shown};
 ghost use Rattle.zic_rows.specs.Instant.{IsRowOffset};
 ghost use Rattle.zic_rows.specs.Row.{state_text, IsRowState};
 ghost use Rattle.zic_rows.specs.code.Kept.{before_name, IsTextOf};
 
-use std::alloc::AllocError;
+use crate::limit::LONGEST_REST;
+use std::marker::Model;
 use zic_base::{State, offset_text};
 
-/// The room of a text in bytes: a row copies all of it, since that is quicker.
+/// The room of a text in bytes: a writer copies all of it, since that is quicker.
 const ROOM: usize = 32;
 
 /// The text of a state at the end of a row, made once for many rows: the UT offset, the daylight
-/// flag and the abbreviation after a comma each, and a newline.
+/// flag and the abbreviation after a comma each, and a newline. Clauses see the state.
 #[derive(Drop)]
-pub(crate) struct StateText<'a> {
-    pub(crate) state: State<'a>,
+pub struct StateText<'a> {
+    state: State<'a>,
     octets: [u8; ROOM],
     /// The length of the text in bytes.
     len: usize,
     ghost is_text: { IsTextOf state octets len },
 }
 
+impl<'a> Model for StateText<'a> {
+    ghost use Rattle.zic_base.specs.State.{Shown, shown};
+
+    ghost Value = { Shown };
+
+    ghost view = { λ t. shown t.state };
+}
+
 impl<'a> StateText<'a> {
     /// Returns the text of a state whose offset is within 24:00:00 and whose abbreviation has at
     /// most 16 bytes.
-    pub(crate) fn new(state: State<'a>) -> StateText<'a>
+    pub fn new(state: State<'a>) -> StateText<'a>
         requires { IsRowState (shown state) }
-        ensures { result.state ≡ state.entry }
+        ensures { result ≡ shown state.entry }
     {
         let mut octets = [0; ROOM];
         let len = write_text(&mut octets, &state);
         StateText { state, octets, len }
     }
 
-    /// Turns to another state. Its text is written in place, since a copy of it would wait for its
-    /// bytes.
-    pub(crate) fn turn_to(&mut self, state: State<'a>)
-        requires { IsRowState (shown state) }
-        ensures { self.new.state ≡ state.entry }
+    /// Returns the state.
+    #[inline(always)]
+    pub fn state(&self) -> State<'a>
+        ensures state { shown result ≡ self.now }
+        ensures may { IsRowState self.now }
     {
-        self.len = write_text(&mut self.octets, &state);
-        self.state = state;
+        self.state
     }
 
-    /// Returns the UT offset in seconds, positive east.
+    /// Copies the text into the rest of a row after the time of day, and returns its length. All of
+    /// the room is copied at once, since that is quicker.
     #[inline(always)]
-    pub(crate) fn offset(&self) -> i32
-        ensures value { result ≡ self.now.state.offset }
-        ensures may { IsRowOffset result }
+    pub(crate) fn copy_to(&self, rest: &mut [u8; LONGEST_REST]) -> usize
+        ensures text { take result (drop 20 rest.new) ≡ state_text self.now }
+        ensures before { take 20 rest.new ≡ take 20 rest.old }
+        ensures fits { result ≤ ROOM }
     {
-        self.state.offset
-    }
-
-    /// Appends the text. All of the room is copied at once, and what is after the text cut off
-    /// again.
-    #[inline(always)]
-    pub(crate) fn push(&self, text: &mut Vec<u8>) -> Result<(), AllocError>
-        ensures { OnOk result
-            (text.new.items ≡ text.old.items ++ state_text (shown self.now.state)) }
-    {
-        let len = text.len() + self.len;
-        text.extend_from_slice(&self.octets)?;
-        text.truncate(len);
-        Ok(())
+        rest[20..].copy_from_slice(&self.octets);
+        self.len
     }
 }
 

@@ -1,5 +1,5 @@
 -- The parts of a row that a writer keeps for the next.
-use Rattle.std.specs.Prelude.{◌≡◌, ℕ, ◌≤◌, ℤ, pos, ◌-ℤ◌, Bool, if◌then◌else◌, List, [], ◌∷◌, ◌++◌, take}
+use Rattle.std.specs.Prelude.{◌≡◌, ℕ, ◌≤◌, ℤ, pos, ◌-ℤ◌, Bool, if◌then◌else◌, List, [], ◌∷◌, ◌++◌, take, drop}
 use Rattle.zic_base.specs.Digits.{offset_text}
 use Rattle.zic_base.specs.State.{shown}
 use Rattle.zic_base.specs.declared.state.State.{State}
@@ -19,4 +19,11 @@ before_name offset daylight = 44 ∷ (offset_text offset ++ 44 ∷ (if daylight 
 pub record IsTextOf (state : State) (octets : List ℕ) (len : ℕ) : Type 0 where
   pub may : IsRowState (shown state)
   pub text : take len octets ≡ state_text (shown state)
+  pub fits : len ≤ 32
+
+-- In the rest of a row the date of the day stands first, and the text of the state after eight bytes for the time of day.
+pub record IsRestOf (day : ℕ) (state : State) (octets : List ℕ) (len : ℕ) : Type 0 where
+  pub may : IsRowState (shown state)
+  pub date : take 12 octets ≡ kept_date day
+  pub text : take len (drop 20 octets) ≡ state_text (shown state)
   pub fits : len ≤ 32

@@ -1,0 +1,20 @@
+use Rattle.std.proofs.Common.{◌≡◌, ℕ, ◌+◌, List, ◌++◌, ◌∙◌, length, ap, rules}
+use Rattle.zic_base.specs.State.{shown}
+use Rattle.zic_rows.specs.Row.{state_text}
+use Rattle.zic_rows.specs.code.Kept.{kept_date}
+use Rattle.zic_rows.proofs.RowTexts.{rest_written}
+use Rattle.zic_rows.proofs.rest.KeptRest.push.Goals as goal
+
+pub returns : goal.returns
+returns c =
+    let s = c.args.self.now in
+    let old = c.args.text.now.items in
+    let start = c.len-start.result in
+    let long : length s.octets ≡ 52 = search rules in
+    let n : start ≡ length old = search rules in
+    let time : length c.clock_text.result ≡ 8 = ap length c.clock_text.ensures in
+    let room : c.extend_from_slice.new.self.len ≡ start + 52 = search rules in
+    c.truncate.ensures.items
+    ∙ rest_written old s.octets c.deref_mut.result.now c.copy_from_slice.new.self _ c.clock_text.result _ _ start s.len c.extend_from_slice.new.self.len n long s.is_rest.date time s.is_rest.text s.is_rest.fits
+    (c.deref_mut.ensures.value ∙ c.in_ok-extend_from_slice.ensures.items) c.copy_from_slice.ensures.after room
+    ∙ ap (λ (time : List ℕ). old ++ (kept_date s.day ++ (time ++ state_text (shown s.state)))) c.clock_text.ensures

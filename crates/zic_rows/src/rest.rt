@@ -1,0 +1,91 @@
+//! The rest of a row after the instant.
+
+ghost use Rattle.std.specs.Prelude.{◌≡◌, ◌<◌, ◌++◌, OnOk};
+ghost use Rattle.zic_base.specs.Digits.{clock_text};
+ghost use Rattle.zic_base.specs.State.{shown};
+ghost use Rattle.zic_rows.specs.Instant.{IsRowOffset};
+ghost use Rattle.zic_rows.specs.Row.{state_text};
+ghost use Rattle.zic_rows.specs.code.Kept.{kept_date, IsRestOf};
+
+use crate::date::write_date;
+use crate::limit::{DAY, DAYS, LONGEST_REST};
+use crate::state_text::StateText;
+use std::alloc::AllocError;
+use zic_base::{State, clock_text};
+
+/// The rest of a row, kept for rows of one day and one state: a comma, the date and a `T`, eight
+/// bytes for the time of day, and the text of the state.
+#[derive(Drop)]
+pub(crate) struct KeptRest<'a> {
+    /// The days from 0001-01-01, below `DAYS`.
+    day: u32,
+    pub(crate) state: State<'a>,
+    octets: [u8; LONGEST_REST],
+    /// The length of the state's text in bytes.
+    len: usize,
+    ghost is_rest: { IsRestOf day state octets len },
+}
+
+impl<'a> KeptRest<'a> {
+    /// Returns the rest of rows of a day and a state.
+    pub(crate) fn new(day: u32, text: &StateText<'a>) -> KeptRest<'a>
+        requires { day < DAYS }
+        ensures { shown result.state ≡ text.now }
+    {
+        let mut octets = [0; LONGEST_REST];
+        write_date(&mut octets, day);
+        let len = text.copy_to(&mut octets);
+        KeptRest {
+            day,
+            state: text.state(),
+            octets,
+            len,
+        }
+    }
+
+    /// Returns the UT offset in seconds, positive east.
+    #[inline(always)]
+    pub(crate) fn offset(&self) -> i32
+        ensures value { result ≡ self.now.state.offset }
+        ensures may { IsRowOffset result }
+    {
+        self.state.offset
+    }
+
+    /// Turns to the state of a text.
+    pub(crate) fn set_text(&mut self, text: &StateText<'a>)
+        ensures { shown self.new.state ≡ text.now }
+    {
+        self.len = text.copy_to(&mut self.octets);
+        self.state = text.state();
+    }
+
+    /// Turns to a day, whose text is made only where it is another.
+    #[inline(always)]
+    pub(crate) fn turn_to(&mut self, day: u32)
+        requires { day < DAYS }
+        ensures day { self.new.day ≡ day }
+        ensures state { self.new.state ≡ self.old.state }
+    {
+        if self.day != day {
+            write_date(&mut self.octets, day);
+            self.day = day;
+        }
+    }
+
+    /// Appends the rest of a row at this second of the day. All of the room is copied at once, and
+    /// what is after the text cut off again. The time of day is written into the copy: a copy of
+    /// bytes that were just written would wait for them.
+    #[inline(always)]
+    pub(crate) fn push(&self, text: &mut Vec<u8>, second: u32) -> Result<(), AllocError>
+        requires { second < DAY }
+        ensures { OnOk result (text.new.items ≡ text.old.items ++ (kept_date self.now.day
+            ++ (clock_text second ++ state_text (shown self.now.state)))) }
+    {
+        let start = text.len();
+        text.extend_from_slice(&self.octets)?;
+        text[start + 12..start + 20].copy_from_slice(&clock_text(second));
+        text.truncate(start + 20 + self.len);
+        Ok(())
+    }
+}
