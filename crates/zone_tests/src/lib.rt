@@ -14,6 +14,8 @@ mod occurrences;
 #[cfg(test)]
 mod periods;
 #[cfg(test)]
+mod samples;
+#[cfg(test)]
 mod sources;
 #[cfg(test)]
 mod states;
