@@ -8,6 +8,8 @@ mod files;
 #[cfg(test)]
 mod footers;
 #[cfg(test)]
+mod growths;
+#[cfg(test)]
 mod images;
 #[cfg(test)]
 mod occurrences;
