@@ -2,5 +2,4 @@
 
 mod answers;
 mod reading;
-mod samples;
 mod spans;

@@ -1,23 +1,12 @@
 //! Worked examples of whole files.
 
+use crate::samples::{NEW_YORK, NEW_YORK_SOURCE, UTC};
 use std::alloc::Global;
 use std::test::Fail;
 use zic_base::{Kind, Place, State, Stop};
 use zic_source::read_source;
 use zic_table::*;
 use zic_tzif::Answer;
-
-/// A header of version 2 without its last three counts, which are those of transitions, types and
-/// bytes of designations.
-const HEADER: &[u8] = b"TZif2\0\0\0\0\0\0\0\0\0\0\0\0\0\0\0\0\0\0\0\0\0\0\0\0\0\0\0";
-
-/// The rest of the first header, and the first data block.
-const EMPTY_BLOCK: &[u8] = b"\0\0\0\0\0\0\0\x01\0\0\0\x01\0\0\0\0\0\0\0";
-
-/// The rules of the United States from 2007 on, and a zone that uses them.
-const NEW_YORK: &[u8] = b"Rule US 2007 max - Mar Sun>=8 2:00 1:00 D\n\
-Rule US 2007 max - Nov Sun>=1 2:00 0 S\n\
-Zone Z/NY -5:00 US E%sT\n";
 
 /// Returns the image of a zone of a source, by its number from 0.
 fn image(alloc: Global, text: &[u8], zone: usize) -> Result<Result<Image, Stop>, Fail> {
@@ -32,70 +21,95 @@ fn image(alloc: Global, text: &[u8], zone: usize) -> Result<Result<Image, Stop>,
     Ok(image_of(alloc, &source, zone))
 }
 
-/// Returns the parts, joined.
-fn joined(alloc: Global, parts: &[&[u8]]) -> Result<Vec<u8>, Fail> {
-    let mut octets = Vec::new(alloc);
-    for part in parts {
-        octets.extend_from_slice(part)?;
-    }
-    Ok(octets)
-}
-
+/// Sources of one zone, and the file of each: the same zone in cut words, and in two lines.
 #[test]
-fn one_state(rt: HostRuntime) -> Result<(), Fail> {
-    let want = joined(
-        rt.alloc(),
-        &[
-            HEADER,
-            EMPTY_BLOCK,
-            HEADER,
-            b"\0\0\0\0\0\0\0\x01\0\0\0\x04",
-            b"\0\0\0\0\0\0UTC\0\nUTC0\n",
-        ],
-    )?;
-    let Ok(found) = image(rt.alloc(), b"Zone Etc/UTC 0 - UTC\n", 0)? else {
-        return Err(Fail::from("no image"));
-    };
-    assert_eq!(rt; found.octets(), want.as_slice());
-    assert_eq!(rt; found.zone().footer_text(), b"UTC0".as_slice());
+fn whole_files(rt: HostRuntime) -> Result<(), Fail> {
+    let rows: [(&[u8], &[u8]); 4] = [
+        (b"Zone Etc/UTC 0 - UTC\n", UTC),
+        (NEW_YORK_SOURCE, NEW_YORK),
+        (
+            b"R US 2007 ma - Mar Su>=8 2 1 D\nR US 2007 ma - N su>=1 2 0 S\nZ Z/NY -5 US E%sT\n",
+            NEW_YORK,
+        ),
+        (
+            b"Rule US 2007 max - Mar Sun>=8 2:00 1:00 D\nRule US 2007 max - Nov Sun>=1 2:00 0 S\n\
+Zone Z/U -5:00 US E%sT 2007 Mar 11 2:00\n-5:00 US E%sT\n",
+            NEW_YORK,
+        ),
+    ];
+    for (source, file) in rows {
+        let Ok(found) = image(rt.alloc(), source, 0)? else {
+            return Err(Fail::from("no image"));
+        };
+        assert_eq!(rt; found.octets(), file, "{source:?}");
+    }
     Ok(())
 }
 
+/// Sources of one zone, and of each file the size, the text of the footer, and the byte of the
+/// version, which stands in both headers.
 #[test]
-fn six_changes(rt: HostRuntime) -> Result<(), Fail> {
-    let want = joined(
-        rt.alloc(),
-        &[
-            HEADER,
-            EMPTY_BLOCK,
-            HEADER,
-            b"\0\0\0\x06\0\0\0\x02\0\0\0\x08",
-            b"\0\0\0\0\x45\xf3\xa8\xf0\0\0\0\0\x47\x2d\x5f\xe0\0\0\0\0\x47\xd3\x8a\xf0",
-            b"\0\0\0\0\x49\x0d\x41\xe0\0\0\0\0\x49\xb3\x6c\xf0\0\0\0\0\x4a\xed\x23\xe0",
-            b"\x01\0\x01\0\x01\0",
-            b"\xff\xff\xb9\xb0\0\0\xff\xff\xc7\xc0\x01\x04",
-            b"EST\0EDT\0\nEST5EDT,M3.2.0,M11.1.0\n",
-        ],
-    )?;
-    let Ok(found) = image(rt.alloc(), NEW_YORK, 0)? else {
-        return Err(Fail::from("no image"));
-    };
-    assert_eq!(rt; found.octets(), want.as_slice());
-    let rows: [(i64, i32, bool, &[u8]); 6] = [
-        (-1, -18_000, false, b"EST"),
-        (1_173_596_399, -18_000, false, b"EST"),
-        (1_173_596_400, -14_400, true, b"EDT"),
-        (13_796_377_199, -18_000, false, b"EST"),
-        (13_796_377_200, -14_400, true, b"EDT"),
-        (i64::MAX, -18_000, false, b"EST"),
+fn versions(rt: HostRuntime) -> Result<(), Fail> {
+    let rows: [(&[u8], usize, &[u8], u8); 3] = [
+        (NEW_YORK_SOURCE, 193, b"EST5EDT,M3.2.0,M11.1.0", b'2'),
+        (
+            b"Rule Zion 2013 max - Mar Fri>=23 2:00 1:00 D\nRule Zion 2013 max - Oct lastSun 2:00 0 S\n\
+Zone Z/J 2:00 Zion I%sT\n",
+            197,
+            b"IST-2IDT,M3.4.4/26,M10.5.0",
+            b'3',
+        ),
+        (
+            b"Rule EU 1996 max - Mar lastSun 1:00u 1:00 -\nRule EU 1996 max - Oct lastSun 1:00u 0 -\n\
+Zone Z/G -2:00 EU %z\n",
+            202,
+            b"<-02>2<-01>,M3.5.0/-1,M10.5.0/0",
+            b'3',
+        ),
     ];
-    for (t, offset, daylight, name) in rows {
+    for (source, size, text, version) in rows {
+        let Ok(found) = image(rt.alloc(), source, 0)? else {
+            return Err(Fail::from("no image"));
+        };
+        assert_eq!(rt; found.octets().len(), size, "{source:?}");
+        assert_eq!(rt; found.zone().footer_text(), text);
+        for place in [4, 55] {
+            assert_eq!(rt; found.octets().get(place), Some(&version), "{source:?}");
+        }
+    }
+    Ok(())
+}
+
+/// Sources of one zone, and what each file shows at an instant.
+#[test]
+fn answers(rt: HostRuntime) -> Result<(), Fail> {
+    let eire: &[u8] =
+        b"Rule Eire 1996 max - Mar lastSun 1:00u 0 -\nRule Eire 1996 max - Oct lastSun 1:00u -1:00 -\n\
+Zone Z/D 1:00 Eire IST/GMT\n";
+    let chile: &[u8] =
+        b"Rule Chile 2023 max - Apr Sun>=2 3:00u 0 -\nRule Chile 2023 max - Sep Sun>=2 4:00u 1:00 -\n\
+Zone Z/S -4:00 Chile %z\n";
+    let rows: [(&[u8], i64, i32, bool, &[u8]); 9] = [
+        (NEW_YORK_SOURCE, -1, -18_000, false, b"EST"),
+        (NEW_YORK_SOURCE, 1_173_596_399, -18_000, false, b"EST"),
+        (NEW_YORK_SOURCE, 1_173_596_400, -14_400, true, b"EDT"),
+        (NEW_YORK_SOURCE, 13_796_377_199, -18_000, false, b"EST"),
+        (NEW_YORK_SOURCE, 13_796_377_200, -14_400, true, b"EDT"),
+        (NEW_YORK_SOURCE, i64::MAX, -18_000, false, b"EST"),
+        (eire, 978_307_200, 0, true, b"GMT"),
+        (eire, i64::MAX, 0, true, b"GMT"),
+        (chile, i64::MAX, -10_800, true, b"-03"),
+    ];
+    for (source, t, offset, daylight, name) in rows {
+        let Ok(found) = image(rt.alloc(), source, 0)? else {
+            return Err(Fail::from("no image"));
+        };
         let want = Answer::Known(State {
             offset,
             daylight,
             name,
         });
-        assert_eq!(rt; found.zone().at(t), want, "at {t}");
+        assert_eq!(rt; found.zone().at(t), want, "{source:?} at {t}");
     }
     Ok(())
 }

@@ -12,11 +12,15 @@ mod files;
 #[cfg(test)]
 mod footers;
 #[cfg(test)]
+mod growths;
+#[cfg(test)]
 mod images;
 #[cfg(test)]
 mod occurrences;
 #[cfg(test)]
 mod periods;
+#[cfg(test)]
+mod samples;
 #[cfg(test)]
 mod sources;
 #[cfg(test)]

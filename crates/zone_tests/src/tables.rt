@@ -3,6 +3,7 @@
 mod limits;
 mod rows;
 
+use crate::samples::{NEW_YORK, NEW_YORK_SOURCE, UTC};
 use std::alloc::Global;
 use std::test::Fail;
 use zic_base::{Place, Stop};
@@ -14,14 +15,6 @@ use zic_tzif::write;
 
 /// The place of the faults of the only zone.
 const PLACE: Place = Place { text: 1, line: 3 };
-
-/// The file of `Zone Etc/UTC 0 - UTC`.
-const UTC_FILE: &[u8] = b"TZif2\0\0\0\0\0\0\0\0\0\0\0\0\0\0\0\
-\0\0\0\0\0\0\0\0\0\0\0\0\0\0\0\0\0\0\0\x01\0\0\0\x01\
-\0\0\0\0\0\0\0\
-TZif2\0\0\0\0\0\0\0\0\0\0\0\0\0\0\0\
-\0\0\0\0\0\0\0\0\0\0\0\0\0\0\0\0\0\0\0\x01\0\0\0\x04\
-\0\0\0\0\0\0UTC\0\nUTC0\n";
 
 /// Reads a source text.
 fn read(alloc: Global, parts: &[&[u8]]) -> Result<Source, Fail> {
@@ -54,11 +47,17 @@ fn made(alloc: Global, parts: &[&[u8]]) -> Result<Result<Table, Stop>, Fail> {
 }
 
 #[test]
-fn a_table_is_written(rt: HostRuntime) -> Result<(), Fail> {
-    let Ok(found) = made(rt.alloc(), &[b"Zone Etc/UTC 0 - UTC\n"])? else {
-        return Err(Fail::from("no table"));
-    };
-    let octets = write(rt.alloc(), &found)?;
-    assert_eq!(rt; octets.as_slice(), UTC_FILE);
+fn tables_are_written(rt: HostRuntime) -> Result<(), Fail> {
+    let rows: [(&[u8], &[u8]); 2] = [
+        (b"Zone Etc/UTC 0 - UTC\n", UTC),
+        (NEW_YORK_SOURCE, NEW_YORK),
+    ];
+    for (source, file) in rows {
+        let Ok(found) = made(rt.alloc(), &[source])? else {
+            return Err(Fail::from("no table"));
+        };
+        let octets = write(rt.alloc(), &found)?;
+        assert_eq!(rt; octets.as_slice(), file);
+    }
     Ok(())
 }

@@ -1,6 +1,6 @@
 //! Answers of files at instants.
 
-use super::samples::{NEW_YORK, new_york};
+use crate::samples::{NEW_YORK, new_york};
 use std::test::*;
 use zic_tzif::*;
 

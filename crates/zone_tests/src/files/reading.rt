@@ -1,6 +1,6 @@
 //! Files, and bytes that are not a file.
 
-use super::samples::{NEW_YORK, NEW_YORK_TWICE, UTC, new_york};
+use crate::samples::{NEW_YORK, NEW_YORK_TWICE, UTC, new_york};
 use std::alloc::Global;
 use std::process::Abort;
 use std::test::*;
@@ -35,8 +35,10 @@ const FAULTS: [(usize, u8, Reason); 22] = [
 
 /// The same for a file with transitions. The byte at 148 is the type of the last transition; after
 /// its change the footer contradicts that transition.
-const FAULTS_WITH_TRANSITIONS: [(usize, u8, Reason); 12] = [
+const FAULTS_WITH_TRANSITIONS: [(usize, u8, Reason); 14] = [
     (0, b'X', Reason::Magic),
+    (4, b'4', Reason::Version),
+    (31, 1, Reason::LeapSeconds),
     (55, b'3', Reason::HeadersDiffer),
     (90, 0, Reason::Counts),
     (86, 0xff, Reason::Short),
@@ -111,14 +113,21 @@ fn faults(rt: HostRuntime) -> Result<(), Fail> {
         Some(ReadStop::Bad(Reason::Short)),
         "many transitions"
     );
-    for length in 0..111 {
-        let stop = stop_of(rt.alloc(), &UTC[..length]);
-        assert_eq!(rt; stop, Some(ReadStop::Bad(Reason::Short)), "{length} octets");
+    Ok(())
+}
+
+#[test]
+fn other_lengths(rt: HostRuntime) -> Result<(), Fail> {
+    for file in [UTC.as_slice(), NEW_YORK.as_slice()] {
+        for length in 0..file.len() {
+            let stop = stop_of(rt.alloc(), &file[..length]);
+            assert_eq!(rt; stop, Some(ReadStop::Bad(Reason::Short)), "{length} octets");
+        }
+        let mut longer = file.to_vec(rt.alloc())?;
+        longer.push(b'\n')?;
+        let stop = stop_of(rt.alloc(), &longer);
+        assert_eq!(rt; stop, Some(ReadStop::Bad(Reason::TrailingBytes)));
     }
-    let mut longer = UTC.to_vec(rt.alloc())?;
-    longer.push(b'\n')?;
-    let stop = stop_of(rt.alloc(), &longer);
-    assert_eq!(rt; stop, Some(ReadStop::Bad(Reason::TrailingBytes)));
     Ok(())
 }
 
@@ -193,12 +202,25 @@ fn reserved_octets(rt: HostRuntime) -> Result<(), Fail> {
     Ok(())
 }
 
+/// Returns these bytes and, after them, a footer's text and its newline.
+fn with_footer(alloc: Global, octets: &[u8], text: &[u8]) -> Result<Vec<u8>, Fail> {
+    let mut file = octets.to_vec(alloc)?;
+    file.extend_from_slice(text)?;
+    file.push(b'\n')?;
+    Ok(file)
+}
+
 #[test]
-fn daylight_name_without_edges(rt: HostRuntime) -> Result<(), Fail> {
-    let mut octets = NEW_YORK[..170].to_vec(rt.alloc())?;
-    octets.extend_from_slice(b"EST5EDT\n")?;
-    let stop = stop_of(rt.alloc(), &octets);
-    assert_eq!(rt; stop, Some(ReadStop::Bad(Reason::Footer)));
+fn other_footers(rt: HostRuntime) -> Result<(), Fail> {
+    let octets = with_footer(rt.alloc(), &UTC[..106], b"EST5EDT,M3.2.0,M11.1.0")?;
+    let zone = read(rt.alloc(), &octets)?;
+    let rows = [(1173596399, new_york(false)), (1173596400, new_york(true))];
+    assert_answers(&rt, &zone, &rows);
+    // A daylight name without edges.
+    for file in [&UTC[..106], &NEW_YORK[..170]] {
+        let stop = stop_of(rt.alloc(), &with_footer(rt.alloc(), file, b"EST5EDT")?);
+        assert_eq!(rt; stop, Some(ReadStop::Bad(Reason::Footer)));
+    }
     Ok(())
 }
 

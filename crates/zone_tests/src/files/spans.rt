@@ -1,6 +1,6 @@
 //! Spans of instants at which a file gives the same answer.
 
-use super::samples::{NEW_YORK, UTC, new_york};
+use crate::samples::{NEW_YORK, UTC, new_york};
 use std::process::Abort;
 use std::test::*;
 use zic_tzif::*;

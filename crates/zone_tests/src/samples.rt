@@ -1,4 +1,4 @@
-//! Files for the tests to read.
+//! Files that the tests read or make.
 
 use zic_base::State;
 use zic_tzif::Answer;
@@ -11,7 +11,12 @@ TZif2\0\0\0\0\0\0\0\0\0\0\0\0\0\0\0\
 \0\0\0\0\0\0\0\0\0\0\0\0\0\0\0\0\0\0\0\x01\0\0\0\x04\
 \0\0\0\0\0\0UTC\0\nUTC0\n";
 
-/// The file of a zone with the US rules from 2007 on and a standard time of -5:00.
+/// The rules of the United States from 2007 on, and a zone that uses them.
+pub const NEW_YORK_SOURCE: &[u8] = b"Rule US 2007 max - Mar Sun>=8 2:00 1:00 D\n\
+Rule US 2007 max - Nov Sun>=1 2:00 0 S\n\
+Zone Z/NY -5:00 US E%sT\n";
+
+/// The file of `NEW_YORK_SOURCE`.
 pub const NEW_YORK: &[u8; 193] = b"TZif2\0\0\0\0\0\0\0\0\0\0\0\0\0\0\0\
 \0\0\0\0\0\0\0\0\0\0\0\0\0\0\0\0\0\0\0\x01\0\0\0\x01\
 \0\0\0\0\0\0\0\

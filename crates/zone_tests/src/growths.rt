@@ -1,0 +1,114 @@
+//! Calls that may need memory, in rows. If a growth of memory is refused, a row ends as out of
+//! memory and is made again, and no call of it gives another answer. `.ci/refusals.sh` refuses each
+//! growth in turn.
+
+ghost use Rattle.std.specs.Prelude.{◌≡◌, ◌⊎◌};
+
+use crate::samples::{NEW_YORK, NEW_YORK_SOURCE, new_york};
+use std::alloc::Global;
+use std::process::Abort;
+use zic_base::{Kind, Place, Stop};
+use zic_footer::{ParseStop, make, parse, print};
+use zic_rules::timeline;
+use zic_source::read_source;
+use zic_table::table;
+use zic_tzif::{ReadStop, read, write};
+
+/// A rule for each form of AT.
+const RULES: &[u8] = b"Rule A 2004 only - Feb 29 0:00:32.13 1 D
+Rule A 2004 only - Feb 29 0:00:32.5 1 D
+Rule A 2004 only - Feb 29 0:00:33.5 1 D
+Rule A 2004 only - Feb 29 - 1 D
+Rule A 2004 only - Feb 29 24:00 1 D
+Rule A 2004 only - Feb 29 -2:30 1 D
+Rule A 2004 only - Feb 29 260:00 1 D
+Rule A 2004 only - Feb 29 300:00:00.5 1 D
+";
+
+/// AT of each rule, in seconds.
+const TIMES: [i32; 8] = [32, 32, 34, 0, 86_400, -9000, 936_000, 1_080_000];
+
+/// Reads rules, and then a rule with a fault after them.
+fn rules_are_read(rt: &impl Abort, alloc: Global) -> Result<(), Stop> {
+    let texts = [
+        Vec::from_slice(alloc, RULES)?,
+        Vec::from_slice(alloc, b"Rule A 2004 only - Feb 29 300:00:01 1 D")?,
+    ];
+    let source = read_source(alloc, &texts[..1])?;
+    assert!(rt; source.rules() == TIMES.len());
+    for (number, seconds) in TIMES.iter().enumerate() {
+        assert!(rt; source.rule(number).moment.at.seconds == *seconds);
+    }
+    let stop = read_source(alloc, &texts).err();
+    if stop == Some(Stop::Memory) {
+        return Err(Stop::Memory);
+    }
+    let place = Place { text: 2, line: 1 };
+    assert!(rt; stop == Some(Stop::at(place, Kind::Time)));
+    Ok(())
+}
+
+/// Makes the file of a zone call by call, and reads it.
+fn a_file_is_made(rt: &impl Abort, alloc: Global) -> Result<(), Stop> {
+    let texts = [Vec::from_slice(alloc, NEW_YORK_SOURCE)?];
+    let source = read_source(alloc, &texts)?;
+    assert!(rt; source.zones() == 1);
+    let place = Place { text: 1, line: 3 };
+    let found = timeline(alloc, &source, 0)?;
+    assert!(rt; found.end() == 1_262_304_000 && found.len() == 6);
+    let footer = make(alloc, place, &found)?;
+    let text = print(alloc, &footer)?;
+    assert!(rt; text.as_slice() == b"EST5EDT,M3.2.0,M11.1.0".as_slice());
+    let table = table(alloc, place, &found, &footer)?;
+    let octets = write(alloc, &table)?;
+    assert!(rt; octets.as_slice() == NEW_YORK.as_slice());
+    match read(alloc, &octets) {
+        Ok(zone) => assert!(rt; zone.at(1_173_596_400) == new_york(true)),
+        Err(ReadStop::Memory) => return Err(Stop::Memory),
+        Err(ReadStop::Bad(_)) => panic!(rt; "a fault"),
+    }
+    Ok(())
+}
+
+/// Returns whether a text is a footer of a version.
+fn is_footer(alloc: Global, text: &[u8], version: u8) -> Result<bool, Stop>
+    requires { (version ≡ 2) ⊎ (version ≡ 3) }
+{
+    match parse(alloc, text, version) {
+        Ok(_) => Ok(true),
+        Err(ParseStop::BadFooter) => Ok(false),
+        Err(ParseStop::Memory) => Err(Stop::Memory),
+    }
+}
+
+/// Parses footers. The last has names of more than 16 bytes.
+fn footers_are_parsed(rt: &impl Abort, alloc: Global) -> Result<(), Stop> {
+    assert!(rt; is_footer(alloc, b"EST5EDT,M3.2.0,M11.1.0", 2)?);
+    assert!(rt; !is_footer(alloc, b"EST5EDT", 2)?);
+    assert!(rt; !is_footer(alloc, b"IST-2IDT,M3.4.4/26,M10.5.0", 2)?);
+    assert!(rt; is_footer(alloc, b"IST-2IDT,M3.4.4/26,M10.5.0", 3)?);
+    assert!(rt;
+        is_footer(
+            alloc,
+            b"ABCDEFGHIJKLMNOPQ5<ABCDEFGHIJKLMNOPQ+12>,001,M12.5.6",
+            2
+        )?
+    );
+    Ok(())
+}
+
+/// Makes all rows of calls.
+fn all_are_made(rt: &impl Abort, alloc: Global) -> Result<(), Stop> {
+    rules_are_read(rt, alloc)?;
+    a_file_is_made(rt, alloc)?;
+    footers_are_parsed(rt, alloc)
+}
+
+#[test]
+fn calls_answer_the_same_after_a_refused_growth(rt: HostRuntime) {
+    let mut answer = all_are_made(&rt, rt.alloc());
+    if answer == Err(Stop::Memory) {
+        answer = all_are_made(&rt, rt.alloc());
+    }
+    assert!(rt; answer == Ok(()));
+}
