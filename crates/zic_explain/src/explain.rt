@@ -2,7 +2,7 @@
 
 ghost use Rattle.std.specs.Prelude.{◌≡◌, ◌<◌, ◌++◌, length, string_bytes, IfOk, IfErr, IfSome, IfNone, OnOk};
 ghost use Rattle.std.specs.List.{flat_map};
-ghost use Rattle.zic_explain.specs.Explanation.{section, explanation_text, index_line, IsExplanation, IsUnexplained, HasName, HasNoName, IsNearest};
+ghost use Rattle.zic_explain.specs.Explanation.{section, explanation_text, index_line, IsExplanation, IsExpectation, IsUnexplained, HasName, HasNoName, IsNearest};
 
 use crate::entry::Entry;
 use std::alloc::{AllocError, Global};
@@ -47,6 +47,18 @@ pub fn explanation(alloc: Global, entries: &[Entry], name: &str) -> Result<Strin
             nearest: nearest(alloc, entries, name)?,
         }),
     }
+}
+
+/// Returns the section that tells what is expected where an error has this name, or an empty text
+/// where there is none.
+pub fn expectation(alloc: Global, entries: &[Entry], name: &str) -> Result<String, AllocError>
+    ensures { IfOk result (λ lines. IsExpectation entries.now name.now (string_bytes lines)) }
+{
+    let mut lines = String::new(alloc);
+    if let Some(entry) = find(entries, name) {
+        push_section(&mut lines, "Expected", entry.expected)?;
+    }
+    Ok(lines)
 }
 
 /// Returns a line for each entry, with its name and the first sentence of what it means.

@@ -4,7 +4,16 @@
 
 mod entry;
 mod explain;
+mod faulty;
+mod fields;
+mod form;
+mod place;
+mod record;
+mod shown;
 mod texts;
+mod zones;
 
 pub use entry::{Entry, entries};
-pub use explain::{Unexplained, explanation, index};
+pub use explain::{Unexplained, expectation, explanation, index};
+pub use place::{line_place, row_place};
+pub use zones::nearest_zone;

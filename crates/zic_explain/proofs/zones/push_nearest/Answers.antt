@@ -1,0 +1,6 @@
+use Rattle.zic_explain.proofs.zones.push_nearest.Goals as goal
+
+pub returns : goal.returns
+returns c =
+    λ shown. c.in_ok-push_line_end-3.ensures (c.in_ok-push_bytes-3.ensures (c.in_ok-push_bytes-2.ensures
+    (c.in_ok-push_line_end-2.ensures (c.in_ok-push_bytes.ensures (c.in_ok-push_line_end.ensures shown)))))

@@ -1,0 +1,27 @@
+-- Where a fault stands, as it is told: own choice.
+use Rattle.std.specs.Prelude.{◌≡◌, ◌≤◌, ◌⊎◌, ℕ, List, ◌++◌, codes, All}
+use Rattle.std.specs.Fmt.{decimal}
+
+-- a byte that a terminal shows, and takes for no command: a tab, a line feed, or from space to `~`
+abbrev pub IsShown : ℕ → Type 0
+IsShown byte = (byte ≡ 9) ⊎ ((byte ≡ 10) ⊎ ((32 ≤ byte) × (byte ≤ 126)))
+
+-- the text has no other bytes
+abbrev pub IsShownText : List ℕ → Type 0
+IsShownText text = All IsShown text
+
+-- A text that was shown before is shown after.
+abbrev pub StaysShown : List ℕ → List ℕ → Type 0
+StaysShown before after = IsShownText before → IsShownText after
+
+-- The text begins so, and what goes on is shown.
+abbrev pub GoesOnShown : List ℕ → List ℕ → Type 0
+GoesOnShown begin text = (rest : List ℕ) × IsShownText rest × (text ≡ begin ++ rest)
+
+-- a place in a source: its path and the number of the line
+abbrev pub line_head : List ℕ → ℕ → List ℕ
+line_head path line = codes "--> " ++ path ++ codes ":" ++ decimal line
+
+-- a place in a column: the number of the row
+abbrev pub row_head : ℕ → List ℕ
+row_head row = codes "--> standard input, row " ++ decimal row

@@ -1,0 +1,141 @@
+//! Where a fault stands.
+
+ghost use Rattle.std.specs.Prelude.{OnOk, IfOk, string_bytes};
+ghost use Rattle.zic_explain.specs.Place.{line_head, row_head, GoesOnShown, IsShownText, StaysShown};
+
+use crate::faulty::{Part, faulty_part};
+use crate::fields::{Span, fields_of};
+use crate::form::{awaits, form_of};
+use crate::record::faulty_field;
+use crate::shown::{push_bytes, push_line_end, push_shown};
+use std::alloc::{AllocError, Global};
+use zic_base::Kind;
+use zic_plan::RowKind;
+
+/// Returns lines that say where a fault of a source stands: `--> PATH:LINE, field F (IN)`, the line
+/// of the text as it stands, and a line that underlines the field. Where the fault is about no one
+/// field, all of them are underlined, and where the text has no such line, only its number is told.
+///
+/// # Errors
+///
+/// Memory ran out.
+pub fn line_place(
+    alloc: Global,
+    kind: Kind,
+    path: &str,
+    text: &[u8],
+    line: u64,
+) -> Result<String, AllocError>
+    ensures { IfOk result
+        (λ place. GoesOnShown (line_head path.now line) (string_bytes place)) }
+{
+    let rest = line_rest(alloc, kind, text, line)?;
+    let mut place = format!(in alloc; "--> {path}:{line}")?;
+    place.push_str(rest.as_str())?;
+    Ok(place)
+}
+
+/// Returns what is told of a line after its number.
+fn line_rest(alloc: Global, kind: Kind, text: &[u8], line: u64) -> Result<String, AllocError>
+    ensures { IfOk result (λ rest. IsShownText (string_bytes rest)) }
+{
+    let mut rest = String::new(alloc);
+    let Some(bytes) = line_at(text, line) else {
+        push_line_end(&mut rest)?;
+        return Ok(rest);
+    };
+    let fields = fields_of(alloc, bytes)?;
+    let form = form_of(awaits(alloc, text, line.saturating_sub(1))?, &fields);
+    let part = faulty_part(alloc, kind, bytes, form, &fields)?;
+    push_field(alloc, &mut rest, part.field, form.labels())?;
+    push_shown(&mut rest, bytes, part.span)?;
+    Ok(rest)
+}
+
+/// Returns lines that say where a fault of a column stands: `--> standard input, row N, field F
+/// (ZONE)`, and where the record is known its text and a line that underlines the field.
+///
+/// # Errors
+///
+/// Memory ran out.
+pub fn row_place(
+    alloc: Global,
+    kind: RowKind,
+    row: u64,
+    record: Option<&[u8]>,
+) -> Result<String, AllocError>
+    ensures { IfOk result (λ place. GoesOnShown (row_head row) (string_bytes place)) }
+{
+    let rest = row_rest(alloc, kind, record)?;
+    format!(in alloc; "--> standard input, row {row}{rest}")
+}
+
+/// Returns what is told of a row after its number.
+fn row_rest(alloc: Global, kind: RowKind, record: Option<&[u8]>) -> Result<String, AllocError>
+    ensures { IfOk result (λ rest. IsShownText (string_bytes rest)) }
+{
+    let mut rest = String::new(alloc);
+    let bytes = record.unwrap_or(&[]);
+    let part = faulty_field(kind, bytes);
+    push_field(alloc, &mut rest, part.field, &["NAME", "SECONDS"])?;
+    if record.is_some() {
+        push_shown(&mut rest, bytes, part.span)?;
+    }
+    Ok(rest)
+}
+
+/// Adds the number of a field, if there is one, and what it is called, and ends the line.
+fn push_field(
+    alloc: Global,
+    rest: &mut String,
+    field: Option<usize>,
+    labels: &[&str],
+) -> Result<(), AllocError>
+    ensures { OnOk result (StaysShown (string_bytes rest.old) (string_bytes rest.new)) }
+{
+    match field {
+        Some(index) => push_number(alloc, rest, index, labels),
+        None => push_line_end(rest),
+    }
+}
+
+/// Adds the number of the field at this index, and what it is called, and ends the line.
+fn push_number(
+    alloc: Global,
+    rest: &mut String,
+    index: usize,
+    labels: &[&str],
+) -> Result<(), AllocError>
+    ensures { OnOk result (StaysShown (string_bytes rest.old) (string_bytes rest.new)) }
+{
+    let number = index.saturating_add(1).to_string(alloc)?;
+    push_bytes(rest, b", field ")?;
+    push_bytes(rest, number.as_bytes())?;
+    push_label(rest, labels.get(index).copied().unwrap_or(""))?;
+    push_line_end(rest)?;
+    Ok(())
+}
+
+/// Adds what a field is called, if it has a name.
+fn push_label(rest: &mut String, label: &str) -> Result<(), AllocError>
+    ensures { OnOk result (StaysShown (string_bytes rest.old) (string_bytes rest.new)) }
+{
+    if !label.is_empty() {
+        push_bytes(rest, b" (")?;
+        push_bytes(rest, label.as_bytes())?;
+        push_bytes(rest, b")")?;
+    }
+    Ok(())
+}
+
+/// Returns the line of this number, from 1 on.
+fn line_at(text: &[u8], line: u64) -> Option<&[u8]> {
+    let mut left = line;
+    for bytes in text.split(|byte| *byte == b'\n') {
+        if left == 1 {
+            return Some(bytes);
+        }
+        left = left.saturating_sub(1);
+    }
+    None
+}

@@ -1,0 +1,135 @@
+//! A line as it stands, with a part of it underlined.
+
+ghost use Rattle.std.specs.Prelude.{OnOk, string_bytes};
+ghost use Rattle.zic_explain.specs.Place.{IsShown, StaysShown};
+
+use crate::fields::Span;
+use std::alloc::AllocError;
+
+/// The greatest number of bytes that are shown of a line or a record.
+const WIDTH: usize = 200;
+
+/// The number of bytes that are shown before an underlined part that doesn't fit otherwise.
+const BEFORE: usize = 40;
+
+/// Adds a line, cut where it is long, and a line with `^` below the part of it. Bytes that a
+/// terminal could take for a command, or that aren't ASCII, are shown as `\x1b`.
+pub(crate) fn push_shown(text: &mut String, line: &[u8], part: Span) -> Result<(), AllocError>
+    ensures { OnOk result (StaysShown (string_bytes text.old) (string_bytes text.new)) }
+{
+    let start = if part.end <= WIDTH {
+        0
+    } else {
+        part.start.saturating_sub(BEFORE)
+    };
+    let rest = line.trim_ascii_end().get(start..).unwrap_or(&[]);
+    let window = rest.get(..WIDTH).unwrap_or(rest);
+    let cut: &[u8] = if start > 0 { b"..." } else { b"" };
+    let cut_after: &[u8] = if window.len() < rest.len() {
+        b"..."
+    } else {
+        b""
+    };
+    push_bytes(text, b"  ")?;
+    push_bytes(text, cut)?;
+    push_bytes(text, window)?;
+    push_bytes(text, cut_after)?;
+    push_line_end(text)?;
+    push_repeated(text, b' ', cut.len().saturating_add(2))?;
+    push_underline(text, window, start, part)?;
+    push_line_end(text)?;
+    Ok(())
+}
+
+/// Ends a line.
+pub(crate) fn push_line_end(text: &mut String) -> Result<(), AllocError>
+    ensures { OnOk result (StaysShown (string_bytes text.old) (string_bytes text.new)) }
+{
+    push_ascii(text, b'\n')
+}
+
+/// Adds what stands below the bytes of a line from `start` on, up to the end of the part.
+fn push_underline(
+    text: &mut String,
+    window: &[u8],
+    start: usize,
+    part: Span,
+) -> Result<(), AllocError>
+    ensures { OnOk result (StaysShown (string_bytes text.old) (string_bytes text.new)) }
+{
+    let mut at = start;
+    for byte in window {
+        if at >= part.end {
+            return Ok(());
+        }
+        let mark = match *byte {
+            b'\t' => b'\t',
+            _ if at >= part.start => b'^',
+            _ => b' ',
+        };
+        push_repeated(text, mark, width(*byte))?;
+        at = at.saturating_add(1);
+    }
+    Ok(())
+}
+
+/// Adds what is shown of a byte some times.
+fn push_repeated(text: &mut String, byte: u8, count: usize) -> Result<(), AllocError>
+    ensures { OnOk result (StaysShown (string_bytes text.old) (string_bytes text.new)) }
+{
+    for _ in 0..count {
+        push_byte(text, byte)?;
+    }
+    Ok(())
+}
+
+/// Returns the number of characters that are shown of a byte.
+fn width(byte: u8) -> usize {
+    match byte {
+        b'\t' | b' '..=b'~' => 1,
+        _ => 4,
+    }
+}
+
+/// Adds what is shown of bytes.
+pub(crate) fn push_bytes(text: &mut String, bytes: &[u8]) -> Result<(), AllocError>
+    ensures { OnOk result (StaysShown (string_bytes text.old) (string_bytes text.new)) }
+{
+    for byte in bytes {
+        push_byte(text, *byte)?;
+    }
+    Ok(())
+}
+
+/// Adds what is shown of a byte.
+fn push_byte(text: &mut String, byte: u8) -> Result<(), AllocError>
+    ensures { OnOk result (StaysShown (string_bytes text.old) (string_bytes text.new)) }
+{
+    if byte == b'\t' || matches!(byte, b' '..=b'~') {
+        return push_ascii(text, byte);
+    }
+    push_ascii(text, b'\\')?;
+    push_ascii(text, b'x')?;
+    push_ascii(text, digit(byte / 16))?;
+    push_ascii(text, digit(byte % 16))?;
+    Ok(())
+}
+
+/// Adds a byte that is shown.
+fn push_ascii(text: &mut String, byte: u8) -> Result<(), AllocError>
+    requires { IsShown byte }
+    ensures { OnOk result (StaysShown (string_bytes text.old) (string_bytes text.new)) }
+{
+    text.push(char::from(byte))
+}
+
+/// Returns a hexadecimal digit.
+fn digit(value: u8) -> u8
+    ensures { IsShown result }
+{
+    match value {
+        0..=9 => b'0' + value,
+        10..=15 => b'a' + (value - 10),
+        _ => b'?',
+    }
+}
