@@ -1,4 +1,5 @@
 pub mod InputLemmas
+pub mod LinkLemmas
 pub mod ListLemmas
 pub mod ListingLemmas
 pub mod NameLemmas
