@@ -1,5 +1,6 @@
 pub mod ConvertingLemmas
 pub mod InputLemmas
+pub mod LinkLemmas
 pub mod ListLemmas
 pub mod ListingLemmas
 pub mod NameLemmas

@@ -56,10 +56,10 @@ are_ascii name h =
     All-weaker (λ b. is_name_byte b ≡ true) (λ b. b < 128) low_byte name (AllPass-from_list_all is_name_byte name pass)
 
 -- one byte of a name more
-pub path_more : (folder name old new : List ℕ) (i letter : ℕ) → is_name name ≡ true → i < length name → letter ≡ get_or name i 0
-    → old ≡ folder ++ 47 ∷ take i name → (letter < 128 → new ≡ old ++ letter ∷ []) → new ≡ folder ++ 47 ∷ take (i + 1) name
-path_more folder name old new i letter named lt is so_far more =
+pub name_more : (start name old new : List ℕ) (i letter : ℕ) → is_name name ≡ true → i < length name → letter ≡ get_or name i 0
+    → old ≡ start ++ take i name → (letter < 128 → new ≡ old ++ letter ∷ []) → new ≡ start ++ take (i + 1) name
+name_more start name old new i letter named lt is so_far more =
     let small : letter < 128 = subst (λ (b : ℕ). b < 128) (sym is) (All-get_or (λ b. b < 128) name i 0 lt (are_ascii name named)) in
     let taken : take (i + 1) name ≡ take i name ++ letter ∷ [] = take_more name i 0 lt ∙ ap (λ (b : ℕ). take i name ++ b ∷ []) (sym is) in
-    more small ∙ ap (λ (l : List ℕ). l ++ letter ∷ []) so_far ∙ append_assoc folder (47 ∷ take i name) (letter ∷ [])
-    ∙ ap (λ (l : List ℕ). folder ++ 47 ∷ l) (sym taken)
+    more small ∙ ap (λ (l : List ℕ). l ++ letter ∷ []) so_far ∙ append_assoc start (take i name) (letter ∷ [])
+    ∙ ap (λ (l : List ℕ). start ++ l) (sym taken)

@@ -10,7 +10,7 @@ use Rattle.zic_commands.specs.Tree.{Gains, in_folder, Placed}
 use Rattle.zic_commands.specs.declared.failure.Failure.{Failure}
 
 -- a tree that is as it was gained nothing
-pub gains_none : (tree : Option (List Placed)) → Gains tree tree []
+pub gains_none : {A : Type 0} (tree : Option (List A)) → Gains tree tree []
 gains_none None = tt
 gains_none (Some placed) = sym (append-nil placed)
 
@@ -20,11 +20,15 @@ some_file [] filled = absurd (filled refl)
 some_file (file ∷ files) filled = omega arith
 
 -- and what it gained twice in turn it gained together
-pub gains_both : (old mid new : Option (List Placed)) (first then : List Placed) → Gains old mid first → Gains mid new then → Gains old new (first ++ then)
+pub gains_both : {A : Type 0} (old mid new : Option (List A)) (first then : List A) → Gains old mid first → Gains mid new then → Gains old new (first ++ then)
 gains_both None mid new first then p q = tt
 gains_both (Some a) None new first then p q = absurd p
 gains_both (Some a) (Some b) None first then p q = absurd q
 gains_both (Some a) (Some b) (Some c) first then p q = q ∙ ap (λ l. l ++ then) p ∙ append_assoc a first then
+
+-- what it gained before it gained nothing is all
+pub gains_and_none : {A : Type 0} (old mid new : Option (List A)) (first : List A) → Gains old mid first → Gains mid new [] → Gains old new first
+gains_and_none old mid new first p q = subst (Gains old new) (append-nil first) (gains_both old mid new first [] p q)
 
 -- one file more
 pub file_more : (place : File → Placed) (files : List File) (i : ℕ) (old mid new : Option (List Placed)) → i < length files → Gains old mid (map place (take i files))

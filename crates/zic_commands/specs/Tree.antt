@@ -2,14 +2,22 @@
 use Rattle.std.specs.Prelude.{◌≡◌, ◌≢◌, ℕ, ⊤, List, [], ◌∷◌, ◌++◌, map, Option, Some, None}
 use Rattle.zic_bulk.specs.Build.{AreFilesOfTexts}
 use Rattle.zic_files.specs.File.{File}
+use Rattle.zic_commands.specs.declared.link_kind.LinkKind.{LinkKind}
 
 -- a file in a tree: its path and its bytes
 pub record Placed : Type 0 where
   pub path : List ℕ
   pub bytes : List ℕ
 
--- the files placed into a tree, where they are known, grew by these, in order
-abbrev pub Gains : Option (List Placed) → Option (List Placed) → List Placed → Type 0
+-- a link in a tree: its kind, its path, and what it is made of: the path of the file that it names,
+-- or the text of a symbolic link
+pub record Linked : Type 0 where
+  pub kind : LinkKind
+  pub path : List ℕ
+  pub target : List ℕ
+
+-- what was placed into a tree, where that is known, grew by these, in order
+abbrev pub Gains : {A : Type 0} → Option (List A) → Option (List A) → List A → Type 0
 Gains None new files = ⊤
 Gains (Some placed) None files = ⊥
 Gains (Some placed) (Some placed') files = placed' ≡ placed ++ files

@@ -60,7 +60,7 @@ fn place_files<D: Tree>(
 }
 
 /// Places the file of this number in the folder.
-fn place_file<D: Tree>(
+pub(crate) fn place_file<D: Tree>(
     alloc: Global,
     files: &Files,
     file: usize,
@@ -74,6 +74,7 @@ fn place_file<D: Tree>(
     ensures keeps { OnErr result (Gains (D.placed tree.old) (D.placed tree.new) []) }
     ensures err { IfErr result (λ failure. IfSome (slice_get files.now file)
         (λ file. IsUnplaced (D.refused tree.new) folder.now file failure)) }
+    ensures links { Gains (D.linked tree.old) (D.linked tree.new) [] }
 {
     let path = path_of(alloc, folder, files.name(file))?;
     // A folder without a name is not the root.
@@ -88,11 +89,18 @@ fn place_file<D: Tree>(
 }
 
 /// Returns the path of the file of this name.
-fn path_of(alloc: Global, folder: &str, name: &[u8]) -> Result<String, AllocError>
+pub(crate) fn path_of(alloc: Global, folder: &str, name: &[u8]) -> Result<String, AllocError>
     requires { is_name name.now ≡ true }
     ensures { IfOk result (λ path. string_bytes path ≡ folder.now ++ 47 ∷ name.now) }
 {
-    let mut path = format!(in alloc; "{folder}/")?;
+    with_name(format!(in alloc; "{folder}/")?, name)
+}
+
+/// Returns the path with a name at its end.
+pub(crate) fn with_name(mut path: String, name: &[u8]) -> Result<String, AllocError>
+    requires { is_name name.now ≡ true }
+    ensures { IfOk result (λ whole. string_bytes whole ≡ string_bytes path ++ name.now) }
+{
     for byte in name {
         path.push(char::from(*byte))?;
     }

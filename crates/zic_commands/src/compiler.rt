@@ -1,6 +1,7 @@
 //! Compiles texts.
 
 ghost use Rattle.std.specs.Prelude.{IfOk, IfErr};
+ghost use Rattle.zic_source.specs.Grammar.{IsSource};
 ghost use Rattle.zic_source.specs.Texts.{texts_of};
 ghost use Rattle.zic_bulk.specs.Build.{AreFilesOfTexts};
 ghost use Rattle.zic_commands.specs.Failing.{IsFailureOfTexts};
@@ -9,8 +10,9 @@ use crate::failure::{Failure, run_failure};
 use std::alloc::Global;
 use std::sync::Wait;
 use std::thread::Threads;
-use zic_bulk::{Files, Plan, build};
+use zic_bulk::{Files, Plan, RunStop, build};
 use zic_pieces::Open;
+use zic_source::{Source, read_source};
 
 /// Returns the files of texts, by the plan's workers.
 pub(crate) fn files_of<T: Threads + Wait + Sync>(
@@ -25,5 +27,16 @@ pub(crate) fn files_of<T: Threads + Wait + Sync>(
     match build(rt, alloc, texts, plan, &Open) {
         Ok(files) => Ok(files),
         Err(stop) => Err(run_failure(stop, texts.len())),
+    }
+}
+
+/// Returns the lines of texts.
+pub(crate) fn source_of(alloc: Global, texts: &[Vec<u8>]) -> Result<Source, Failure>
+    ensures ok { IfOk result (IsSource (texts_of texts.now)) }
+    ensures err { IfErr result (IsFailureOfTexts (texts_of texts.now)) }
+{
+    match read_source(alloc, texts) {
+        Ok(source) => Ok(source),
+        Err(stop) => Err(run_failure(RunStop::from(stop), texts.len())),
     }
 }

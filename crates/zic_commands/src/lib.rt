@@ -7,12 +7,14 @@
 #![tactic(auto)]
 
 mod build_command;
+mod build_linked_command;
 mod check_command;
 mod compiler;
 mod convert_command;
 mod dump_command;
 mod failure;
 mod input;
+mod link_kind;
 mod names;
 mod output;
 mod progress;
@@ -21,11 +23,13 @@ mod sources;
 mod tree;
 
 pub use build_command::build;
+pub use build_linked_command::build_linked;
 pub use check_command::check;
 pub use convert_command::{convert, convert_with_header};
 pub use dump_command::dump;
 pub use failure::Failure;
 pub use input::{MAX_SOURCE, read_file_bytes, read_source_text};
+pub use link_kind::{LinkKind, LinkedFolder};
 pub use names::{kind_name, reason_name, row_kind_name};
 pub use progress::{Progress, Told};
 pub use show_command::show;

@@ -3,16 +3,18 @@
 ghost use Rattle.std.specs.Prelude.{◌≡◌, [], ◌∷◌, OnOk, OnErr, Err};
 ghost use Rattle.zic_commands.specs.Tree.{Gains};
 
+use crate::link_kind::LinkKind;
 use std::alloc::{AllocError, AllocFailed, Global};
 use std::collections::HashSet;
 use std::fs::{self, File, Files as FileSystem};
 use std::io::{self, ErrorKind, Read, Write};
+use std::os::unix::fs::symlink;
 
-/// The begin of the name under which a file is written in its folder, before it is renamed. A
+/// The begin of the name under which a file or a link is made in its folder, before it is renamed. A
 /// number follows. No zone can have such a name.
 const TEMPORARY: &str = "~pzic";
 
-/// The greatest number of times that a file is written.
+/// The greatest number of times that a file or a link is made.
 const TRIES: u32 = 1_000;
 
 /// The number of bytes that are read of a folder's names at a time.
@@ -57,16 +59,19 @@ impl From<AllocError> for Unplaced {
     }
 }
 
-/// A place for files, each at a path, with slashes between the names of folders. It makes the
-/// folders that a path needs.
+/// A place for files and links, each at a path, with slashes between the names of folders. It makes
+/// the folders that a path needs.
 pub trait Tree {
     ghost use Rattle.std.specs.Prelude.{ℕ, ⊤, List, Option, None};
-    ghost use Rattle.zic_commands.specs.Tree.{Placed};
+    ghost use Rattle.zic_commands.specs.Tree.{Linked, Placed};
 
     // the files that were placed, in order, where they are known
     ghost placed: { Self → Option (List Placed) } = { λ _. None };
 
-    // the tree refused a file at a path, where anything is known of it
+    // which links were made, in order, where that is known
+    ghost linked: { Self → Option (List Linked) } = { λ _. None };
+
+    // the tree refused a file or a link at a path, where anything is known of it
     ghost refused: { Self → List ℕ → Type 0 } = { λ _ _. ⊤ };
 
     /// Places a file of these bytes at a path, whole or not at all, and in place of what had the
@@ -75,15 +80,25 @@ pub trait Tree {
         ensures placed { OnOk result (Gains (placed self.old) (placed self.new)
             (record { path = path.now; bytes = bytes.now } ∷ [])) }
         ensures unplaced { OnErr result (Gains (placed self.old) (placed self.new) []) }
+        ensures links { Gains (linked self.old) (linked self.new) [] }
+        ensures refused { result ≡ Err Unplaced.Refused → refused self.new path.now };
+
+    /// Makes a link at a path, whole or not at all, and in place of what had the path. The target is
+    /// the path of the file that a hard link names, or the text of a symbolic link.
+    fn link(&mut self, kind: LinkKind, target: &str, path: &str) -> Result<(), Unplaced>
+        ensures linked { OnOk result (Gains (linked self.old) (linked self.new)
+            (record { kind = kind; path = path.now; target = target.now } ∷ [])) }
+        ensures unlinked { OnErr result (Gains (linked self.old) (linked self.new) []) }
+        ensures files { Gains (placed self.old) (placed self.new) [] }
         ensures refused { result ≡ Err Unplaced.Refused → refused self.new path.now };
 }
 
-/// A tree in a file system, of whose files no contract tells anything.
+/// A tree in a file system, of whose files and links no contract tells anything.
 ///
 /// Several runs may place files in one tree at the same time: each file is that of one of them, and
 /// whole. Each run has temporary names of its own. What a run that was ended left behind is removed
-/// by the next that enters the folder. That may remove a file that another run is writing, which
-/// then writes it again.
+/// by the next that enters the folder. That may remove a file or a link that another run is making,
+/// which then makes it again.
 #[derive(Drop)]
 pub struct Disk<'a, F> {
     alloc: Global,
@@ -94,14 +109,23 @@ pub struct Disk<'a, F> {
     folders: HashSet<String>,
 }
 
-/// The outcome of writing a file.
+/// What is to have a path.
+#[derive(Clone, Copy)]
+enum Content<'a> {
+    /// A file of these bytes.
+    Bytes(&'a [u8]),
+    /// A link of this kind to the target.
+    Link(LinkKind, &'a str),
+}
+
+/// The outcome of making a file or a link.
 #[derive(Clone, Copy)]
 enum Written {
     /// It has its name.
     Placed,
     /// The temporary name is that of another file.
     Taken,
-    /// Another run removed the file before it had its name.
+    /// Another run removed it before it had its name.
     Removed,
 }
 
@@ -156,6 +180,27 @@ impl<'a, F: FileSystem> Disk<'a, F> {
         Ok(())
     }
 
+    /// Makes a file or a link at a path.
+    fn make(&mut self, path: &str, content: Content<'_>) -> Result<(), Unplaced> {
+        let folder = parent(path);
+        self.enter(folder)?;
+        for _ in 0..TRIES {
+            let temporary = format!(in self.alloc; "{folder}/{TEMPORARY}{}", self.number)?;
+            let written = match content {
+                Content::Bytes(bytes) => self.write(temporary.as_str(), path, bytes)?,
+                Content::Link(kind, target) => {
+                    self.write_link(temporary.as_str(), path, kind, target)?
+                }
+            };
+            match written {
+                Written::Placed => return Ok(()),
+                Written::Taken => self.number = self.number.wrapping_add(1),
+                Written::Removed => {}
+            }
+        }
+        Err(Unplaced::Refused)
+    }
+
     /// Writes the bytes under the temporary name, and then renames that to the path.
     fn write(&self, temporary: &str, path: &str, bytes: &[u8]) -> io::Result<Written> {
         let file = match File::create_new(self.system, temporary) {
@@ -167,6 +212,37 @@ impl<'a, F: FileSystem> Disk<'a, F> {
             Ok(()) => fs::rename(self.system, temporary, path),
             Err(e) => Err(e),
         };
+        self.finish(temporary, placed)
+    }
+
+    /// Makes the link under the temporary name, and then renames that to the path.
+    fn write_link(
+        &self,
+        temporary: &str,
+        path: &str,
+        kind: LinkKind,
+        target: &str,
+    ) -> io::Result<Written> {
+        let made = match kind {
+            LinkKind::Hard => fs::hard_link(self.system, target, temporary),
+            LinkKind::Symbolic => symlink(self.system, target, temporary),
+        };
+        match made {
+            Ok(()) => {}
+            Err(e) if e.kind() == ErrorKind::AlreadyExists => return Ok(Written::Taken),
+            Err(e) => return Err(e),
+        }
+        let written = self.finish(temporary, fs::rename(self.system, temporary, path))?;
+        if kind == LinkKind::Hard {
+            // Where the path was a name of the same file before, both names are left.
+            let _ = fs::remove_file(self.system, temporary);
+        }
+        Ok(written)
+    }
+
+    /// Returns what came of a file or a link that was renamed. Removes the temporary name where that
+    /// failed.
+    fn finish(&self, temporary: &str, placed: io::Result<()>) -> io::Result<Written> {
         match placed {
             Ok(()) => Ok(Written::Placed),
             Err(e) if e.kind() == ErrorKind::NotFound => Ok(Written::Removed),
@@ -180,17 +256,11 @@ impl<'a, F: FileSystem> Disk<'a, F> {
 
 impl<'a, F: FileSystem> Tree for Disk<'a, F> {
     fn place(&mut self, path: &str, bytes: &[u8]) -> Result<(), Unplaced> {
-        let folder = parent(path);
-        self.enter(folder)?;
-        for _ in 0..TRIES {
-            let temporary = format!(in self.alloc; "{folder}/{TEMPORARY}{}", self.number)?;
-            match self.write(temporary.as_str(), path, bytes)? {
-                Written::Placed => return Ok(()),
-                Written::Taken => self.number = self.number.wrapping_add(1),
-                Written::Removed => {}
-            }
-        }
-        Err(Unplaced::Refused)
+        self.make(path, Content::Bytes(bytes))
+    }
+
+    fn link(&mut self, kind: LinkKind, target: &str, path: &str) -> Result<(), Unplaced> {
+        self.make(path, Content::Link(kind, target))
     }
 }
 

@@ -1,10 +1,11 @@
-use Rattle.std.proofs.Common.{string_bytes, ap, ◌∙◌, ◌++◌, arith}
-use Rattle.zic_commands.proofs.NameLemmas.{path_more}
+use Rattle.std.proofs.Common.{◌≡◌, ◌∷◌, ◌++◌, [], ◌∙◌, ap, append_assoc, string_bytes}
+use Rattle.std.proofs.lemmas.Result.{IfOk-weaker}
 use Rattle.zic_commands.proofs.build_command.path_of.Goals as goal
 
-pub loop-byte-preserved : goal.loop-byte-preserved
-loop-byte-preserved c =
-    let l = c.loop-byte in
-    path_more c.args.folder.now c.args.name.now (string_bytes l.path) (string_bytes c.push.new.self) l.byte-index c.from.result
-    c.requires (omega arith) c.from.ensures l.invariant
-    (λ small. c.in_ok-push.ensures.bytes ∙ ap (λ t. string_bytes l.path ++ t) (c.in_ok-push.ensures.ascii small))
+pub returns : goal.returns
+returns c =
+    let name = c.args.name.now in
+    let start = string_bytes c.in_ok-format.field-0 in
+    let folder = c.args.folder.now in
+    IfOk-weaker c.with_name.result (λ whole. string_bytes whole ≡ start ++ name) (λ whole. string_bytes whole ≡ folder ++ 47 ∷ name)
+    (λ whole is. is ∙ ap (λ p. p ++ name) c.in_ok-format.ensures.ok ∙ append_assoc folder (47 ∷ []) name) c.with_name.ensures
