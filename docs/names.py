@@ -45,7 +45,8 @@ class Function:
         self.title = f'{owner}::{self.name}' if owner else self.name
         self.key = f'{module.crate}::{self.title}'
         self.is_test = text[:self.start].rstrip().endswith('#[test]')
-        self.is_law = self.clauses != [] and text[match.end():head.end()].strip() == '()'
+        parameters = text[match.end():head.end()].strip()
+        self.is_law = self.clauses != [] and re.fullmatch(r'(<[^()]*>)?\(\)', parameters) is not None
         self.is_public = not module.is_test and (match[1] == 'pub ' or trait not in ('', 'Model'))
 
 

@@ -202,6 +202,23 @@ fn the_first_fault_of_a_row_is_told(rt: HostRuntime) -> Result<(), Fail> {
     Ok(())
 }
 
+#[test]
+fn a_header_is_passed_over_and_rows_have_numbers_of_faults(rt: HostRuntime) -> Result<(), Fail> {
+    let alloc = rt.alloc();
+    let files = files_of(alloc, UTC)?;
+    let plan = Plan::new(2, 1, 1, 9, 1000).ok_or("no plan")?;
+    let mut reader = Counted::new(b"Etc/UTC,7\nEtc/UTC,0\nEtc/UTC".as_slice());
+    let mut writer = Counted::new(Vec::new(alloc));
+    let answer = convert_after_header(&rt, alloc, &files, &mut reader, &mut writer, &plan);
+    assert_eq!(rt; writer.into_inner().as_slice(), &THREE_ROWS[..46]);
+    let Err(RunStop::Row { row, kind }) = answer else {
+        return Err(Fail::from("no fault"));
+    };
+    assert_eq!(rt; (row, kind.number()), (2, 35));
+    assert_eq!(rt; RowKind::TooManyRows.number(), 39);
+    Ok(())
+}
+
 /// Returns the fault of a row whose zone has no file.
 fn no_zone(row: u64) -> Result<u64, RunStop> {
     Err(RunStop::Row {

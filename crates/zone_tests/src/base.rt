@@ -3,12 +3,15 @@
 use std::alloc::Global;
 use std::test::Fail;
 use zic_base::*;
+use zic_tzif::Reason;
 
 #[test]
 fn numbers_of_kinds(rt: HostRuntime) {
     assert_eq!(rt; Kind::NotAscii.number(), 1);
     assert_eq!(rt; Kind::PermanentDaylight.number(), 30);
     assert_eq!(rt; Kind::TooManyChars.number(), 34);
+    assert_eq!(rt; Reason::Short.number(), 1);
+    assert_eq!(rt; Reason::TooLarge.number(), 14);
 }
 
 #[test]
