@@ -82,8 +82,8 @@ impl<'a> Task for ZonePieces<'a> {
         self.source.zones().div_ceil(self.size) as u64
     }
 
-    /// Returns the images of the zones of a piece. Memory runs out only at a zone before which
-    /// each of the piece has an image, and in none of whose lines an offset is out of range.
+    /// Returns the images of the zones of a piece. Memory runs out only at a zone whose image may
+    /// want it, and before which each of the piece has an image.
     fn perform(&self, alloc: Global, i: u64) -> Result<Images, PieceStop<Fault>>
         requires { i < count_of self.now }
         ensures outcome { IsOutcome (IsOutcomeOf self.now i) result }
