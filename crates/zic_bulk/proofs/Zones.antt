@@ -8,12 +8,11 @@ use Rattle.zic_base.specs.declared.fault.Kind.TheVariants as kind
 use Rattle.zic_base.specs.declared.fault.Stop.{Stop}
 use Rattle.zic_base.specs.declared.fault.Stop.TheVariants as stop
 use Rattle.zic_source.specs.Source.{SourceLines}
-use Rattle.zic_states.specs.Fault.{HasOffsetOutOfRange}
 use Rattle.zic_rules.specs.Period.{zone_of}
 use Rattle.zic_files.specs.File.{FileImage, no_image}
-use Rattle.zic_table.specs.Image.{IsImageOf, IsFaultOfZone}
+use Rattle.zic_table.specs.Image.{IsImageOf, IsFaultOfZone, ImageNeedsMemory}
 use Rattle.zic_bulk.specs.Files.{IsReadImage, AreImagesOf, CompileNeedsMemory}
-use Rattle.zic_bulk.specs.code.Zones.{AreImagesWithin, HaveImagesWithin, IsFaultWithin, MayWantWithin}
+use Rattle.zic_bulk.specs.code.Zones.{AreImagesWithin, HaveImagesWithin, IsFaultWithin, NeedsMemoryWithin}
 
 -- a member of two lists, one after the other, is one of the first or one of the second
 either : {X : Type 0} (xs ys : List X) (k : ℕ) (x : X) → slice_get (xs ++ ys) k ≡ Some x
@@ -73,17 +72,17 @@ fault_within source first number end images (stop.Fault fault) are below h =
 
 -- or that wants memory
 pub wants_within : (source : SourceLines) (first number end : ℕ) (images : List FileImage) → AreImagesWithin source first number images → number < end
-    → (HasOffsetOutOfRange (zone_of source number) → ⊥) → MayWantWithin source first end
-wants_within source first number end images are below in_range =
-    record { number = number; from = omega (arith, are.count); below = below; in_range = in_range; before = have_within source first number images are }
+    → ImageNeedsMemory (zone_of source number) → NeedsMemoryWithin source first end
+wants_within source first number end images are below wants =
+    record { number = number; from = omega (arith, are.count); below = below; wants = wants; before = have_within source first number images are }
 
 pub if_none_weaker : {F : Type 0} (o : Option F) (P Q : Type 0) → (P → Q) → IfNone o P → IfNone o Q
 if_none_weaker None P Q f p = f p
 if_none_weaker (Some x) P Q f p = tt
 
--- a zone that has an image has each offset in its range
-pub in_range : (source : SourceLines) (n : ℕ) (image : FileImage) → IsReadImage (zone_of source n) image → HasOffsetOutOfRange (zone_of source n) → ⊥
-in_range source n image is = is.image.sound kind.OffsetRange
+-- the image of a zone that has one may want memory
+pub wanted : (source : SourceLines) (n : ℕ) (image : FileImage) → IsReadImage (zone_of source n) image → ImageNeedsMemory (zone_of source n)
+wanted source n image is = record { in_range = is.image.sound kind.OffsetRange; fixed = λ _. (is.image.sound, (is.image.footer, is.image.is_made)) }
 
 -- the images of the whole range are those of all zones
 pub all_images : (source : SourceLines) (end : ℕ) (images : List FileImage) → end ≡ length source.zones → AreImagesWithin source 0 end images → AreImagesOf source images
@@ -96,4 +95,4 @@ all_images source end images is_end are = record {
 pub memory_after : (source : SourceLines) (images : List FileImage) → AreImagesOf source images → 0 < length source.zones → CompileNeedsMemory source
 memory_after source images are lt =
     let image = are.each 0 (get_or images 0 no_image) (slice_get-get_or images 0 no_image (omega (arith, are.count, lt))) in
-    record { number = 0; is_zone = lt; in_range = in_range source 0 (get_or images 0 no_image) image; before = λ m below. absurd (omega (arith, below)) }
+    record { number = 0; is_zone = lt; wants = wanted source 0 (get_or images 0 no_image) image; before = λ m below. absurd (omega (arith, below)) }

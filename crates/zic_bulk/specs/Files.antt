@@ -8,11 +8,10 @@ use Rattle.zic_base.specs.declared.place.Place.{Place}
 use Rattle.zic_lines.specs.declared.link.Link.{Link}
 use Rattle.zic_source.specs.Links.{EndsAt}
 use Rattle.zic_source.specs.Source.{SourceLines, zone_at}
-use Rattle.zic_states.specs.Fault.{HasOffsetOutOfRange}
 use Rattle.zic_states.specs.Zone.{Zone}
 use Rattle.zic_rules.specs.Period.{zone_of}
 use Rattle.zic_files.specs.File.{FileImage, File}
-use Rattle.zic_table.specs.Image.{IsImageOf, ReadsAs, IsFaultOfZone}
+use Rattle.zic_table.specs.Image.{IsImageOf, ReadsAs, IsFaultOfZone, ImageNeedsMemory}
 
 -- a zone's image, which, read by RFC 9636, gives at every instant what the zone's lines define
 pub record IsReadImage (zone : Zone) (of_zone : FileImage) : Type 0 where
@@ -73,10 +72,9 @@ pub record IsFaultOfFiles (source : SourceLines) (fault : Fault) : Type 0 where
   pub fault_of_zone : IsFaultOfZone (zone_of source number) fault
   pub before : HaveImagesBefore source number
 
--- Where memory may run out: at a zone with each offset in its range, before which each zone has an
--- image. The further faults of a zone are found by what takes memory.
+-- where memory may run out: at a zone whose image may need it, before which each zone has an image
 pub record CompileNeedsMemory (source : SourceLines) : Type 0 where
   pub number : ℕ
   pub is_zone : number < length source.zones
-  pub in_range : HasOffsetOutOfRange (zone_of source number) → ⊥
+  pub wants : ImageNeedsMemory (zone_of source number)
   pub before : HaveImagesBefore source number

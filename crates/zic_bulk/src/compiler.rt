@@ -18,7 +18,8 @@ use zic_source::{Source, Stop};
 /// # Errors
 ///
 /// The fault of the first zone in that order that has one. Memory runs out only at a zone before
-/// which each zone has an image, and in none of whose lines an offset is out of range.
+/// which each zone has an image, in none of whose lines an offset is out of range, and which has
+/// more than one line or a set, or no fault of its states and its footer.
 pub fn compile(alloc: Global, source: &Source) -> Result<Files, Stop>
     ensures ok { IfOk result (AreFilesOf source.now) }
     ensures err { IfRefusal fault_of result (IsFaultOfFiles source.now) }

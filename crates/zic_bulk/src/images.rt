@@ -3,7 +3,7 @@
 ghost use Rattle.std.specs.Prelude.{◌≤◌, length, IfOk};
 ghost use Rattle.zic_base.specs.Fault.{fault_of};
 ghost use Rattle.zic_base.specs.Memory.{IfRefusal, OnOutOfMemory};
-ghost use Rattle.zic_bulk.specs.code.Zones.{AreImagesWithin, IsFaultWithin, MayWantWithin};
+ghost use Rattle.zic_bulk.specs.code.Zones.{AreImagesWithin, IsFaultWithin, NeedsMemoryWithin};
 
 use std::alloc::Global;
 use zic_files::Image;
@@ -22,7 +22,7 @@ pub(crate) fn images_of(
     requires zones { end ≤ length source.now.zones }
     ensures ok { IfOk result (λ images. AreImagesWithin source.now first end images.items) }
     ensures err { IfRefusal fault_of result (IsFaultWithin source.now first end) }
-    ensures memory { OnOutOfMemory fault_of result (MayWantWithin source.now first end) }
+    ensures memory { OnOutOfMemory fault_of result (NeedsMemoryWithin source.now first end) }
 {
     let mut images = Vec::new(alloc);
     for zone in first..end {

@@ -72,7 +72,7 @@ impl<'a> Task for ZonePieces<'a> {
 
     ghost use Rattle.zic_pieces.specs.Task.{IsOutcome};
     ghost use Rattle.zic_bulk.specs.code.Pieces.{IsOutcomeOf, count_of, start_of};
-    ghost use Rattle.zic_bulk.specs.code.Zones.{MayWantWithin};
+    ghost use Rattle.zic_bulk.specs.code.Zones.{NeedsMemoryWithin};
 
     ghost count = { count_of };
 
@@ -82,13 +82,13 @@ impl<'a> Task for ZonePieces<'a> {
         self.source.zones().div_ceil(self.size) as u64
     }
 
-    /// Returns the images of the zones of a piece. Memory runs out only at a zone before which
-    /// each of the piece has an image, and in none of whose lines an offset is out of range.
+    /// Returns the images of the zones of a piece. Memory runs out only at a zone whose image may
+    /// want it, and before which each of the piece has an image.
     fn perform(&self, alloc: Global, i: u64) -> Result<Images, PieceStop<Fault>>
         requires { i < count_of self.now }
         ensures outcome { IsOutcome (IsOutcomeOf self.now i) result }
         ensures memory { result ≡ Err PieceStop.Memory
-            → MayWantWithin self.now.source (start_of self.now i) (start_of self.now (i + 1)) }
+            → NeedsMemoryWithin self.now.source (start_of self.now i) (start_of self.now (i + 1)) }
     {
         match images_of(alloc, self.source, self.start(i), self.start(i + 1)) {
             Ok(images) => Ok(Images { images }),

@@ -13,8 +13,8 @@ StaysNearYear =
     → (year_second o.year ≤ℤ (t +ℤ pos (21 * 86_400)))
     × (t <ℤ (year_second (o.year +ℤ pos 1) +ℤ pos (21 * 86_400)))
 
--- After the last year that a set names each of its rules that occurs does so in every year. 400 years are 146,097 days. From three
--- years later on instants and predecessors come again after them too, and after these three years the predecessors' instants.
+-- After the last year that a set names each of its rules that occurs does so in every year. 400 years are 146,097 days. From the
+-- third year after it on instants and predecessors come again after them too, and from the fourth on the predecessors' instants.
 pub record RepeatAfterLast : Type 0 where
   pub occurrences : (set : RuleSet) (last : ℕ) (o : Occurrence) (year : ℤ) → IsLastNamed set last → IsOccurrence set o
       → pos last <ℤ o.year → pos last <ℤ year → IsOccurrence set (record o { year = year })

@@ -7,9 +7,9 @@ pub fn instants_stay_near_year()
     ensures { StaysNearYear }
 {}
 
-/// States that after the last year that a set names its occurrences come again after 400 years, and
-/// from three years later on so do their instants, the occurrences before them, and the instants of
-/// these.
+/// States that after the last year that a set names its occurrences come again after 400 years. From
+/// the third year after it on so do their instants and predecessors, and from the fourth on the
+/// predecessors' instants.
 pub fn instants_repeat_after_last()
     ensures { RepeatAfterLast }
 {}

@@ -1,6 +1,6 @@
--- The events of the two words NEXT and FAULT, and what each pass knows after them. Three events
--- change the words: a draw, a report and a glance. Splitting and joining passes move what is known,
--- and change neither word.
+-- The events of the two words NEXT and FAULT, and what each pass knows after them. A draw
+-- adds 1 to NEXT, a report lowers FAULT, and a glance reads FAULT. Splitting and joining passes
+-- move what is known, and change neither word.
 use Rattle.std.specs.Prelude.{ℕ, ◌-◌, ◌+◌, false, ◌||◌, nat_le, min, [], ◌∷◌, ◌++◌}
 use Rattle.zic_pieces.specs.declared.event.Event.TheVariants.{Drew, Reported, Glanced}
 use Rattle.zic_pieces.specs.declared.event.Known.{Known}

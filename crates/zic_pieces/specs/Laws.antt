@@ -25,10 +25,10 @@ ReportsAreHeard =
     → IsSound all → HasEventsOf all (drew a p) → HasEventsOf all r → g ≤ i
 
 module _ {X F : Type 0} where
-  -- each piece comes to one value or one fault at most
-  abbrev pub HasOneOutcomeEach : (ℕ → Result X F → Type 0) → Type 0
-  HasOneOutcomeEach outcome =
-      (i : ℕ) (a b : Result X F) → outcome i a → outcome i b → a ≡ b
+  -- each of n pieces comes to one value or one fault at most
+  abbrev pub HasOneOutcomeEach : (ℕ → Result X F → Type 0) → ℕ → Type 0
+  HasOneOutcomeEach outcome n =
+      (i : ℕ) → i < n → (a b : Result X F) → outcome i a → outcome i b → a ≡ b
 
   -- what one thread answers that performs n pieces in order: the values of all, or the least faulty
   -- piece with its fault
@@ -37,8 +37,8 @@ module _ {X F : Type 0} where
   IsSequential outcome n (Err (Fault i f)) = IsStop outcome n (Fault i f)
   IsSequential outcome n (Err _) = ⊥
 
-  -- Where each piece comes to one thing at most, a task of n pieces has one sequential answer at most
-  abbrev pub HasOneAnswer : (ℕ → Result X F → Type 0) → ℕ → Type 0
-  HasOneAnswer outcome n =
-      HasOneOutcomeEach outcome → (a b : Result (List X) (TaskStop F))
+  -- where each piece has one outcome at most, a task of n pieces has one sequential answer at most
+  abbrev pub HasAtMostOneAnswer : (ℕ → Result X F → Type 0) → ℕ → Type 0
+  HasAtMostOneAnswer outcome n =
+      HasOneOutcomeEach outcome n → (a b : Result (List X) (TaskStop F))
       → IsSequential outcome n a → IsSequential outcome n b → a ≡ b

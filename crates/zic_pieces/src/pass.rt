@@ -12,7 +12,8 @@ use std::marker::Model;
 /// remembers what they did.
 ///
 /// Contracts see whose it is and what it knows: its events in order, the least number that it has
-/// seen, its room and whether it has ended.
+/// seen, its room and whether it has ended. Every pass is sound at every moment, as [`Pass::room`]
+/// promises (`sound`).
 #[derive(Drop)]
 pub struct Pass {
     pub(crate) seat: Seat<(), Known>,

@@ -1,16 +1,20 @@
 -- The rules that go on for ever among the rules of a line's set.
 use Rattle.std.proofs.Common.{append-nil, not, ◌≡◌, ◌<◌, ◌+◌, ◌⊎◌, inl, inr, ⊎_elim, ℕ, zero, suc, Bool, true, false, cond, List, [], ◌∷◌, ◌++◌, length, take, get_or, Option, Some, None, refl, sym, ap, subst, ◌∙◌, arith}
-use Rattle.std.specs.Prelude.{slice_get, is_none}
+use Rattle.std.specs.Prelude.{slice_get, is_none, IsSomeAnd}
 use Rattle.std.proofs.lemmas.Option.{same_Some, slice_get_within}
 use Rattle.std.proofs.lemmas.List.Elements.{filter_more}
 use Rattle.zic_lines.specs.declared.rule.Rule.{Rule}
 use Rattle.zic_lines.specs.declared.rules.Rules.{Rules}
 use Rattle.zic_lines.specs.declared.rules.Rules.TheVariants.{Standard, Amount, Set}
 use Rattle.zic_lines.specs.declared.zone_line.ZoneLine.{ZoneLine}
+use Rattle.zic_base.specs.Option.{◌>>=◌}
+use Rattle.zic_source.specs.Source.{ZoneLines, lines_of_zone}
 use Rattle.zic_occurrences.specs.Occurrence.{IsMember}
 use Rattle.zic_occurrences.proofs.Members.{member_at, member_within}
-use Rattle.zic_states.specs.Tail.{IsContinuing}
+use Rattle.zic_states.specs.Tail.{IsContinuing, HasNoSet}
 use Rattle.zic_states.specs.Until.{set_of}
+use Rattle.zic_states.specs.Zone.{Zone, lines_of, line_at}
+use Rattle.zic_rules.specs.Period.{IsFixed}
 use Rattle.zic_rules.specs.Tail.{IsTailRule, AreTailRules}
 use Rattle.zic_rules.specs.declared.tail.TailRule.{TailRule}
 use Rattle.zic_rules.specs.code.Tail.{numbers_of, goes_on, continuing}
@@ -99,3 +103,21 @@ module _ (rules : List Rule) (line : ZoneLine) where
         → AreTailRules rules line (continuing rules (take i numbers)) tails → AreTailRules rules line (continuing rules (take (i + 1) numbers)) tails
     kept_same tails ends so_far =
         subst (λ (ns : List ℕ). AreTailRules rules line ns tails) (sym (continuing_more false ends ∙ append-nil (continuing rules (take i numbers)))) so_far
+
+-- ---- a zone of one line without a set
+
+alone : (first : ZoneLine) (rest : List ZoneLine) (i : ℕ) (line : ZoneLine) → rest ≡ [] → HasNoSet first.rules → slice_get (first ∷ rest) i ≡ Some line → HasNoSet line.rules
+alone first rest zero line none fixed at = subst (λ (l : ZoneLine). HasNoSet l.rules) (same_Some first line at) fixed
+alone first rest (suc i) line none fixed at =
+    let within = slice_get_within (first ∷ rest) (suc i) line at in
+    let len = ap (λ (ls : List ZoneLine). length ls) none in
+    absurd (omega (arith, within, len))
+
+of_lines : (lines : Option ZoneLines) (i : ℕ) (line : ZoneLine) → IsSomeAnd lines (λ l. (l.continuations ≡ []) × HasNoSet l.first.rules)
+    → lines >>= (λ l. slice_get (lines_of_zone l) i) ≡ Some line → HasNoSet line.rules
+of_lines None i line fixed at = absurd fixed
+of_lines (Some l) i line fixed at = alone l.first l.continuations i line fixed.0 fixed.1 at
+
+-- its line has none
+pub fixed_line : (zone : Zone) (number : ℕ) (line : ZoneLine) (name : List ℕ) → line_at zone number ≡ Some line → line.rules ≡ Set name → IsFixed zone → ⊥
+fixed_line zone number line name at has fixed = subst HasNoSet has (of_lines (lines_of zone) number line fixed at)

@@ -11,7 +11,6 @@ use Rattle.std.proofs.Math.Bool.{beq}
 use Rattle.std.proofs.lemmas.Bool.Decides.{Decides-int_eq}
 use Rattle.zic_source.proofs.SameBytes.{bytes_eq_means, bytes_eq_itself}
 use Rattle.zic_lines.specs.declared.zone_line.ZoneLine.{ZoneLine}
-use Rattle.zic_source.specs.Source.{ZoneLines, zone_at, lines_of_zone}
 use Rattle.zic_states.specs.Abbreviation.{abbreviation}
 use Rattle.zic_words.specs.Limits.{is_abbreviation}
 use Rattle.zic_rules.specs.declared.changes.DatedState.{DatedState}
@@ -20,7 +19,6 @@ use Rattle.zic_states.specs.Change.{Change}
 use Rattle.zic_states.specs.Kept.{Kept, IsKeptBy}
 use Rattle.zic_base.specs.State.{Shown}
 use Rattle.zic_states.specs.Zone.{Zone, line_at, ZoneKeeps}
-use Rattle.zic_states.proofs.Lines.{line_at_is}
 use Rattle.zic_rules.specs.declared.period.Period.{Period}
 use Rattle.zic_rules.specs.declared.period.Periods.{Periods}
 use Rattle.zic_rules.specs.Period.{ArePeriods, Holds}

@@ -1,5 +1,5 @@
 -- The window at the start of a line.
-use Rattle.std.proofs.Common.{◌≡◌, ℕ, zero, suc, ◌-◌, ◌<◌, List, [], ◌∷◌, length, to_z, of_z, w64, FitsSigned, Option, Some, None, All, sym, ap, subst, ◌∙◌, arith, ℤ, pos, ◌+ℤ◌, ◌-ℤ◌, ◌<ℤ◌, ◌≤ℤ◌}
+use Rattle.std.proofs.Common.{◌≡◌, ℕ, zero, suc, ◌-◌, List, [], ◌∷◌, length, to_z, of_z, w64, FitsSigned, Option, Some, None, All, sym, ap, subst, ◌∙◌, arith, ℤ, pos, ◌+ℤ◌, ◌-ℤ◌, ◌<ℤ◌, ◌≤ℤ◌}
 use Rattle.std.specs.Prelude.{IfSome, slice_get}
 use Rattle.std.specs.Int.{int_max}
 use Rattle.std.proofs.lemmas.Int.{ints}
@@ -9,13 +9,11 @@ use Rattle.zic_lines.specs.declared.rules.Rules.{Rules}
 use Rattle.zic_lines.specs.declared.rules.Rules.TheVariants.{Standard, Amount, Set}
 use Rattle.zic_lines.specs.declared.zone_line.ZoneLine.{ZoneLine}
 use Rattle.zic_source.specs.Sound.{IsSoundRule, AreSoundRules, IsWithinDay}
-use Rattle.zic_source.specs.Source.{ZoneLines, zone_at, lines_of_zone}
-use Rattle.zic_base.proofs.Elements.{all_got, got}
+use Rattle.zic_base.proofs.Elements.{all_got}
 use Rattle.zic_occurrences.specs.declared.occurrence.TimedOccurrence.{TimedOccurrence}
 use Rattle.zic_states.specs.ByList.{rule_at}
 use Rattle.zic_states.specs.Kept.{Kept, IsKeptBy, IsRuleOf}
 use Rattle.zic_states.specs.Zone.{Zone, line_at, Ends, IsWindowEnd, Keeps}
-use Rattle.zic_states.proofs.Lines.{line_at_is}
 use Rattle.zic_rules.specs.declared.period.Period.{Period}
 use Rattle.zic_rules.specs.Period.{Holds}
 use Rattle.zic_rules.specs.code.Held.{HeldTo, AreSoFar, last_rule}

@@ -1,8 +1,8 @@
 //! The changes of a zone, by its periods.
 
-ghost use Rattle.std.specs.Prelude.{◌≡◌, ◌<◌, None, true, false, map, IfOk, IfErr, IfSome};
+ghost use Rattle.std.specs.Prelude.{◌≡◌, ◌<◌, None, true, false, map, IfOk, IfErr, IfSome, IfNone, []};
 ghost use Rattle.zic_base.specs.Fault.{fault_of};
-ghost use Rattle.zic_base.specs.Memory.{IfRefusal};
+ghost use Rattle.zic_base.specs.Memory.{IfRefusal, OnOutOfMemory};
 ghost use Rattle.zic_words.specs.Limits.{is_abbreviation};
 ghost use Rattle.zic_states.specs.Fault.{HasOffsetOutOfRange, IsFaultOfStates, HasNoLetter};
 ghost use Rattle.zic_base.specs.State.{Shown};
@@ -49,6 +49,7 @@ pub(crate) fn changes_of(
         (λ cs. AreSoFrom (ShowsNamed (the_zone zone.entry)) all.now.end None
         (shown_by first.now) (map dated cs.items)) }
     ensures err { IfRefusal fault_of result (IsFaultOfStates (the_zone zone.entry)) }
+    ensures memory { OnOutOfMemory fault_of result (all.now.list.items ≡ [] → ⊥) }
 {
     // A list that grows as needed can come to hold room for twice its items.
     let mut changes = Vec::with_capacity(alloc, all.list.len())?;
@@ -75,7 +76,8 @@ pub(crate) fn changes_of(
 pub(crate) fn refusal(zone: Zone<'_>, all: &Periods, kind: Kind) -> Stop
     requires periods { HasPeriods (the_zone zone) all.now }
     requires unnamed { IsUnnamed (the_zone zone) kind }
-    ensures { IfSome (fault_of result) (IsFaultOfStates (the_zone zone.entry)) }
+    ensures err { IfSome (fault_of result) (IsFaultOfStates (the_zone zone.entry)) }
+    ensures fault { IfNone (fault_of result) ⊥ }
 {
     let place = zone.place();
     if lacks_letter(zone, all) {

@@ -1,11 +1,11 @@
 //! The timeline of a zone, by its periods.
 
-ghost use Rattle.std.specs.Prelude.{◌≡◌, ◌<◌, None, true, IfOk, length};
+ghost use Rattle.std.specs.Prelude.{◌≡◌, ◌<◌, None, true, IfOk, length, []};
 ghost use Rattle.zic_base.specs.Fault.{fault_of};
 ghost use Rattle.zic_base.specs.Memory.{IfRefusal, OnOutOfMemory};
 ghost use Rattle.zic_states.specs.Fault.{HasOffsetOutOfRange, IsSound, IsFaultOfStates};
 ghost use Rattle.zic_words.specs.Limits.{is_abbreviation};
-ghost use Rattle.zic_rules.specs.Period.{zone_of, the_zone};
+ghost use Rattle.zic_rules.specs.Period.{zone_of, the_zone, IsFixed};
 ghost use Rattle.zic_rules.specs.code.Shown.{HasPeriods, ShowsWhereHeld, shown_by};
 
 use crate::changes::{changes_of, refusal, state_at};
@@ -27,7 +27,8 @@ use zic_source::{MAX_RULES, Source};
 /// standard offset together with a saving of its RULES passes 24 hours; `RulesOutOfOrder` where a
 /// line's set is out of order in any year; `UntilNotRising` where an UNTIL isn't after that of the
 /// line before it; `NoLetter` where at some instant FORMAT wants a letter and there is none;
-/// `BadAbbreviation` where at some instant the zone shows what is no abbreviation.
+/// `BadAbbreviation` where at some instant the zone shows what is no abbreviation. `OffsetRange`,
+/// and a zone of one line without a set, take no memory.
 pub fn timeline<'a>(alloc: Global, source: &'a Source, zone: usize) -> Result<Timeline<'a>, Stop>
     requires { zone < length source.now.zones }
     ensures ok { IfOk result (λ t. t ≡ zone_of source.now zone) }
@@ -35,6 +36,7 @@ pub fn timeline<'a>(alloc: Global, source: &'a Source, zone: usize) -> Result<Ti
     ensures err { IfRefusal fault_of result (IsFaultOfStates (zone_of source.now zone)) }
     ensures memory { OnOutOfMemory fault_of result
         (HasOffsetOutOfRange (zone_of source.now zone) → ⊥) }
+    ensures fixed { OnOutOfMemory fault_of result (IsFixed (zone_of source.now zone) → ⊥) }
 {
     let zone = Zone {
         source,
@@ -54,6 +56,8 @@ fn timeline_of<'a>(alloc: Global, zone: Zone<'a>, all: &Periods) -> Result<Timel
     ensures ok { IfOk result (λ t. t ≡ the_zone zone.entry) }
     ensures sound { IfOk result IsSound }
     ensures err { IfRefusal fault_of result (IsFaultOfStates (the_zone zone.entry)) }
+    ensures memory { OnOutOfMemory fault_of result
+        (IsFixed (the_zone zone.entry) → all.now.list.items ≡ [] → ⊥) }
 {
     let first = first_of(zone, all)?;
     let changes = changes_of(alloc, zone, all, &first)?;
@@ -67,6 +71,7 @@ fn first_of(zone: Zone<'_>, all: &Periods) -> Result<ZoneState, Stop>
     ensures shows { IfOk result (λ s. ShowsWhereHeld (the_zone zone.entry) 0 None (shown_by s)) }
     ensures within { IfOk result (λ s. is_abbreviation s.name ≡ true) }
     ensures err { IfRefusal fault_of result (IsFaultOfStates (the_zone zone.entry)) }
+    ensures memory { OnOutOfMemory fault_of result ⊥ }
 {
     match state_at(zone, 0, None) {
         Ok(first) => Ok(first),

@@ -32,6 +32,8 @@ pub(crate) fn add_periods(
     requires rising { AreRising occurrences.now }
     requires line { IsLineTo (the_zone zone) number start end (before occurrences.now end) }
     ensures held { IfOk result (λ _. HeldTo (the_zone zone.entry) number end periods.new.items) }
+    ensures none { IfOk result
+        (λ _. start ≡ None → occurrences.now ≡ [] → periods.new.items ≡ periods.old.items) }
     ensures memory { IfErr result (λ _. start ≡ None → occurrences.now ≡ [] → ⊥) }
 {
     let line_number = number as u16;

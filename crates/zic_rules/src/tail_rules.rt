@@ -2,10 +2,10 @@
 
 ghost use Rattle.std.specs.Prelude.{◌≡◌, ◌<◌, ◌≤◌, ◌+ℤ◌, IfOk, IfErr, length, unsigned_abs};
 ghost use Rattle.zic_base.specs.Fault.{fault_of};
-ghost use Rattle.zic_base.specs.Memory.{IfRefusal};
+ghost use Rattle.zic_base.specs.Memory.{IfRefusal, OnOutOfMemory};
 ghost use Rattle.zic_source.specs.Sound.{IsSoundSource, IsSoundLine};
 ghost use Rattle.zic_states.specs.Fault.{IsFaultOfStates};
-ghost use Rattle.zic_rules.specs.Period.{the_zone};
+ghost use Rattle.zic_rules.specs.Period.{the_zone, IsFixed};
 ghost use Rattle.zic_words.specs.declared.time.TheConstants.{GREATEST_OFFSET};
 ghost use Rattle.zic_rules.specs.Tail.{IsTailRule};
 ghost use Rattle.zic_rules.specs.code.Shown.{HasPeriods};
@@ -30,6 +30,7 @@ pub(crate) fn tail_rules(
     requires periods { HasPeriods (the_zone zone) all.now }
     ensures ok { IfOk result (λ rules. HasTailRules (the_zone zone.entry) rules.items) }
     ensures err { IfRefusal fault_of result (IsFaultOfStates (the_zone zone.entry)) }
+    ensures memory { OnOutOfMemory fault_of result (IsFixed (the_zone zone.entry) → ⊥) }
 {
     let line = last_line(zone);
     let mut rules = Vec::new(alloc);

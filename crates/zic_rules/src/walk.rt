@@ -1,6 +1,6 @@
 //! The walk through the lines of a zone.
 
-ghost use Rattle.std.specs.Prelude.{◌≡◌, ◌+◌, suc, Some, IfOk, IfSome, length};
+ghost use Rattle.std.specs.Prelude.{◌≡◌, ◌+◌, suc, Some, IfOk, IfSome, length, []};
 ghost use Rattle.std.specs.Option.{ForSome};
 ghost use Rattle.zic_base.specs.Fault.{fault_of};
 ghost use Rattle.zic_base.specs.Memory.{IfRefusal, OnOutOfMemory};
@@ -28,13 +28,14 @@ use zic_states::until_instant;
 ///
 /// `RulesOutOfOrder` where the set of one of its lines is out of order in any year, and else
 /// `UntilNotRising` where an UNTIL isn't after that of the line before it, both at the Zone line. A
-/// zone of one line without a set takes no memory.
+/// zone of one line without a set has no period, and takes no memory.
 pub fn periods(alloc: Global, zone: Zone<'_>) -> Result<Periods, Stop>
     ensures order { IfOk result (λ _. HasRulesOutOfOrder (the_zone zone.entry) → ⊥) }
     ensures untils { IfOk result (λ _. HasUntilNotRising (the_zone zone.entry) → ⊥) }
     ensures end { IfOk result (λ s. IsEnd (the_zone zone.entry) s.end) }
     ensures all { IfOk result (λ s. ArePeriods (the_zone zone.entry) s.end s.list.items) }
     ensures err { IfRefusal fault_of result (IsFaultOfPeriods (the_zone zone.entry)) }
+    ensures fixed { IfOk result (λ s. IsFixed (the_zone zone.entry) → s.list.items ≡ []) }
     ensures memory { OnOutOfMemory fault_of result (IsFixed (the_zone zone.entry) → ⊥) }
 {
     prove!(zone.number < zone.source.zones());
@@ -97,6 +98,8 @@ fn add_last(
     ensures years { IfOk result (IsInYears 9900) }
     ensures held { IfOk result (λ end. HeldTo (the_zone zone.entry) number end periods.new.items) }
     ensures err { IfRefusal fault_of result (IsFaultOfPeriods (the_zone zone.entry)) }
+    ensures fixed { IfOk result
+        (λ _. IsFixed (the_zone zone.entry) → periods.new.items ≡ periods.old.items) }
     ensures memory { OnOutOfMemory fault_of result (IsFixed (the_zone zone.entry) → ⊥) }
 {
     let line = zone.line(number);

@@ -15,3 +15,4 @@ pub mod OneImage
 pub mod OneFault
 pub mod Images
 pub mod Faults
+pub mod Wants

@@ -3,10 +3,11 @@ use Rattle.std.specs.Prelude.{◌≡◌, ℤ, ◌↔◌, ◌⊎◌, IsSomeAnd}
 use Rattle.zic_base.specs.State.{Shown}
 use Rattle.zic_base.specs.declared.fault.Fault.{Fault}
 use Rattle.zic_base.specs.declared.place.Place.{Place}
-use Rattle.zic_states.specs.Fault.{IsFaultOfStates, IsSound}
+use Rattle.zic_states.specs.Fault.{HasOffsetOutOfRange, IsFaultOfStates, IsSound}
 use Rattle.zic_states.specs.Zone.{Zone, Shows, lines_of}
 use Rattle.zic_posix.specs.Footer.{TzString}
 use Rattle.zic_footer.specs.Making.{IsMade, IsFaultOfFooter}
+use Rattle.zic_rules.specs.Period.{IsFixed}
 use Rattle.zic_files.specs.File.{FileImage}
 use Rattle.zic_table.specs.ContentOf.{IsContentOf, IsFaultOfTable}
 use Rattle.zic_tzif.specs.Answer.{Gives}
@@ -40,3 +41,9 @@ abbrev pub IsFaultOfZone : Zone → Fault → Type 0
 IsFaultOfZone zone fault =
     IsFaultOfStates zone fault
     ⊎ (IsSound zone × IsSomeAnd (lines_of zone) (λ lines. IsFaultOfImage zone lines.first.place fault))
+
+-- Where the image of a zone may need memory: each offset is in its range, and a zone of one line without a set has no fault of its
+-- states and has a footer. Those faults are found without memory.
+pub record ImageNeedsMemory (zone : Zone) : Type 0 where
+  pub in_range : HasOffsetOutOfRange zone → ⊥
+  pub fixed : IsFixed zone → IsSound zone × ((footer : TzString) × IsMade zone footer)

@@ -3,10 +3,9 @@
 ghost use Rattle.std.specs.Prelude.{◌<◌, length, IfOk};
 ghost use Rattle.zic_base.specs.Fault.{fault_of};
 ghost use Rattle.zic_base.specs.Memory.{IfRefusal, OnOutOfMemory};
-ghost use Rattle.zic_states.specs.Fault.{HasOffsetOutOfRange};
 ghost use Rattle.zic_rules.specs.Period.{zone_of};
 ghost use Rattle.zic_tzif.specs.Reading.{IsFile, IsSomeFile};
-ghost use Rattle.zic_table.specs.Image.{IsImageOf, ReadsAs, IsFaultOfZone};
+ghost use Rattle.zic_table.specs.Image.{IsImageOf, ReadsAs, IsFaultOfZone, ImageNeedsMemory};
 
 use crate::maker::table;
 use std::alloc::{AllocError, Global};
@@ -22,14 +21,14 @@ use zic_tzif::{ReadStop, Zone, read, write};
 /// give at every instant what the zone's lines define.
 ///
 /// Returns the fault of the zone's states, else of its footer, else of its table, at the place of
-/// its Zone line, and `Memory` only for a zone in none of whose lines an offset is out of range.
+/// its Zone line, and `Memory` only for a zone in none of whose lines an offset is out of range. A
+/// zone of one line without a set whose states or footer have a fault takes no memory.
 pub fn image_of(alloc: Global, source: &Source, zone: usize) -> Result<Image, Stop>
     requires { zone < length source.now.zones }
     ensures ok { IfOk result (IsImageOf (zone_of source.now zone)) }
     ensures reads { IfOk result (ReadsAs (zone_of source.now zone)) }
     ensures err { IfRefusal fault_of result (IsFaultOfZone (zone_of source.now zone)) }
-    ensures memory { OnOutOfMemory fault_of result
-        (HasOffsetOutOfRange (zone_of source.now zone) → ⊥) }
+    ensures memory { OnOutOfMemory fault_of result (ImageNeedsMemory (zone_of source.now zone)) }
 {
     // `zones` also tells that the source is sound.
     prove!(zone < source.zones());

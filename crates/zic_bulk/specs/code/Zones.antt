@@ -2,10 +2,9 @@
 use Rattle.std.specs.Prelude.{◌≡◌, ◌+◌, ◌≤◌, ◌<◌, ℕ, List, length, Some, slice_get}
 use Rattle.zic_base.specs.declared.fault.Fault.{Fault}
 use Rattle.zic_source.specs.Source.{SourceLines}
-use Rattle.zic_states.specs.Fault.{HasOffsetOutOfRange}
 use Rattle.zic_rules.specs.Period.{zone_of}
 use Rattle.zic_files.specs.File.{FileImage}
-use Rattle.zic_table.specs.Image.{IsImageOf, IsFaultOfZone}
+use Rattle.zic_table.specs.Image.{IsImageOf, IsFaultOfZone, ImageNeedsMemory}
 use Rattle.zic_bulk.specs.Files.{IsReadImage}
 
 -- their images, in order
@@ -28,11 +27,10 @@ pub record IsFaultWithin (source : SourceLines) (first end : ℕ) (fault : Fault
   pub fault_of_zone : IsFaultOfZone (zone_of source number) fault
   pub before : HaveImagesWithin source first number
 
--- where memory may run out: at one of them with each offset in its range, before which each has an
--- image
-pub record MayWantWithin (source : SourceLines) (first end : ℕ) : Type 0 where
+-- where memory may run out: at one of them whose image may need it, before which each has an image
+pub record NeedsMemoryWithin (source : SourceLines) (first end : ℕ) : Type 0 where
   pub number : ℕ
   pub from : first ≤ number
   pub below : number < end
-  pub in_range : HasOffsetOutOfRange (zone_of source number) → ⊥
+  pub wants : ImageNeedsMemory (zone_of source number)
   pub before : HaveImagesWithin source first number

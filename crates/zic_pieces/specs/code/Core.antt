@@ -38,7 +38,7 @@ pub record Stands (n next fault : ℕ) (v : Known) : Type 0 where
   pub drawn : past v.events ≤ next
   pub over : v.ended ≡ true → n ≤ next
 
--- the core is so at every moment, after any events of any passes
+-- what holds at every moment, after any events of any passes
 pub record IsCore (n next fault : ℕ) (passes : List Known) : Type 0 where
   -- the passes stand for 1,024
   pub parts : total (λ v. v.parts) passes ≡ 1024

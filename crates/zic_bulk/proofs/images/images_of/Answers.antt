@@ -2,11 +2,11 @@ use Rattle.std.proofs.Common.{arith, rules}
 use Rattle.std.proofs.lemmas.Result.{err_from_is_err_and}
 use Rattle.zic_base.specs.Fault.{fault_of}
 use Rattle.zic_base.proofs.MemoryLemmas.{on_want}
-use Rattle.zic_states.specs.Fault.{HasOffsetOutOfRange}
 use Rattle.zic_rules.specs.Period.{zone_of}
+use Rattle.zic_table.specs.Image.{ImageNeedsMemory}
 use Rattle.zic_bulk.specs.Files.{IsReadImage}
-use Rattle.zic_bulk.specs.code.Zones.{MayWantWithin}
-use Rattle.zic_bulk.proofs.Zones.{none_within, one_more, fault_within, wants_within, if_none_weaker, in_range}
+use Rattle.zic_bulk.specs.code.Zones.{NeedsMemoryWithin}
+use Rattle.zic_bulk.proofs.Zones.{none_within, one_more, fault_within, wants_within, if_none_weaker, wanted}
 use Rattle.zic_bulk.proofs.images.images_of.Goals as goal
 
 pub returns-in_err-image-clause-err : goal.returns-in_err-image-clause-err
@@ -20,7 +20,7 @@ returns-in_err-image-clause-memory c =
     let source = c.args.source.now in
     let zone = c.loop-zone.zone in
     let wants = wants_within source c.args.first zone c.args.end c.loop-zone.images.items c.loop-zone.invariant (omega arith) in
-    let by = if_none_weaker (fault_of c.in_err-image.field-0.0) (HasOffsetOutOfRange (zone_of source zone) → ⊥) (MayWantWithin source c.args.first c.args.end) wants c.in_err-image.ensures.memory in
+    let by = if_none_weaker (fault_of c.in_err-image.field-0.0) (ImageNeedsMemory (zone_of source zone)) (NeedsMemoryWithin source c.args.first c.args.end) wants c.in_err-image.ensures.memory in
     search (rules, by, c.from_residual.ensures)
 
 pub returns-in_err-push-clause-memory : goal.returns-in_err-push-clause-memory
@@ -29,8 +29,8 @@ returns-in_err-push-clause-memory c =
     let zone = c.loop-zone.zone in
     let image = c.in_ok-image.image in
     let is : IsReadImage (zone_of source zone) image = record { image = c.in_ok-image.ensures.ok; reads = c.in_ok-image.ensures.reads } in
-    on_want fault_of c.from_residual-in_err-push.result (MayWantWithin source c.args.first c.args.end)
-    (wants_within source c.args.first zone c.args.end c.loop-zone.images.items c.loop-zone.invariant (omega arith) (in_range source zone image is))
+    on_want fault_of c.from_residual-in_err-push.result (NeedsMemoryWithin source c.args.first c.args.end)
+    (wants_within source c.args.first zone c.args.end c.loop-zone.images.items c.loop-zone.invariant (omega arith) (wanted source zone image is))
 
 pub loop-zone-init : goal.loop-zone-init
 loop-zone-init c = rw c.new-images.ensures.items (none_within c.args.source.now c.args.first)

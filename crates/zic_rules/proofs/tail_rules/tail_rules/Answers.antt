@@ -1,8 +1,10 @@
 use Rattle.std.proofs.Common.{◌≡◌, ◌∙◌, true, slice_index_or}
 use Rattle.std.specs.Prelude.{is_some, is_none}
-use Rattle.zic_rules.specs.Period.{the_zone}
+use Rattle.zic_base.specs.Fault.{fault_of}
+use Rattle.zic_base.proofs.MemoryLemmas.{on_want}
+use Rattle.zic_rules.specs.Period.{the_zone, IsFixed}
 use Rattle.zic_rules.proofs.TailHeld.{offset_within, unnamed_for_ever}
-use Rattle.zic_rules.proofs.TailRules.{number_within, of_set, never_ends, none_is, kept_more, kept_same}
+use Rattle.zic_rules.proofs.TailRules.{fixed_line, number_within, of_set, never_ends, none_is, kept_more, kept_same}
 use Rattle.zic_rules.proofs.tail_rules.tail_rules.Goals as goal
 use Rattle.zic_rules.proofs.tail_rules.tail_rules.Goals.{then-is_none+in-Ok+in_ok-push-in-Ok, else-is_none}
 
@@ -36,6 +38,15 @@ refusal-requires-clause-unnamed c =
     let none : is_none rule.last ≡ true = none_is (is_some rule.last) c.is_none.result c.is_none.ensures ∙ c.if-is_none.true in
     unnamed_for_ever zone known.orderly number line last c.args.all.now.end known.is_end name has_set (slice_index_or numbers i 0) rule member
     (never_ends rule none) c.in-Err.kind c.in-Err.ensures.err
+
+pub returns-in_err-push-in-Ok-clause-memory : goal.returns-in_err-push-in-Ok-clause-memory
+returns-in_err-push-in-Ok-clause-memory c =
+    let numbers = c.rule_numbers-number-items.result.now in
+    let i = c.loop-number.number-index in
+    let line = c.last_line-line.result.now in
+    let (number, last) = c.last_line-line.ensures.last in
+    let (name, has_set, member) = of_set c.args.zone.source.now.rules line.rules numbers i c.rule-rule.result.now c.rule_numbers-number-items.ensures c.loop-number-test.true c.rule-rule.ensures.rule in
+    on_want fault_of c.from_residual.result (IsFixed (the_zone c.args.zone) → ⊥) (fixed_line (the_zone c.args.zone) number line name last.is_line has_set)
 
 pub loop-number-preserved : goal.loop-number-preserved
 loop-number-preserved c =

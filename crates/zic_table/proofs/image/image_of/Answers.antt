@@ -1,10 +1,8 @@
 use Rattle.std.proofs.Common.{ℕ, ◌<◌, List, length, inl, inr, sym, subst, rules}
 use Rattle.std.proofs.lemmas.Option.{IfSome_then}
 use Rattle.zic_base.specs.Fault.{fault_of}
-use Rattle.zic_base.specs.declared.fault.Kind.TheVariants as kind
 use Rattle.zic_base.proofs.MemoryLemmas.{on_want}
 use Rattle.zic_source.specs.Sound.{IsSoundSource}
-use Rattle.zic_states.specs.Fault.{HasOffsetOutOfRange}
 use Rattle.zic_states.specs.Zone.{Zone}
 use Rattle.zic_rules.specs.Period.{zone_of}
 use Rattle.zic_tzif.specs.Reading.{IsFile}
@@ -12,13 +10,24 @@ use Rattle.zic_table.specs.Image.{IsImageOf, ReadsAs}
 use Rattle.zic_table.proofs.Faults.{fault_of_image}
 use Rattle.zic_table.proofs.Images.{also_read}
 use Rattle.zic_table.proofs.Instants.{gives_shows}
+use Rattle.zic_table.proofs.Wants.{may_want, at_states, never}
 use Rattle.zic_table.proofs.image.image_of.Goals as goal
+
+pub returns-in_err-states-clause-memory : goal.returns-in_err-states-clause-memory
+returns-in_err-states-clause-memory c =
+    let by = at_states (fault_of c.in_err-states.field-0.0) (zone_of c.args.source.now c.args.zone) c.in_err-states.ensures.memory c.in_err-states.ensures.fixed in
+    search (rules, by, c.from_residual.ensures)
 
 pub returns-in_err-footer-clause-err : goal.returns-in_err-footer-clause-err
 returns-in_err-footer-clause-err c =
     let by = IfSome_then (fault_of c.in_err-footer.field-0.0) c.in_err-footer.ensures.err (λ fault is.
     fault_of_image c.args.source.now c.args.zone c.line.result.now c.requires c.line.ensures.line
     c.in_ok-states.states c.in_ok-states.ensures.ok c.in_ok-states.ensures.sound fault (inl is)) in
+    search (rules, by, c.from_residual-in_err-footer.ensures)
+
+pub returns-in_err-footer-clause-memory : goal.returns-in_err-footer-clause-memory
+returns-in_err-footer-clause-memory c =
+    let by = never (fault_of c.in_err-footer.field-0.0) (zone_of c.args.source.now c.args.zone) c.in_err-footer.ensures.memory in
     search (rules, by, c.from_residual-in_err-footer.ensures)
 
 pub returns-in_err-table-clause-err : goal.returns-in_err-table-clause-err
@@ -31,17 +40,17 @@ returns-in_err-table-clause-err c =
 pub returns-in_err-table-clause-memory : goal.returns-in_err-table-clause-memory
 returns-in_err-table-clause-memory c =
     on_want fault_of c.from_residual-in_err-table.result _
-    (subst (λ (zone : Zone). HasOffsetOutOfRange zone → ⊥) c.in_ok-states.ensures.ok (c.in_ok-states.ensures.sound kind.OffsetRange))
+    (may_want c.in_ok-states.states (zone_of c.args.source.now c.args.zone) c.in_ok-states.ensures.ok c.in_ok-states.ensures.sound c.in_ok-footer.footer c.in_ok-footer.ensures.made)
 
 pub returns-in_err-octets-clause-memory : goal.returns-in_err-octets-clause-memory
 returns-in_err-octets-clause-memory c =
     on_want fault_of c.from_residual-in_err-octets.result _
-    (subst (λ (zone : Zone). HasOffsetOutOfRange zone → ⊥) c.in_ok-states.ensures.ok (c.in_ok-states.ensures.sound kind.OffsetRange))
+    (may_want c.in_ok-states.states (zone_of c.args.source.now c.args.zone) c.in_ok-states.ensures.ok c.in_ok-states.ensures.sound c.in_ok-footer.footer c.in_ok-footer.ensures.made)
 
 pub returns-in_err-zone-clause-memory : goal.returns-in_err-zone-clause-memory
 returns-in_err-zone-clause-memory c =
     on_want fault_of c.from_residual-in_err-zone.result _
-    (subst (λ (zone : Zone). HasOffsetOutOfRange zone → ⊥) c.in_ok-states.ensures.ok (c.in_ok-states.ensures.sound kind.OffsetRange))
+    (may_want c.in_ok-states.states (zone_of c.args.source.now c.args.zone) c.in_ok-states.ensures.ok c.in_ok-states.ensures.sound c.in_ok-footer.footer c.in_ok-footer.ensures.made)
 
 pub returns-clause-ok : goal.returns-clause-ok
 returns-clause-ok c =
