@@ -1,7 +1,10 @@
-//! Tests of what the program is built on: the files of sources, columns converted with them, and
-//! the commands. They are a separate crate, because a crate with tests is proved twice.
+//! Tests of what the program is built on: claims of pieces, the files of sources, columns converted
+//! with them, and the commands. They are a separate crate, because a crate with tests is proved
+//! twice.
 #![tactic(auto)]
 
+#[cfg(test)]
+mod claims;
 #[cfg(test)]
 mod columns;
 #[cfg(test)]
