@@ -4,7 +4,8 @@ use Rattle.std.proofs.lemmas.List.{append-nil, drop_at, length-append, length-ta
 use Rattle.std.specs.Io.KnownBytes.{prepend_known}
 use Rattle.zic_columns.specs.Column.{AreWholeRecords, column_records}
 use Rattle.zic_columns.specs.Cut.{AreCutAfter}
-use Rattle.zic_columns.specs.code.Hand.{AreSomeRecords, CanBeCut, PassesFirst, Takes}
+use Rattle.zic_columns.specs.Round.{PassesFirst}
+use Rattle.zic_columns.specs.code.Hand.{AreSomeRecords, CanBeCut, Takes}
 use Rattle.zic_columns.proofs.SomeRecords.{column_records-nil}
 
 abbrev Records : Type 0

@@ -35,10 +35,12 @@ abbrev pub TakesRound : {R : Type 0} → (R → Option (List ℕ)) → ColumnOf 
 TakesRound remaining old new =
     IfSome (unread remaining old) (λ bytes. (rest : List ℕ) × (unread remaining new ≡ Some rest) × TakesPieces bytes rest new.round)
 
--- The first record was passed over, where the bytes are known: the others are left.
+-- The first record was passed over, if there was one, where the bytes before and after are known: the others are left.
+abbrev pub PassesFirst : Option (List ℕ) → Option (List ℕ) → Type 0
+PassesFirst old new = IfSome old (λ bytes. (rest : List ℕ) × (new ≡ Some rest) × (column_records rest ≡ drop 1 (column_records bytes)))
+
 abbrev pub PassesRecord : {R : Type 0} → (R → Option (List ℕ)) → ColumnOf R → ColumnOf R → Type 0
-PassesRecord remaining old new =
-    IfSome (unread remaining old) (λ bytes. (rest : List ℕ) × (unread remaining new ≡ Some rest) × (column_records rest ≡ drop 1 (column_records bytes)))
+PassesRecord remaining old new = PassesFirst (unread remaining old) (unread remaining new)
 
 -- No record is left, where the bytes are known.
 abbrev pub HasNoRecord : Option (List ℕ) → Type 0

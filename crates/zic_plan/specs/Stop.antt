@@ -12,7 +12,7 @@ abbrev pub run_stop : Stop → RunStop
 run_stop (stops.Fault fault) = Source fault
 run_stop stops.Memory = Memory
 
--- the number of what is wrong with a row, own choice: it goes on where those of sources end
+-- the number of a row's fault: own choice; 1 to 34 are those of sources and zones
 abbrev pub row_kind_number : RowKind → ℕ
 row_kind_number kind.RowFields = 35
 row_kind_number kind.RowZone = 36

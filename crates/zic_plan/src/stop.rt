@@ -23,7 +23,7 @@ pub enum RowKind {
 impl RowKind {
     ghost use Rattle.zic_plan.specs.Stop.{row_kind_number};
 
-    /// Returns the number of the kind, 35 to 39.
+    /// Returns the number of the kind, 35 to 39: own choice.
     pub fn number(self) -> u8
         ensures { result ≡ row_kind_number self }
     {

@@ -3,13 +3,13 @@
 ghost use Rattle.std.specs.Prelude.{◌≡◌, ◌<◌, take, drop};
 ghost use Rattle.zic_rows.specs.code.Kept.{kept_date};
 
-use crate::limit::{DAYS, DAYS_TO_1970, LONGEST_REST};
+use crate::limit::{DAYS, DAYS_TO_1970, REST_ROOM};
 use zic_base::two_digits;
 use zic_calendar::civil;
 
 /// Writes the text of a day into the rest of a row.
 #[inline(never)]
-pub(crate) fn write_date(rest: &mut [u8; LONGEST_REST], day: u32)
+pub(crate) fn write_date(rest: &mut [u8; REST_ROOM], day: u32)
     requires { day < DAYS }
     ensures date { take 12 rest.new ≡ kept_date day }
     ensures after { drop 20 rest.new ≡ drop 20 rest.old }

@@ -8,7 +8,7 @@ ghost use Rattle.zic_rows.specs.Row.{state_text};
 ghost use Rattle.zic_rows.specs.code.Kept.{kept_date, IsRestOf};
 
 use crate::date::write_date;
-use crate::limit::{DAY, DAYS, LONGEST_REST};
+use crate::limit::{DAY, DAYS, REST_ROOM};
 use crate::state_text::StateText;
 use std::alloc::AllocError;
 use zic_base::{State, clock_text};
@@ -20,7 +20,7 @@ pub(crate) struct KeptRest<'a> {
     /// The days from 0001-01-01, below `DAYS`.
     day: u32,
     pub(crate) state: State<'a>,
-    octets: [u8; LONGEST_REST],
+    octets: [u8; REST_ROOM],
     /// The length of the state's text in bytes.
     len: usize,
     ghost is_rest: { IsRestOf day state octets len },
@@ -32,7 +32,7 @@ impl<'a> KeptRest<'a> {
         requires { day < DAYS }
         ensures { shown result.state ≡ text.now }
     {
-        let mut octets = [0; LONGEST_REST];
+        let mut octets = [0; REST_ROOM];
         write_date(&mut octets, day);
         let len = text.copy_to(&mut octets);
         KeptRest {

@@ -6,7 +6,7 @@ ghost use Rattle.zic_rows.specs.Instant.{IsRowOffset};
 ghost use Rattle.zic_rows.specs.Row.{state_text, IsRowState};
 ghost use Rattle.zic_rows.specs.code.Kept.{before_name, IsTextOf};
 
-use crate::limit::LONGEST_REST;
+use crate::limit::REST_ROOM;
 use std::marker::Model;
 use zic_base::{State, offset_text};
 
@@ -53,10 +53,10 @@ impl<'a> StateText<'a> {
         self.state
     }
 
-    /// Copies the text into the rest of a row after the time of day, and returns its length. All of
-    /// the room is copied at once, since that is quicker.
+    /// Copies the text into the rest of a row, from byte 20 on, and returns its length, at most 32.
+    /// All of the room is copied at once, since that is quicker.
     #[inline(always)]
-    pub(crate) fn copy_to(&self, rest: &mut [u8; LONGEST_REST]) -> usize
+    pub(crate) fn copy_to(&self, rest: &mut [u8; REST_ROOM]) -> usize
         ensures text { take result (drop 20 rest.new) ≡ state_text self.now }
         ensures before { take 20 rest.new ≡ take 20 rest.old }
         ensures fits { result ≤ ROOM }

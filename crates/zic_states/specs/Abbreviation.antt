@@ -28,6 +28,6 @@ abbreviation (Letter before after) offset daylight letter = option_map (λ l. be
 abbreviation (Offset before after) offset daylight letter = Some (before ++ short_offset_text offset ++ after)
 abbreviation (Pair standard saving) offset daylight letter = Some (if daylight then saving else standard)
 
--- the abbreviation that bytes are
+-- the bytes, where they are an abbreviation; else none
 abbrev pub abbreviation_of : List ℕ → Option (List ℕ)
 abbreviation_of octets = if is_abbreviation octets then Some octets else None

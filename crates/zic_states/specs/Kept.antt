@@ -58,7 +58,7 @@ RulesKeep rules line Standard IsSuch kept = kept ≡ record { saving = pos 0; da
 RulesKeep rules line (Amount saving) IsSuch kept = kept ≡ record { saving = saving.seconds; daylight = saving.daylight; letter = None }
 RulesKeep rules line (Set name) IsSuch kept = SetKeeps (set_of rules name) line.offset IsSuch kept
 
--- RULES keep this by the rule of this number, and with none before all occurrences.
+-- RULES keep this by the rule of this number. Without a number: what RULES keep before all occurrences.
 abbrev pub IsKeptBy : List Rule → Rules → Option ℕ → Kept → Type 0
 IsKeptBy rules Standard number kept = kept ≡ record { saving = pos 0; daylight = false; letter = None }
 IsKeptBy rules (Amount saving) number kept = kept ≡ record { saving = saving.seconds; daylight = saving.daylight; letter = None }

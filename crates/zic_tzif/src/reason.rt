@@ -42,7 +42,7 @@ pub enum Reason {
 impl Reason {
     ghost use Rattle.zic_tzif.specs.Reason.{reason_number};
 
-    /// Returns the number of the reason, 1 to 14.
+    /// Returns the number of the reason, 1 to 14: own choice.
     pub fn number(self) -> u8
         ensures { result ≡ reason_number self }
     {

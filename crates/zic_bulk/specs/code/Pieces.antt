@@ -21,7 +21,7 @@ count_of pieces = div_ceil (length pieces.source.zones) pieces.size
 abbrev pub start_of : Pieces → ℕ → ℕ
 start_of pieces i = min (i * pieces.size) (length pieces.source.zones)
 
--- the pieces of a source are so
+-- the limits of a source's pieces
 pub record ArePieces (pieces : Pieces) : Type 0 where
   pub some : 0 < pieces.size
   pub most : pieces.size ≤ MAX_OF_PIECE

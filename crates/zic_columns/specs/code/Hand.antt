@@ -38,7 +38,3 @@ CanBeCut held come count = (count ≤ length held) × (AreSomeRecords (take coun
 -- The records of these pieces come first, where the bytes before and after are known.
 abbrev pub Takes : Option (List ℕ) → Option (List ℕ) → List (List ℕ) → Type 0
 Takes old new pieces = IfSome old (λ bytes. (rest : List ℕ) × (new ≡ Some rest) × TakesPieces bytes rest pieces)
-
--- The first record was passed over, where the bytes before and after are known.
-abbrev pub PassesFirst : Option (List ℕ) → Option (List ℕ) → Type 0
-PassesFirst old new = IfSome old (λ bytes. (rest : List ℕ) × (new ≡ Some rest) × (column_records rest ≡ drop 1 (column_records bytes)))

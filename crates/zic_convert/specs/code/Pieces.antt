@@ -18,7 +18,7 @@ pub record Pieces : Type 0 where
   pub size : ℕ
   pub stops : Bool
 
--- the pieces of a round are so
+-- the limits of a round's pieces
 pub record ArePieces (p : Pieces) : Type 0 where
   pub some : 1 ≤ p.size
   pub small : p.size ≤ MAX_OF_PIECE
