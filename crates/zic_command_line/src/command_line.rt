@@ -172,7 +172,7 @@ fn convert_command<'a>(alloc: Global) -> Result<Command<'a>, AllocError> {
     let header = Arg::new(alloc, "header")
         .long("header")
         .action(ArgAction::SetTrue)
-        .help("The first line is a header; writes one of its own");
+        .help("Takes the first record for a header, and writes one");
     let progress = Arg::new(alloc, "progress")
         .long("progress")
         .action(ArgAction::SetTrue)

@@ -73,7 +73,7 @@ IsFailureOfConvert texts plan run failure =
 abbrev pub header_line : List ℕ
 header_line = codes "zone,instant,local,offset,daylight,abbreviation" ++ 10 ∷ []
 
--- what the writer held grew by the whole header line, and then as this says
+-- what the writer held grew by the whole header line, and then as `Writes` says
 pub record WritesBelowHeader (Writes : Option (List ℕ) → Option (List ℕ) → Type 0)
     (held held' : Option (List ℕ)) : Type 0 where
   pub begun : Option (List ℕ)
@@ -86,11 +86,12 @@ pub record ConvertsBody {R W : Type 0} (texts : List (List ℕ)) (plan : Limits)
     (run : Conversion R W) : Type 0 where
   pub files : List File
   pub are_files : AreFilesOfTexts texts files
-  pub writes : IfSome run.column (λ column. WritesBelowHeader
-      (WritesAllOf (ConvertsBodyTo files plan.max_rows column) n) run.held run.held')
+  pub writes : WritesBelowHeader (λ begun held'. IfSome run.column
+      (λ column. WritesAllOf (ConvertsBodyTo files plan.max_rows column) n begun held'))
+      run.held run.held'
 
--- the texts have files, nothing is read of the column, and only a part of the header line is
--- written
+-- the texts have files, nothing is read of the column, and a beginning of the header line is
+-- written, perhaps all of it
 pub record IsFailureOfHeader {R W : Type 0} (texts : List (List ℕ)) (run : Conversion R W)
     (failure : Failure) : Type 0 where
   pub files : List File
@@ -111,8 +112,9 @@ pub record IsFailureOfBody {R W : Type 0} (texts : List (List ℕ)) (plan : Limi
   pub stop : RunStop
   pub is : failure ≡ run_failure stop (length texts)
   pub cause : IsCauseOf plan.max_bytes run.reader run.reader' run.writer run.writer' stop
-  pub writes : IfSome run.column (λ column. WritesBelowHeader
-      (WritesAtOf (ConvertsBodyTo files plan.max_rows column) stop) run.held run.held')
+  pub writes : WritesBelowHeader (λ begun held'. IfSome run.column
+      (λ column. WritesAtOf (ConvertsBodyTo files plan.max_rows column) stop begun held'))
+      run.held run.held'
 
 -- why texts don't convert a column that has a header
 abbrev pub IsFailureOfConvertBody : {R W : Type 0} → List (List ℕ) → Limits → Conversion R W

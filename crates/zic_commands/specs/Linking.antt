@@ -20,8 +20,8 @@ use Rattle.zic_commands.specs.Tree.{Gains, in_folder, Linked, Placed}
 abbrev pub way_up : List ℕ → List ℕ
 way_up name = flat_map (λ byte. if byte == 47 then codes "../" else []) name
 
--- what a link at a name is made of: the path of the zone's file, or the way there from the folder
--- of the link
+-- the target of a link at a name: of a hard link the path of the zone's file, of a symbolic link the
+-- way to it from the folder of the link
 abbrev pub target_of : LinkKind → List ℕ → List ℕ → List ℕ → List ℕ
 target_of kinds.Hard folder name zone = folder ++ 47 ∷ zone
 target_of kinds.Symbolic folder name zone = way_up name ++ zone
@@ -43,8 +43,8 @@ pub record IsFileNamed (files : List File) (zone : ZoneLines) (file : File) : Ty
   pub among : Contains files file
   pub named : file.name ≡ zone.name
 
--- The files of the zones were placed in the folder, in the order of the texts and their lines, and
--- then, for each Link line in that order, a link. Where there is a zone, the folder has a name.
+-- The files of the zones were placed in the folder, in the order of the texts and their lines, and a
+-- link was made for each Link line, in that order. Where there is a zone, the folder has a name.
 pub record AreBuiltLinked (texts : List (List ℕ)) (folder : LinkedFolder)
     (old new : Option (List Placed)) (links links' : Option (List Linked)) : Type 0 where
   pub source : SourceLines

@@ -9,8 +9,8 @@ pub record Placed : Type 0 where
   pub path : List ℕ
   pub bytes : List ℕ
 
--- a link in a tree: its kind, its path, and what it is made of: the path of the file that it names,
--- or the text of a symbolic link
+-- a link in a tree: its kind, its path, and its target, which is the path of a file for a hard link,
+-- and the text of a symbolic link
 pub record Linked : Type 0 where
   pub kind : LinkKind
   pub path : List ℕ

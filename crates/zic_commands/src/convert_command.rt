@@ -51,14 +51,14 @@ pub fn convert<T: Threads + Wait + Sync, R: Read, W: Write>(
     }
 }
 
-/// Compiles the texts, and converts as [`convert`] does a column whose first record is a header. In
-/// place of the header's row it writes the line `zone,instant,local,offset,daylight,abbreviation`,
-/// once there are files. Returns the number of rows, without that line.
+/// Compiles the texts, and converts a column whose first record is a header as [`convert`] does. Once
+/// there are files, it first writes the line `zone,instant,local,offset,daylight,abbreviation`, also
+/// for a column without records. Returns the number of rows, without the header.
 ///
 /// # Errors
 ///
 /// As [`convert`], and where that line can't be written, in which case nothing is read of the
-/// column. The first row is that after the header.
+/// column. Rows count from 1 after the header, and its bytes count for the plan's limit.
 pub fn convert_with_header<T: Threads + Wait + Sync, R: Read, W: Write>(
     rt: &T,
     alloc: Global,

@@ -20,7 +20,7 @@ const TRIES: u32 = 1_000;
 /// The number of bytes that are read of a folder's names at a time.
 const BLOCK: usize = 8_192;
 
-/// Why a file isn't placed.
+/// Why a file or a link isn't placed.
 #[derive(Clone, Copy, Debug, PartialEq, Eq)]
 pub enum Unplaced {
     /// The tree refused it.
@@ -68,7 +68,7 @@ pub trait Tree {
     // the files that were placed, in order, where they are known
     ghost placed: { Self → Option (List Placed) } = { λ _. None };
 
-    // which links were made, in order, where that is known
+    // the links that were made, in order, where they are known
     ghost linked: { Self → Option (List Linked) } = { λ _. None };
 
     // the tree refused a file or a link at a path, where anything is known of it

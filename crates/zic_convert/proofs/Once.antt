@@ -1,5 +1,5 @@
 -- That a column converts to one list of texts, and one fault or none.
-use Rattle.std.proofs.Common.{◌≡◌, ◌≢◌, ◌+◌, ℕ, ℤ, List, [], ◌∷◌, Option, Some, None, refl, sym, ap, subst, ◌∙◌}
+use Rattle.std.proofs.Common.{◌≡◌, ◌≢◌, ◌+◌, ℕ, ℤ, List, [], ◌∷◌, drop, Option, Some, None, refl, sym, ap, subst, ◌∙◌}
 use Rattle.std.specs.Prelude.{Contains, IsSome}
 use Rattle.std.proofs.lemmas.List.Elements.{All-contains}
 use Rattle.std.proofs.lemmas.Option.{same_Some}
@@ -55,6 +55,11 @@ module _ (answers : FilesAnswerOnce) (files : List File) (sound : AreSoundFiles 
 
 -- and so does a column
 pub columns_once : RecordsAreOne → FilesAnswerOnce → ColumnsConvertOnce
-columns_once one answers files most column a b fault other sound come then =
-    let same = one _ come.records then.records come.are then.are in
-    once answers files sound most 1 come.records a b fault other come.rows (rw same then.rows)
+columns_once one answers = record {
+  all = λ files most column a b fault other sound come then.
+      (let same = one _ come.records then.records come.are then.are in
+      once answers files sound most 1 come.records a b fault other come.rows (rw same then.rows));
+  body = λ files most column a b fault other sound come then.
+      (let same = one _ come.records then.records come.are then.are in
+      once answers files sound most 1 (drop 1 come.records) a b fault other come.rows (rw same then.rows));
+}

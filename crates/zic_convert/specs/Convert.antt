@@ -48,10 +48,11 @@ WritesAtOf Converts stop.ColumnTooLong old new = WritesPartOf Converts old new
 WritesAtOf Converts stop.Memory old new = WritesPartOf Converts old new
 WritesAtOf Converts stop.NoThread old new = WritesPartOf Converts old new
 
--- of a column: all its rows, or those before a conversion ends early
+-- what is written of a column that is converted whole
 abbrev pub WritesAll : List File → ℕ → List ℕ → ℕ → Option (List ℕ) → Option (List ℕ) → Type 0
 WritesAll files most column = WritesAllOf (ConvertsTo files most column)
 
+-- what is written of a column whose conversion ends early
 abbrev pub WritesAt : List File → ℕ → List ℕ → RunStop → Option (List ℕ) → Option (List ℕ) → Type 0
 WritesAt files most column = WritesAtOf (ConvertsTo files most column)
 

@@ -240,12 +240,12 @@ pub fn convert<T: Threads + Wait + Sync, R: Read, W: Write, G: Gate + Sync>(
 /// Converts a column as [`convert`] does, after its first record, which is a header: it makes no
 /// row and isn't counted. Returns the number of rows.
 ///
-/// The header may have any fields. A column without a record has no header and no rows. The gate is
-/// open.
+/// The header may have any fields. A column without a record has no header and no rows. The workers
+/// pass no gate.
 ///
 /// # Errors
 ///
-/// As [`convert`]. Rows count from 1 after the header.
+/// As [`convert`]. Rows count from 1 after the header, and its bytes count for the plan's limit.
 pub fn convert_after_header<T: Threads + Wait + Sync, R: Read, W: Write>(
     rt: &T,
     alloc: Global,

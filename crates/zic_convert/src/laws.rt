@@ -6,7 +6,7 @@ use zic_columns::laws::records_are_one;
 use zic_tzif::laws::files_answer_once;
 
 /// States that by the files of a source a column converts to one list of texts, and one fault or
-/// none.
+/// none, whether its first record is a header or not.
 pub fn columns_convert_once()
     ensures { ColumnsConvertOnce }
 {
