@@ -1,38 +1,47 @@
 #!/usr/bin/env bash
 # Refuses each growth of memory of a run in turn, and then all starts of threads from the first on,
-# from the second on, and so forth. The runs are the tests of tasks of five pieces, which must still
-# pass, and commands of the program, with several numbers of workers and sizes of pieces. If a
-# growth is refused, a command says `out of memory`, or reports the fault that it reports otherwise;
-# it may give its whole answer only if the growth was for the start of a worker. If threads are
-# refused, it gives its whole answer. It never leaves files or rows that aren't part of its whole
-# answer. A `convert` of one zone and of a column of one round starts its workers, all but the
-# calling thread, once, and once more for the rows before a fault. Needs `rt` and `cc`.
+# from the second on, and so forth. The runs are tests of tasks of five pieces, of claims, and of
+# the calls from a source to a file, which must still pass, and commands of the program, with
+# several numbers of workers and sizes of pieces. If a growth is refused, a command says `out of
+# memory`, or reports the fault that it reports otherwise; it may give its whole answer only if the
+# growth was for the start of a worker. If threads are refused, it gives its whole answer. It never
+# leaves files or rows that aren't part of its whole answer. A `convert` of one zone and of a column
+# of one round starts its workers, all but the calling thread, once, and once more for the rows
+# before a fault. Needs `rt` and `cc`.
 set -euo pipefail
 cd "$(dirname "${BASH_SOURCE[0]}")/.."
 . .ci/release.sh
 command -v cc >"$work/log" || install gcc
 cc -O2 -shared -fPIC -ftls-model=initial-exec -o "$work/refuse.so" .ci/refuse.c
 
-# ------------------------------------------------------------------ tasks of five pieces
+# ------------------------------------------------------------------ tests
 
-if [ ! -e "$BUILT/zic_pieces_tests" ] && ! (cd crates/zic_pieces && rt test) >"$work/log" 2>&1; then
-    cat "$work/log" >&2
-    exit 1
-fi
-for test in values_stand_in_order the_least_stop_decides; do
+# pass CRATE TEST: runs a test, which must pass, with each growth and each start refused in turn.
+pass() {
+    local kind n
+    if [ ! -e "$BUILT/$1_tests" ] && ! (cd "crates/$1" && rt test) >"$work/log" 2>&1; then
+        cat "$work/log" >&2
+        exit 1
+    fi
+    : >"$BUILT/$1_tests"
     for kind in GROWTH START; do
         for ((n = 1; ; n++)); do
             if ! timeout 60 env "REFUSE_$kind=$n" "LD_PRELOAD=$work/refuse.so" \
-                crates/zic_pieces/out/zic_pieces_tests "tests::$test" >"$work/log" 2>&1; then
-                echo "$test, REFUSE_$kind=$n:" >&2
+                "crates/$1/out/$1_tests" "$2" >"$work/log" 2>&1; then
+                echo "$2, REFUSE_$kind=$n:" >&2
                 cat "$work/log" >&2
                 exit 1
             fi
             grep -q '^refused' "$work/log" || break
         done
-        echo "$test, $kind: $((n - 1)) refused in turn"
+        echo "$2, $kind: $((n - 1)) refused in turn"
     done
-done
+}
+
+pass program_tests pieces::values_stand_in_order
+pass program_tests pieces::the_least_stop_decides
+pass program_tests claims::a_pass_sees_the_report_of_another
+pass zone_tests growths::calls_answer_the_same_after_a_refused_growth
 
 # ------------------------------------------------------------------ commands
 
