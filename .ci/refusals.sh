@@ -38,8 +38,8 @@ pass() {
     done
 }
 
-pass zic_pieces tests::values_stand_in_order
-pass zic_pieces tests::the_least_stop_decides
+pass program_tests pieces::values_stand_in_order
+pass program_tests pieces::the_least_stop_decides
 pass program_tests claims::a_pass_sees_the_report_of_another
 pass zone_tests growths::calls_answer_the_same_after_a_refused_growth
 

@@ -12,6 +12,18 @@ use zic_source::{Fault, Kind, Place, Stop, read_source};
 const UTC_FILE: &[u8; 111] =
     b"TZif2\0\0\0\0\0\0\0\0\0\0\0\0\0\0\0\0\0\0\0\0\0\0\0\0\0\0\0\0\0\0\0\0\0\0\x01\0\0\0\x01\0\0\0\0\0\0\0TZif2\0\0\0\0\0\0\0\0\0\0\0\0\0\0\0\0\0\0\0\0\0\0\0\0\0\0\0\0\0\0\0\0\0\0\x01\0\0\0\x04\0\0\0\0\0\0UTC\0\nUTC0\n";
 
+/// The file of a zone with the US rules from 2007 on and a standard time of -5:00. Its second block
+/// has six transitions, their types, two local time types and their designations.
+const NEW_YORK_FILE: &[u8; 193] = b"TZif2\0\0\0\0\0\0\0\0\0\0\0\0\0\0\0\
+\0\0\0\0\0\0\0\0\0\0\0\0\0\0\0\0\0\0\0\x01\0\0\0\x01\
+\0\0\0\0\0\0\0\
+TZif2\0\0\0\0\0\0\0\0\0\0\0\0\0\0\0\
+\0\0\0\0\0\0\0\0\0\0\0\0\0\0\0\x06\0\0\0\x02\0\0\0\x08\
+\0\0\0\0\x45\xf3\xa8\xf0\0\0\0\0\x47\x2d\x5f\xe0\0\0\0\0\x47\xd3\x8a\xf0\
+\0\0\0\0\x49\x0d\x41\xe0\0\0\0\0\x49\xb3\x6c\xf0\0\0\0\0\x4a\xed\x23\xe0\
+\x01\0\x01\0\x01\0\xff\xff\xb9\xb0\0\0\xff\xff\xc7\xc0\x01\x04EST\0EDT\0\
+\nEST5EDT,M3.2.0,M11.1.0\n";
+
 /// The rules of the United States from 2007 on.
 const US: &str =
     "Rule US 2007 max - Mar Sun>=8 2:00 1:00 D\nRule US 2007 max - Nov Sun>=1 2:00 0 S\n";

@@ -1,6 +1,6 @@
 //! Files built by several workers, compared with values from other programs.
 
-use super::{UTC_FILE, listed};
+use super::{NEW_YORK_FILE, US, UTC_FILE, listed};
 use std::alloc::Global;
 use std::sync::Wait;
 use std::sync::atomic::{AtomicU64, Ordering};
@@ -81,25 +81,32 @@ fn plans_are_within_their_limits(rt: HostRuntime) {
     }
 }
 
+/// Texts, the names and sizes of their files, and the bytes that each of these files has.
 #[test]
-fn four_files_of_the_same_octets(rt: HostRuntime) -> Result<(), Fail> {
-    let texts = ["Link B C\nLink A B", "Link Etc/UTC A\nZone Etc/UTC 0 - UTC"];
-    for plan in PLANS {
-        let files = built(&rt, rt.alloc(), &texts, plan, &Open)?
-            .ok()
-            .ok_or("no files")?;
-        let lines = listed(rt.alloc(), &files)?;
-        assert_eq!(rt;
-            lines.as_str(),
+fn files_of_the_same_octets(rt: HostRuntime) -> Result<(), Fail> {
+    let rows: [(&[&str], &str, &[u8]); 3] = [
+        (&[], "", b""),
+        (
+            &["Link B C\nLink A B", "Link Etc/UTC A\nZone Etc/UTC 0 - UTC"],
             "C 111\nB 111\nA 111\nEtc/UTC 111\n",
-            "by {plan:?}"
-        );
-        for file in 0..files.len() {
-            assert_eq!(rt;
-                files.bytes(file),
-                UTC_FILE.as_slice(),
-                "of file {file} by {plan:?}"
-            );
+            UTC_FILE,
+        ),
+        (
+            &[US, "Zone Z/NY -5:00 US E%sT"],
+            "Z/NY 193\n",
+            NEW_YORK_FILE,
+        ),
+    ];
+    for (texts, want, octets) in rows {
+        for plan in PLANS {
+            let files = built(&rt, rt.alloc(), texts, plan, &Open)?
+                .ok()
+                .ok_or("no files")?;
+            let lines = listed(rt.alloc(), &files)?;
+            assert_eq!(rt; lines.as_str(), want, "by {plan:?}");
+            for file in 0..files.len() {
+                assert_eq!(rt; files.bytes(file), octets, "of file {file} by {plan:?}");
+            }
         }
     }
     Ok(())
