@@ -219,6 +219,8 @@ expect 0 'Etc/UTC 111 UTC0' '' check --workers 64 --zone-piece 65536 plain
 expect_usage build
 expect_usage build tree
 expect_usage build tree - -
+expect_usage build --links soft tree plain
+expect_usage build --links hard --links hard tree plain
 expect_usage convert
 expect_usage convert -
 expect_usage convert --help
@@ -525,6 +527,14 @@ ln -s ../../taken tree/Etc/UTC
 expect 0 '' '' build tree plain
 expect_tree tree $'A 111 AAA0\nEtc/UTC 111 UTC0'
 [ "$(cat taken)" = text ] || differ 'a file was written through a link'
+# A link can't take the place of a folder, and leaves nothing over.
+printf 'Link A Alias/B\nZone A 0 - AAA\n' >linked
+mkdir -p links/Alias/B/kept
+for kind in hard symlink; do
+    expect 3 '' 'cannot write links/Alias/B' build --links $kind links linked
+    expect_tree links 'A 111 AAA0'
+    [ "$(find links -mindepth 1 | sort | xargs)" = 'links/A links/Alias links/Alias/B links/Alias/B/kept' ] || differ "--links $kind leaves files over"
+done
 chmod 400 tree/A
 echo 'Zone A 0 - BBB' >other
 expect 0 '' '' build tree other

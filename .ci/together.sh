@@ -1,7 +1,7 @@
 #!/usr/bin/env bash
 # Has two runs of the program build trees of two sources into one folder at the same time, 200
-# times: the system's release of the tz database, and the same with other abbreviations. No run may
-# fail. Each file must be whole, of the one source or the other, also while the runs write, and
+# times: the system's release of the tz database, and the same with other abbreviations, with links of
+# each kind. No run may fail. Each file must be whole, of the one source or the other, also while the runs write, and
 # nothing may be left over, even if a run before them was killed. Half of the pairs start with an
 # existing tree.
 set -euo pipefail
@@ -15,9 +15,9 @@ cd "$work"
 "$program" build one "$release"
 "$program" build two other
 
-# sums TREE TEST..: prints the sums of the files below TREE that pass these tests of find.
+# sums TREE TEST..: prints the sums of the files and links below TREE that pass these tests of find.
 sums() {
-    (cd "$1" && find . -type f "${@:2}" -exec sha256sum {} + | sort)
+    (cd "$1" && find -L . -type f "${@:2}" -exec sha256sum {} + | sort)
 }
 
 # stop TEXT: ends the script, and tells why.
@@ -29,16 +29,18 @@ stop() {
 { sums one && sums two; } | sort -u >whole
 (cd one && find . -type f | sort) >names
 [ "$(wc -l <whole)" -gt $(($(wc -l <names) * 3 / 2)) ] || { echo 'together: the two sources have the same files' >&2 && exit 1; }
+kinds=(copy hard symlink)
 for ((pair = 1; pair <= 200; pair++)); do
+    first=${kinds[pair % 3]} second=${kinds[pair / 3 % 3]}
     [ $((pair % 2)) = 0 ] || rm -rf tree
     if [ $((pair % 5)) = 0 ]; then
-        "$program" build tree "$release" &
+        "$program" build --links "$second" tree "$release" &
         sleep "0.0$((pair % 4 + 1))"
         kill -9 $! 2>/dev/null || true
         wait $! 2>/dev/null || true
     fi
-    "$program" build tree "$release" 2>one.err & one=$!
-    "$program" build tree other 2>two.err & two=$!
+    "$program" build --links "$first" tree "$release" 2>one.err & one=$!
+    "$program" build --links "$second" tree other 2>two.err & two=$!
     if [ -d tree ]; then sums tree ! -name '~*' >now || true; else : >now; fi
     wait $one || stop "the first run failed: $(head -c 200 one.err)"
     wait $two || stop "the second run failed: $(head -c 200 two.err)"

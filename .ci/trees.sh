@@ -53,6 +53,38 @@ awk 'BEGIN {
 }' >"$work/largest.zi"
 trees largest "$work/largest.zi"
 
+# Each link of the release, the zone at the end of its chain, and the way there from the link's folder.
+awk '/^L/ { target[$3] = $2 }
+    END {
+        for (name in target) {
+            for (zone = target[name]; zone in target;) zone = target[zone]
+            way = name
+            gsub(/[^\/]/, "", way)
+            gsub(/\//, "../", way)
+            print name, zone, way zone
+        }
+    }' "$release" >"$work/ends"
+
+# is_link KIND NAME ZONE WAY: tells whether a name of the tree `linked` is such a link to the zone.
+is_link() {
+    local path=$work/linked/$2
+    case $1 in
+    copy) [ "$(stat -c '%h %F' "$path")" = '1 regular file' ] ;;
+    hard) [ "$(stat -c '%i %F' "$path")" = "$(stat -c '%i regular file' "$work/linked/$3")" ] ;;
+    symlink) [ "$(readlink "$path")" = "$4" ] && [ ! -L "$work/linked/$3" ] ;;
+    esac
+}
+
+for kind in hard hard symlink symlink copy symlink hard copy; do
+    "$program" build --links "$kind" "$work/linked" "$release"
+    same release linked
+    while read -r name zone way; do
+        is_link "$kind" "$name" "$zone" "$way" || { echo "trees: with --links $kind, $name is another" >&2 && exit 1; }
+    done <"$work/ends"
+    [ ! "$(find "$work/linked" -name '~*')" ] || { echo "trees: --links $kind leaves files over" >&2 && exit 1; }
+done
+echo "trees: $(wc -l <"$work/ends") links are copies, hard links or symbolic links of the same bytes, over each other"
+
 "$program" build "$work/worked" witness/worked.zi
 for tree in worked release; do
     python3 witness/trees.py "$work/$tree" crates/probe/out/probe | sed "s/^/trees, $tree: /"

@@ -10,7 +10,8 @@ _pzic() {
         return
     fi
     case ${COMP_WORDS[1]} in
-    check | build) options='--workers --zone-piece --help' ;;
+    check) options='--workers --zone-piece --help' ;;
+    build) options='--links --workers --zone-piece --help' ;;
     convert) options='--workers --zone-piece --row-piece --max-rows --max-bytes --header --progress --help' ;;
     show) ;;
     dump) options='--from --to --help' ;;
@@ -27,6 +28,11 @@ _pzic() {
     --workers)
         # shellcheck disable=SC2207
         COMPREPLY=($(compgen -W '1 2 4 8 16 32 64' -- "$current"))
+        return
+        ;;
+    --links)
+        # shellcheck disable=SC2207
+        COMPREPLY=($(compgen -W 'copy hard symlink' -- "$current"))
         return
         ;;
     --zone-piece | --row-piece | --max-rows | --max-bytes | --from | --to) return ;;

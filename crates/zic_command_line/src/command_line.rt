@@ -1,6 +1,7 @@
 //! The words that the program is given.
 
 use crate::no_request::NoRequest;
+use clap::builder::ValueParser;
 use clap::error::ErrorKind;
 use clap::{Arg, ArgAction, ArgMatches, Command, Error, value_parser};
 use std::alloc::{AllocError, Global};
@@ -15,6 +16,20 @@ use zic_plan::{
 /// The version of the program, and the kit that it is proved with.
 const VERSION: &str = "0.1.0\nproved with rattle-kit-13f logic dac8208d650f15bf";
 
+/// The words for what the names of Link lines are made as.
+const LINK_WORDS: [&str; 3] = ["copy", "hard", "symlink"];
+
+/// What the names of Link lines are made as.
+#[derive(Clone, Copy, Debug, PartialEq, Eq)]
+pub enum Links {
+    /// Files of their own.
+    Copy,
+    /// Hard links to the files of their zones.
+    Hard,
+    /// Symbolic links to the files of their zones.
+    Symbolic,
+}
+
 /// A request to the program.
 #[derive(Debug, Drop)]
 pub enum Request {
@@ -28,6 +43,7 @@ pub enum Request {
         folder: String,
         sources: Vec<String>,
         plan: Plan,
+        links: Links,
     },
     /// Compile a source, and convert a column by its files.
     Convert {
@@ -152,7 +168,8 @@ fn build_command<'a>(alloc: Global) -> Result<Command<'a>, AllocError> {
         .about("Compiles sources together and writes their files, as zic -d DIR does")
         .after_help("Example:\n  pzic build ~/zoneinfo /usr/share/zoneinfo/tzdata.zi acme.zi")
         .arg(folder)?
-        .arg(sources)?;
+        .arg(sources)?
+        .arg(links_option(alloc))?;
     with_plan(alloc, command)
 }
 
@@ -238,6 +255,17 @@ fn with_plan<'a>(alloc: Global, command: Command<'a>) -> Result<Command<'a>, All
     command.arg(workers)?.arg(zone_piece)
 }
 
+/// Returns the option that says what the names of Link lines are made as.
+fn links_option<'a>(alloc: Global) -> Arg<'a> {
+    Arg::new(alloc, "links")
+        .long("links")
+        .value_name("KIND")
+        .value_parser(ValueParser::Names(&LINK_WORDS))
+        .hide_possible_values(true)
+        .default_value("copy")
+        .help("What a link is: copy, hard or symlink")
+}
+
 /// Returns an option that is a number in a range, with its default.
 fn option<'a>(alloc: Global, name: &'a str, default: &'a str, least: i64, most: i64) -> Arg<'a> {
     Arg::new(alloc, name)
@@ -273,11 +301,23 @@ fn build(alloc: Global, matches: &ArgMatches<'_>) -> Result<Request, NoRequest> 
         sources.push(String::from_str(alloc, word)?)?;
     }
     let plan = plan(alloc, matches)?;
+    let links = links_of(alloc, matches)?;
     Ok(Request::Build {
         folder,
         sources,
         plan,
+        links,
     })
+}
+
+/// Returns what the names of Link lines are made as.
+fn links_of(alloc: Global, matches: &ArgMatches<'_>) -> Result<Links, NoRequest> {
+    match matches.get_str("links") {
+        Some("copy") => Ok(Links::Copy),
+        Some("hard") => Ok(Links::Hard),
+        Some("symlink") => Ok(Links::Symbolic),
+        _ => Err(usage(alloc, "--links is copy, hard or symlink")),
+    }
 }
 
 fn convert(alloc: Global, matches: &ArgMatches<'_>) -> Result<Request, NoRequest> {

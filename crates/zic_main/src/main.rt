@@ -14,8 +14,8 @@ use std::rt::Env;
 use std::sync::Wait;
 use std::thread::Threads;
 use std::time::Clock;
-use zic_command_line::Request;
-use zic_commands::{Disk, Failure, Progress, Told};
+use zic_command_line::{Links, Request};
+use zic_commands::{Disk, Failure, LinkKind, LinkedFolder, Progress, Told};
 use zic_counted::{Counted, flush, write_all};
 use zic_plan::Plan;
 
@@ -46,10 +46,10 @@ fn run<
             folder,
             sources,
             plan,
+            links,
         } => {
             let texts = zic_commands::read_sources(alloc, rt, &mut input, &sources)?;
-            let mut disk = Disk::new(alloc, rt, number_of_run(rt));
-            zic_commands::build(rt, alloc, &plan, &texts, &mut disk, folder.as_str())?
+            build(rt, &plan, &texts, folder.as_str(), links)?
         }
         Request::Convert {
             source,
@@ -78,6 +78,25 @@ fn run<
         Request::Explain { text } | Request::Version { text } => tell(text.as_str(), &mut output)?,
     }
     Ok(())
+}
+
+/// Compiles the texts, and writes their files into a folder.
+fn build<R: Files + RandomSource + AllocGlobal + Threads + Wait + Sync>(
+    rt: &R,
+    plan: &Plan,
+    texts: &[Vec<u8>],
+    folder: &str,
+    links: Links,
+) -> Result<(), Failure> {
+    let alloc = rt.alloc();
+    let mut disk = Disk::new(alloc, rt, number_of_run(rt));
+    let kind = match links {
+        Links::Copy => return zic_commands::build(rt, alloc, plan, texts, &mut disk, folder),
+        Links::Hard => LinkKind::Hard,
+        Links::Symbolic => LinkKind::Symbolic,
+    };
+    let folder = LinkedFolder { path: folder, kind };
+    zic_commands::build_linked(rt, alloc, plan, texts, &mut disk, &folder)
 }
 
 /// Returns a number that no other run at the same time has: a random one, or 0 where there is none.
