@@ -10,10 +10,10 @@ _pzic() {
         return
     fi
     case ${COMP_WORDS[1]} in
-    check | build) options='--workers --zone-piece --help' ;;
-    convert) options='--workers --zone-piece --row-piece --max-rows --max-bytes --progress --help' ;;
-    show) ;;
-    dump) options='--from --to --help' ;;
+    check | build) options='--workers --zone-piece --explain --help' ;;
+    convert) options='--workers --zone-piece --row-piece --max-rows --max-bytes --progress --explain --help' ;;
+    show) options='--explain --help' ;;
+    dump) options='--from --to --explain --help' ;;
     explain)
         if [[ $current != -* ]]; then
             # shellcheck disable=SC2207

@@ -9,4 +9,6 @@ mod command_line;
 #[cfg(test)]
 mod commands;
 #[cfg(test)]
+mod explaining;
+#[cfg(test)]
 mod files;
