@@ -258,6 +258,81 @@ expect 0 '+00:00:00 0 UTC' '' show "$file" 9223372036854775807
 expect 0 '+00:00:00 0 UTC' '' show -- "$file" -9223372036854775808
 expect 0 '+00:00:00 0 UTC' '' show "$file" -- -1
 
+# ------------------------------------------------------------------ where a fault is
+
+echo 'Rule US 2007 max - 3 Sun>=8 2:00 1:00 D' >faulty
+month='  Rule US 2007 max - 3 Sun>=8 2:00 1:00 D
+                     ^
+
+Expected:
+  The English name of a month or an unambiguous abbreviation, such as `Ja`,
+  `Mar` or `S`. `M`, `Ma`, `J`, `Ju` and `A` are ambiguous.'
+expect 1 '' "line 1: Month
+--> faulty:1, field 6 (IN)
+$month" check --explain faulty
+expect 1 '' "text 2 line 1: Month
+--> faulty:1, field 6 (IN)
+$month" build tree plain faulty --explain
+input=faulty
+expect 1 '' "line 1: Month
+--> -:1, field 6 (IN)
+$month" check --explain -
+input=/dev/null
+expect 1 '' "line 1: Month
+--> faulty:1, field 6 (IN)
+$month" convert --explain faulty
+expect 1 '' 'line 1: Month' check faulty
+expect 1 '' 'file: Magic
+--> plain
+
+Expected:
+  A compiled file.' show --explain plain 0
+expect 1 '' 'file: Magic
+--> plain
+
+Expected:
+  A compiled file.' dump --explain plain
+expect 3 '' 'cannot read nowhere
+
+Expected:
+  The path of a readable file, or `-` for standard input. A source has at most
+  67,108,864 bytes.' check --explain nowhere
+expect 0 'Etc/UTC 111 UTC0' '' check --explain plain
+row='Etc/UTC,0,1970-01-01T00:00:00,+00:00:00,0,UTC'
+zone='row 2: RowZone
+--> standard input, row 2, field 1 (NAME)'
+expected='
+Expected:
+  A name exactly as in the source, including upper and lower case.'
+# The record of a file is read again, after a mark and line ends, and from where the file is read on.
+printf '\xef\xbb\xbf\r\nEtc/UTC,0\r\n\r\n"Etc/\x1b[0m",7\nEtc/UTC,1\n' >column
+input=column
+expect 1 "$row" "$zone"'
+  "Etc/\x1b[0m",7
+  ^^^^^^^^^^^^^
+
+Nearest name:
+  Etc/UTC
+'"$expected" convert --explain plain
+printf 'zone,instant\nEtc/UTC,0\nEtc/UTC,1.5\n' >column
+{ read -r _; status=0; "$program" convert --explain plain >../out 2>../err || status=$?; } <column
+told 'pzic convert of the rest of a file' 1 "$row" 'row 2: RowInstant
+--> standard input, row 2, field 2 (SECONDS)
+  Etc/UTC,1.5
+          ^^^
+
+Expected:
+  Seconds since 1970-01-01T00:00:00 UT: 1 to 18 digits, with `-` before them
+  for earlier instants, without `+`, spaces or a fraction.'
+input=/dev/null
+# That of a pipe is not.
+status=0
+printf 'Etc/UTC,0\nEtc/UTX,0\n' | "$program" convert --explain plain >../out 2>../err || status=$?
+told 'pzic convert of a pipe' 1 "$row" "$zone
+$expected"
+for command in 'check --explain' 'convert --explain' 'build --explain tree'; do expect_usage $command --explain plain; done
+expect_usage explain --explain
+
 # ------------------------------------------------------------------ what can't be read
 
 for path in nowhere '' . plain/nowhere; do

@@ -10,11 +10,11 @@ _pzic() {
         return
     fi
     case ${COMP_WORDS[1]} in
-    check) options='--workers --zone-piece --help' ;;
-    build) options='--links --workers --zone-piece --help' ;;
-    convert) options='--workers --zone-piece --row-piece --max-rows --max-bytes --header --progress --help' ;;
-    show) ;;
-    dump) options='--from --to --help' ;;
+    check) options='--workers --zone-piece --explain --help' ;;
+    build) options='--links --workers --zone-piece --explain --help' ;;
+    convert) options='--workers --zone-piece --row-piece --max-rows --max-bytes --header --progress --explain --help' ;;
+    show) options='--explain --help' ;;
+    dump) options='--from --to --explain --help' ;;
     explain)
         if [[ $current != -* ]]; then
             # shellcheck disable=SC2207

@@ -10,7 +10,7 @@ fn asked(alloc: Global, line: &str) -> Result<String, Fail> {
     for word in line.split_whitespace() {
         words.push(String::from_str(alloc, word)?)?;
     }
-    match parse(alloc, &words) {
+    match parse(alloc, &words).map(|asked| asked.request) {
         Ok(Request::Check { source, plan }) => {
             let (workers, piece) = (plan.workers(), plan.zone_piece());
             Ok(format!(in alloc; "check {source} by {workers} of {piece}")?)
@@ -142,6 +142,36 @@ fn words_are_a_request_or_a_usage_fault(rt: HostRuntime) -> Result<(), Fail> {
     for (line, want) in cases {
         let got = asked(rt.alloc(), line)?;
         assert_eq!(rt; got.as_str(), want, "at {line:?}");
+    }
+    Ok(())
+}
+
+#[test]
+fn commands_that_can_find_a_fault_take_explain(rt: HostRuntime) -> Result<(), Fail> {
+    let alloc = rt.alloc();
+    for (line, want) in [
+        ("pzic check --explain a", "explained"),
+        ("pzic build --explain D a", "explained"),
+        ("pzic convert a --explain", "explained"),
+        ("pzic show --explain f 0", "explained"),
+        ("pzic dump --explain f", "explained"),
+        ("pzic check a", "not explained"),
+        ("pzic explain", "not explained"),
+        ("pzic --version", "not explained"),
+        ("pzic check --explain --explain a", "usage"),
+        ("pzic check --explain=1 a", "usage"),
+        ("pzic explain --explain", "usage"),
+    ] {
+        let mut words = Vec::new(alloc);
+        for word in line.split_whitespace() {
+            words.push(String::from_str(alloc, word)?)?;
+        }
+        let got = match parse(alloc, &words) {
+            Ok(asked) if asked.explain => "explained",
+            Ok(_) => "not explained",
+            Err(_) => "usage",
+        };
+        assert_eq!(rt; got, want, "at {line:?}");
     }
     Ok(())
 }

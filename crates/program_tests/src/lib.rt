@@ -14,6 +14,8 @@ mod commands;
 #[cfg(test)]
 mod counted;
 #[cfg(test)]
+mod explaining;
+#[cfg(test)]
 mod files;
 #[cfg(test)]
 mod pieces;

@@ -30,6 +30,14 @@ pub enum Links {
     Symbolic,
 }
 
+/// What the words ask for.
+#[derive(Debug, Drop)]
+pub struct Asked {
+    pub request: Request,
+    /// Whether a failure is explained.
+    pub explain: bool,
+}
+
 /// A request to the program.
 #[derive(Debug, Drop)]
 pub enum Request {
@@ -79,7 +87,7 @@ pub enum Request {
 /// # Errors
 ///
 /// The text of usage or of help, or memory ran out.
-pub fn requested<R: Env + AllocGlobal>(rt: &R) -> Result<Request, NoRequest> {
+pub fn requested<R: Env + AllocGlobal>(rt: &R) -> Result<Asked, NoRequest> {
     let alloc = rt.alloc();
     let given = match env::args(rt) {
         Ok(given) => given,
@@ -98,12 +106,27 @@ pub fn requested<R: Env + AllocGlobal>(rt: &R) -> Result<Request, NoRequest> {
 /// # Errors
 ///
 /// The text of usage or of help, or memory ran out.
-pub fn parse(alloc: Global, words: &[String]) -> Result<Request, NoRequest> {
+pub fn parse(alloc: Global, words: &[String]) -> Result<Asked, NoRequest> {
     let commands = commands(alloc)?;
     let matches = match commands.try_get_matches_from(words) {
         Ok(matches) => matches,
-        Err(e) => return unmatched(alloc, &e),
+        Err(e) => return Ok(Asked {
+            request: unmatched(alloc, &e)?,
+            explain: false,
+        }),
     };
+    let explain = match matches.subcommand() {
+        Some((_, m)) => m.get_flag("explain"),
+        None => false,
+    };
+    Ok(Asked {
+        request: command(alloc, &matches)?,
+        explain,
+    })
+}
+
+/// Returns what the command asks for.
+fn command(alloc: Global, matches: &ArgMatches<'_>) -> Result<Request, NoRequest> {
     match matches.subcommand() {
         Some(("check", m)) => check(alloc, m),
         Some(("build", m)) => build(alloc, m),
@@ -137,11 +160,11 @@ fn commands<'a>(alloc: Global) -> Result<Command<'a>, AllocError> {
         )
         .subcommand_required(true)
         .disable_help_subcommand(true)
-        .subcommand(check_command(alloc)?)?
-        .subcommand(build_command(alloc)?)?
-        .subcommand(convert_command(alloc)?)?
-        .subcommand(show_command(alloc)?)?
-        .subcommand(dump_command(alloc)?)?
+        .subcommand(with_explain(alloc, check_command(alloc)?)?)?
+        .subcommand(with_explain(alloc, build_command(alloc)?)?)?
+        .subcommand(with_explain(alloc, convert_command(alloc)?)?)?
+        .subcommand(with_explain(alloc, show_command(alloc)?)?)?
+        .subcommand(with_explain(alloc, dump_command(alloc)?)?)?
         .subcommand(explain_command(alloc)?)
 }
 
@@ -264,6 +287,15 @@ fn links_option<'a>(alloc: Global) -> Arg<'a> {
         .hide_possible_values(true)
         .default_value("copy")
         .help("What a link is: copy, hard or symlink")
+}
+
+/// Returns the command with the option that explains a failure.
+fn with_explain<'a>(alloc: Global, command: Command<'a>) -> Result<Command<'a>, AllocError> {
+    let explain = Arg::new(alloc, "explain")
+        .long("explain")
+        .action(ArgAction::SetTrue)
+        .help("Shows where a fault is, and what is expected");
+    command.arg(explain)
 }
 
 /// Returns an option that is a number in a range, with its default.

@@ -4,5 +4,5 @@
 mod command_line;
 mod no_request;
 
-pub use command_line::{Links, Request, parse, requested};
+pub use command_line::{Asked, Links, Request, parse, requested};
 pub use no_request::NoRequest;

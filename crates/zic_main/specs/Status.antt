@@ -16,3 +16,4 @@ refusal_of reasons.Memory = refusals.Command Memory
 abbrev pub refusal_status : Refusal → ℕ
 refusal_status (refusals.Usage text) = 2
 refusal_status (refusals.Command failure) = status_of failure
+refusal_status (refusals.Explained failure text) = status_of failure

@@ -17,6 +17,9 @@ pub enum Refusal {
     /// The command gave up.
     #[error("{0}")]
     Command(Failure),
+    /// The command gave up, and lines after the first explain why.
+    #[error("{failure}\n{text}")]
+    Explained { failure: Failure, text: String },
 }
 
 impl Refusal {
@@ -27,7 +30,7 @@ impl Refusal {
     {
         match self {
             Refusal::Usage(_) => 2,
-            Refusal::Command(failure) => failure.status(),
+            Refusal::Command(failure) | Refusal::Explained { failure, .. } => failure.status(),
         }
     }
 }

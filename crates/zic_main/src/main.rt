@@ -3,8 +3,11 @@
 //! are read.
 #![tactic(auto)]
 
+mod column;
+mod explained;
 mod failure;
 
+use explained::Kept;
 use failure::Refusal;
 use std::fs::Files;
 use std::io::{self, IsTerminal, Read, Write};
@@ -29,18 +32,36 @@ fn main(rt: HostRuntime) -> ExitCode {
     }
 }
 
-/// Does what the words of the process ask for.
+/// Does what the words of the process ask for, and explains a failure if they ask for that.
 fn run<
     R: Env + Files + Input + Print + Clock + RandomSource + AllocGlobal + Threads + Wait + Sync,
     E: Write + IsTerminal + Drop,
 >(rt: &R, errors: E) -> Result<(), Refusal> {
+    let asked = zic_command_line::requested(rt)?;
+    if !asked.explain {
+        let mut texts = Vec::new(rt.alloc());
+        answer(rt, errors, asked.request, &mut texts)?;
+        return Ok(());
+    }
+    let mut kept = Kept::new(rt, &asked.request)?;
+    match answer(rt, errors, asked.request, &mut kept.texts) {
+        Ok(()) => Ok(()),
+        Err(failure) => Err(kept.explained(rt, failure)),
+    }
+}
+
+/// Does what a request asks for, and keeps the texts of the sources.
+fn answer<
+    R: Files + Input + Print + Clock + RandomSource + AllocGlobal + Threads + Wait + Sync,
+    E: Write + IsTerminal + Drop,
+>(rt: &R, errors: E, request: Request, texts: &mut Vec<Vec<u8>>) -> Result<(), Failure> {
     let alloc = rt.alloc();
     let mut input = Counted::new(rt.reader());
     let mut output = Counted::new(io::writer(rt));
-    match zic_command_line::requested(rt)? {
+    match request {
         Request::Check { source, plan } => {
-            let texts = zic_commands::read_sources(alloc, rt, &mut input, &[source])?;
-            zic_commands::check(rt, alloc, &plan, &texts, &mut output)?
+            *texts = zic_commands::read_sources(alloc, rt, &mut input, &[source])?;
+            zic_commands::check(rt, alloc, &plan, texts, &mut output)?
         }
         Request::Build {
             folder,
@@ -48,8 +69,8 @@ fn run<
             plan,
             links,
         } => {
-            let texts = zic_commands::read_sources(alloc, rt, &mut input, &sources)?;
-            build(rt, &plan, &texts, folder.as_str(), links)?
+            *texts = zic_commands::read_sources(alloc, rt, &mut input, &sources)?;
+            build(rt, &plan, texts, folder.as_str(), links)?
         }
         Request::Convert {
             source,
@@ -57,15 +78,8 @@ fn run<
             header,
             progress,
         } => {
-            let texts = zic_commands::read_sources(alloc, rt, &mut input, &[source])?;
-            convert(
-                rt,
-                &plan,
-                &texts,
-                &mut input,
-                header,
-                told(progress, errors),
-            )?
+            *texts = zic_commands::read_sources(alloc, rt, &mut input, &[source])?;
+            convert(rt, &plan, texts, &mut input, header, told(progress, errors))?
         }
         Request::Show { file, instant } => {
             let bytes = zic_commands::read_file(alloc, rt, file.as_str())?;

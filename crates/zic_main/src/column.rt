@@ -1,0 +1,71 @@
+//! The text of a record of the column, which is read again where standard input is a file.
+
+use csv::{ByteRecord, ReaderBuilder};
+use std::fs::{self, Files};
+use std::io::{Read, Seek, SeekFrom};
+
+/// A path that opens the file of standard input anew.
+const INPUT: &str = "/dev/stdin";
+
+/// What the system tells of the open file of standard input.
+const INPUT_INFO: &str = "/proc/self/fdinfo/0";
+
+/// The greatest number of bytes that are read of a record.
+const LONGEST: u64 = 1_024;
+
+/// Returns the offset of the next byte of standard input in its file, if it is a file.
+pub(crate) fn column_start<R: Files + AllocGlobal>(rt: &R) -> Option<u64> {
+    if !fs::metadata(rt, INPUT).ok()?.is_file() {
+        return None;
+    }
+    let info = fs::read_to_string(rt, INPUT_INFO).ok()?;
+    let first = info.as_str().lines().next()?;
+    first.strip_prefix("pos:")?.trim().parse::<u64>().ok()
+}
+
+/// Returns the text of the record of this number, from 1 on, in the file of standard input from
+/// this offset on, cut where it is long; `None` where it can't be read.
+pub(crate) fn record_at<R: Files + AllocGlobal>(rt: &R, start: u64, row: u64) -> Option<Vec<u8>> {
+    let (from, to) = record_range(rt, start, row)?;
+    let mut file = fs::open(rt, INPUT).ok()?;
+    file.seek(SeekFrom::Start(start.checked_add(from)?)).ok()?;
+    let mut text = Vec::new(rt.alloc());
+    let length = to.checked_sub(from)?;
+    file.take(length.min(LONGEST)).read_to_end(&mut text).ok()?;
+    let record = without_start(from, &text);
+    if record.is_empty() {
+        return None;
+    }
+    Vec::from_slice(rt.alloc(), record).ok()
+}
+
+/// Returns what stands after a byte order mark at the start of the column, and after line ends.
+fn without_start(from: u64, text: &[u8]) -> &[u8] {
+    let text = match text {
+        [0xef, 0xbb, 0xbf, text @ ..] if from == 0 => text,
+        _ => text,
+    };
+    match text.iter().position(|byte| !matches!(*byte, b'\r' | b'\n')) {
+        Some(start) => text.get(start..).unwrap_or(text),
+        None => &[],
+    }
+}
+
+/// Returns the places in the column where the record of this number begins and ends.
+fn record_range<R: Files + AllocGlobal>(rt: &R, start: u64, row: u64) -> Option<(u64, u64)> {
+    let mut file = fs::open(rt, INPUT).ok()?;
+    file.seek(SeekFrom::Start(start)).ok()?;
+    let mut reader = ReaderBuilder::new()
+        .has_headers(false)
+        .flexible(true)
+        .from_reader(rt.alloc(), file);
+    let mut record = ByteRecord::new(rt.alloc());
+    let mut from = 0;
+    for _ in 0..row {
+        from = reader.position().byte();
+        if !reader.read_byte_record(&mut record).ok()? {
+            return None;
+        }
+    }
+    Some((from, reader.position().byte()))
+}

@@ -1,0 +1,163 @@
+//! What is told of a failure after its first line, where that is asked for. It is help for people:
+//! no contract says what it tells.
+
+use crate::column::{column_start, record_at};
+use crate::failure::Refusal;
+use std::alloc::{AllocError, Global};
+use std::fs::Files;
+use zic_command_line::Request;
+use zic_commands::{Failure, kind_name, reason_name, row_kind_name};
+use zic_explain::{entries, expectation, line_place, nearest_zone, row_place};
+use zic_plan::RowKind;
+
+/// What is kept of a request and of what was read, to explain a failure.
+#[derive(Drop)]
+pub(crate) struct Kept {
+    /// The words that name sources or a file.
+    words: Vec<String>,
+    /// The texts of the sources, as far as all of them were read.
+    pub(crate) texts: Vec<Vec<u8>>,
+    /// Where standard input begins in its file, if it is one.
+    start: Option<u64>,
+    /// The number of records before the rows of the column: 1 for a header, else 0.
+    before: u64,
+}
+
+impl Kept {
+    /// Returns what is kept of a request before it is answered.
+    pub(crate) fn new<R: Files + AllocGlobal>(rt: &R, request: &Request) -> Result<Kept, Failure> {
+        Ok(Kept {
+            words: words_of(rt.alloc(), request)?,
+            texts: Vec::new(rt.alloc()),
+            start: column_start(rt),
+            before: records_before(request),
+        })
+    }
+
+    /// Returns the refusal for a failure, with its explanation. Where memory runs out for that,
+    /// there is none.
+    pub(crate) fn explained<R: Files + AllocGlobal>(&self, rt: &R, failure: Failure) -> Refusal {
+        match self.explanation(rt, &failure) {
+            Ok(text) if !text.is_empty() => Refusal::Explained { failure, text },
+            _ => Refusal::Command(failure),
+        }
+    }
+
+    /// Returns the lines that explain a failure, without the last line end.
+    fn explanation<R: Files + AllocGlobal>(
+        &self,
+        rt: &R,
+        failure: &Failure,
+    ) -> Result<String, AllocError> {
+        let alloc = rt.alloc();
+        let mut text = self.place(rt, failure)?;
+        let entries = entries(alloc)?;
+        let expected = expectation(alloc, &entries, name_of(failure))?;
+        text.push_str(expected.as_str())?;
+        let _ = text.pop();
+        Ok(text)
+    }
+
+    /// Returns the lines that say where a failure is, if it is at a place.
+    fn place<R: Files + AllocGlobal>(
+        &self,
+        rt: &R,
+        failure: &Failure,
+    ) -> Result<String, AllocError> {
+        let alloc = rt.alloc();
+        let path = self.word(0);
+        match failure {
+            Failure::Line { line, kind } => { line_place(alloc, *kind, path, self.text(0), *line) }
+            Failure::TextLine { text, line, kind } => {
+                let text = text.saturating_sub(1) as usize;
+                line_place(alloc, *kind, self.word(text), self.text(text), *line)
+            }
+            Failure::File(_) => format!(in alloc; "--> {path}\n"),
+            Failure::Row { row, kind } => self.row_place(rt, *kind, *row),
+            _ => Ok(String::new(alloc)),
+        }
+    }
+
+    /// Returns the lines that say where the fault of a row is, and which zone's name is nearest.
+    fn row_place<R: Files + AllocGlobal>(
+        &self,
+        rt: &R,
+        kind: RowKind,
+        row: u64,
+    ) -> Result<String, AllocError> {
+        let alloc = rt.alloc();
+        let Some(record) = self.start.and_then(|start| record_at(
+            rt,
+            start,
+            self.before.saturating_add(row),
+        ))
+        else {
+            return row_place(alloc, kind, row, None);
+        };
+        let mut text = row_place(alloc, kind, row, Some(&record))?;
+        if kind == RowKind::RowZone {
+            let nearest = nearest_zone(alloc, self.text(0), &record)?;
+            text.push_str(nearest.as_str())?;
+        }
+        Ok(text)
+    }
+
+    /// Returns the word at this index, or an empty text.
+    fn word(&self, index: usize) -> &str {
+        match self.words.get(index) {
+            Some(word) => word.as_str(),
+            None => "",
+        }
+    }
+
+    /// Returns the text at this index, or an empty one.
+    fn text(&self, index: usize) -> &[u8] {
+        match self.texts.get(index) {
+            Some(text) => text,
+            None => &[],
+        }
+    }
+}
+
+/// Returns the number of records of the column that are no rows.
+fn records_before(request: &Request) -> u64 {
+    match request {
+        Request::Convert { header: true, .. } => 1,
+        _ => 0,
+    }
+}
+
+/// Returns the words of a request that name sources or a file.
+fn words_of(alloc: Global, request: &Request) -> Result<Vec<String>, AllocError> {
+    let mut words = Vec::new(alloc);
+    match request {
+        Request::Check { source, .. } | Request::Convert { source, .. } => {
+            words.push(source.clone()?)?
+        }
+        Request::Build { sources, .. } => {
+            for source in sources {
+                words.push(source.clone()?)?;
+            }
+        }
+        Request::Show { file, .. } | Request::Dump { file, .. } => words.push(file.clone()?)?,
+        Request::Explain { .. } | Request::Version { .. } => {}
+    }
+    Ok(words)
+}
+
+/// Returns the name under which a failure is explained.
+fn name_of(failure: &Failure) -> &'static str {
+    match failure {
+        Failure::Line { kind, .. } | Failure::TextLine { kind, .. } => kind_name(*kind),
+        Failure::Row { kind, .. } => row_kind_name(*kind),
+        Failure::ColumnTooLong => "ColumnTooLong",
+        Failure::File(reason) => reason_name(*reason),
+        Failure::CannotRead(_) => "cannot read PATH",
+        Failure::CannotReadColumn => "cannot read column",
+        Failure::CannotWrite(_) => "cannot write PATH",
+        Failure::CannotWriteRows => "cannot write rows",
+        Failure::CannotWriteOutput => "cannot write output",
+        Failure::Memory => "out of memory",
+        Failure::NoThread => "no thread",
+    }
+}
