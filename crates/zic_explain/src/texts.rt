@@ -591,7 +591,7 @@ Right:
 
 Usual cause:
   Another separator, or more fields: `cut -d , -f 1,2` keeps two. In row 1: a
-  header with other columns.
+  header with other columns, which `--header` passes over.
 @RowZone?The source has no zone or link of that name.?  The source has no zone or link of that name.
 ?  A name exactly as in the source, including upper and lower case.
 ?
@@ -605,11 +605,11 @@ It prints:
   row 1: RowZone
 
 Right:
-  $ printf 'zone,instant\nEtc/UTC,0\n' | tail -n +2 | pzic convert utc.zi
+  $ printf 'zone,instant\nEtc/UTC,0\n' | pzic convert --header utc.zi
 
 Usual cause:
-  In row 1: a header, which `tail -n +2` removes. Otherwise a name of another
-  release or of `backward`, or an abbreviation such as `PST`.
+  In row 1: a header, which `--header` passes over. Otherwise a name of
+  another release or of `backward`, or an abbreviation such as `PST`.
 @RowInstant?The second field isn't an instant.?  The second field isn't an instant.
 ?  Seconds since 1970-01-01T00:00:00 UT: 1 to 18 digits, with `-` before them
   for earlier instants, without `+`, spaces or a fraction.
