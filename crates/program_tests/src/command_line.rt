@@ -20,6 +20,7 @@ fn asked(alloc: Global, line: &str) -> Result<String, Fail> {
                 folder,
                 sources,
                 plan,
+                links,
             },
         ) => {
             let (workers, piece) = (plan.workers(), plan.zone_piece());
@@ -29,6 +30,9 @@ fn asked(alloc: Global, line: &str) -> Result<String, Fail> {
                 text.push_str(source.as_str())?;
             }
             write!(text, " by {workers} of {piece}")?;
+            if links != Links::Copy {
+                write!(text, ", {links:?}")?;
+            }
             Ok(text)
         }
         Ok(
@@ -82,6 +86,15 @@ fn words_are_a_request_or_a_usage_fault(rt: HostRuntime) -> Result<(), Fail> {
         ("pzic build --workers 1 D a - b", "build D a - b by 1 of 16"),
         ("pzic build D - a -", "usage"),
         ("pzic build D", "usage"),
+        ("pzic build --links copy D a", "build D a by 4 of 16"),
+        ("pzic build --links hard D a", "build D a by 4 of 16, Hard"),
+        (
+            "pzic build D a --links=symlink",
+            "build D a by 4 of 16, Symbolic",
+        ),
+        ("pzic build --links soft D a", "usage"),
+        ("pzic build --links hard --links hard D a", "usage"),
+        ("pzic check --links hard a", "usage"),
         ("pzic show f 12", "show f 12"),
         ("pzic show f -- -1", "show f -1"),
         ("pzic show f +1", "usage"),

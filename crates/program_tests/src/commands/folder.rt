@@ -147,6 +147,16 @@ impl<'a> Files for Disk<'a> {
         self.log.note("remove", path)
     }
 
+    fn hard_link(&self, original: &str, link: &str) -> io::Result<()> {
+        self.log.note("file", original)?;
+        self.log.note("link", link)
+    }
+
+    fn symlink(&self, original: &str, link: &str) -> io::Result<()> {
+        self.log.note("text", original)?;
+        self.log.note("symlink", link)
+    }
+
     fn create_dir(&self, path: &str) -> io::Result<()> {
         self.log.note("folder", path)
     }
@@ -158,6 +168,114 @@ impl<'a> Files for Disk<'a> {
     fn remove_dir_all<B: Allocator>(&self, _alloc: B, _path: &str) -> io::Result<()> {
         Err(io::Error::from(ErrorKind::Unsupported))
     }
+}
+
+/// Returns the calls that placing the links of a source in the folder D makes, followed by the text
+/// and status of its failure, if it fails.
+fn linked<'a, T: Threads + Wait + Sync>(
+    rt: &T,
+    alloc: Global,
+    kind: LinkKind,
+    (fails, error): (&'a str, ErrorKind),
+) -> Result<String, Fail> {
+    let calls = RefCell::new(String::new(alloc));
+    let log = Log {
+        alloc,
+        calls: &calls,
+        fails,
+        kind: error,
+    };
+    let disk = Disk {
+        log,
+        bytes: b"",
+        names: b"UTC\0",
+    };
+    let done = build_links(rt, alloc, &disk, kind);
+    let mut told_calls = calls.into_inner();
+    if let Err(failure) = done? {
+        told_calls.push_str(told(alloc, failure)?.as_str())?;
+    }
+    Ok(told_calls)
+}
+
+/// Returns the answer of `build_linked` for a zone and its link.
+fn build_links<T: Threads + Wait + Sync>(
+    rt: &T,
+    alloc: Global,
+    disk: &Disk<'_>,
+    kind: LinkKind,
+) -> Result<Result<(), Failure>, Fail> {
+    let plan = plan(2)?;
+    let mut text = Vec::new(alloc);
+    text.extend_from_slice(b"Link Z/UTC L/M/UTC\nZone Z/UTC 0 - UTC\n")?;
+    let folder = LinkedFolder { path: "D", kind };
+    let mut tree = zic_commands::Disk::new(alloc, disk, 7);
+    Ok(build_linked(rt, alloc, &plan, &[text], &mut tree, &folder))
+}
+
+#[test]
+fn a_link_is_made_after_its_file_and_before_it_has_its_name(rt: HostRuntime) -> Result<(), Fail> {
+    let file = "list D/Z/\ncreate D/Z/~pzic7\nwrite 111\nflush \nrename D/Z/~pzic7\nto D/Z/UTC\n";
+    let hard = "file D/Z/UTC\nlink D/L/M/~pzic7\n";
+    let text = "text ../../Z/UTC\nsymlink D/L/M/~pzic7\n";
+    let rename = "rename D/L/M/~pzic7\n";
+    let rows = [
+        (
+            LinkKind::Hard,
+            "",
+            ErrorKind::Other,
+            [hard, rename, "to D/L/M/UTC\n", "remove D/L/M/~pzic7\n"],
+        ),
+        (
+            LinkKind::Symbolic,
+            "",
+            ErrorKind::Other,
+            [text, rename, "to D/L/M/UTC\n", ""],
+        ),
+        (
+            LinkKind::Hard,
+            "link D/L/M/~pzic7",
+            ErrorKind::Other,
+            [hard, "", "", "cannot write D/L/M/UTC, status 3"],
+        ),
+        // another run has a file of the same name
+        (
+            LinkKind::Symbolic,
+            "symlink D/L/M/~pzic7",
+            ErrorKind::AlreadyExists,
+            [
+                text,
+                "text ../../Z/UTC\nsymlink D/L/M/~pzic8\n",
+                "rename D/L/M/~pzic8\n",
+                "to D/L/M/UTC\n",
+            ],
+        ),
+        (
+            LinkKind::Hard,
+            "rename D/L/M/~pzic7",
+            ErrorKind::Other,
+            [
+                hard,
+                rename,
+                "remove D/L/M/~pzic7\n",
+                "cannot write D/L/M/UTC, status 3",
+            ],
+        ),
+    ];
+    for (kind, fails, error, calls) in rows {
+        let got = linked(&rt, rt.alloc(), kind, (fails, error))?;
+        let mut want = String::from_str(rt.alloc(), file)?;
+        want.push_str("list D/L/M/\n")?;
+        for call in calls {
+            want.push_str(call)?;
+        }
+        assert_eq!(rt;
+            got.as_str(),
+            want.as_str(),
+            "of {kind:?} where {fails:?} fails"
+        );
+    }
+    Ok(())
 }
 
 /// Returns the calls that `build` makes for the words, followed by the text and status of its

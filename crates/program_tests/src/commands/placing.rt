@@ -23,16 +23,27 @@ struct Kept {
     bytes: Vec<u8>,
 }
 
+/// A link in the tree.
+#[derive(Drop)]
+struct KeptLink {
+    kind: LinkKind,
+    path: String,
+    target: String,
+}
+
 /// A tree in memory that refuses one path.
 #[derive(Drop)]
 struct Shelf<'a> {
     alloc: Global,
     files: Vec<Kept>,
+    links: Vec<KeptLink>,
     refuses: &'a str,
 }
 
 impl<'a> Tree for Shelf<'a> {
     ghost placed = { λ shelf. Some (map (λ file. record { path = string_bytes file.path; bytes = file.bytes.items }) shelf.files.items) };
+
+    ghost linked = { λ shelf. Some (map (λ link. record { kind = link.kind; path = string_bytes link.path; target = string_bytes link.target }) shelf.links.items) };
 
     fn place(&mut self, path: &str, bytes: &[u8]) -> Result<(), Unplaced> {
         if path == self.refuses {
@@ -42,6 +53,18 @@ impl<'a> Tree for Shelf<'a> {
         let mut copy = Vec::new(self.alloc);
         copy.extend_from_slice(bytes)?;
         match self.files.push(Kept { path, bytes: copy }) {
+            Ok(()) => Ok(()),
+            Err(_) => Err(Unplaced::Memory),
+        }
+    }
+
+    fn link(&mut self, kind: LinkKind, target: &str, path: &str) -> Result<(), Unplaced> {
+        if path == self.refuses {
+            return Err(Unplaced::Refused);
+        }
+        let path = String::from_str(self.alloc, path)?;
+        let target = String::from_str(self.alloc, target)?;
+        match self.links.push(KeptLink { kind, path, target }) {
             Ok(()) => Ok(()),
             Err(_) => Err(Unplaced::Memory),
         }
@@ -60,6 +83,7 @@ fn placed<T: Threads + Wait + Sync>(
     let mut tree = Shelf {
         alloc,
         files: Vec::new(alloc),
+        links: Vec::new(alloc),
         refuses,
     };
     let told = match build(rt, alloc, &plan(2)?, &[text], &mut tree, "D") {
@@ -94,6 +118,51 @@ fn a_refused_file_ends_the_command_and_is_named(rt: HostRuntime) -> Result<(), F
     for file in &files {
         assert_eq!(rt; file.path.as_str(), "D/Etc/UTC");
         assert_eq!(rt; &file.bytes[..], UTC_FILE.as_slice());
+    }
+    Ok(())
+}
+
+#[test]
+fn links_lead_to_the_files_of_their_zones(rt: HostRuntime) -> Result<(), Fail> {
+    let alloc = rt.alloc();
+    let mut text = Vec::new(alloc);
+    text.extend_from_slice(b"Link East A/B/East\n")?;
+    text.extend_from_slice(SOURCE.as_bytes())?;
+    let texts = [text];
+    let rows = [
+        (LinkKind::Hard, ["D/Z/EST", "D/Z/EST"]),
+        (LinkKind::Symbolic, ["../../Z/EST", "Z/EST"]),
+    ];
+    for (kind, targets) in rows {
+        let mut tree = Shelf {
+            alloc,
+            files: Vec::new(alloc),
+            links: Vec::new(alloc),
+            refuses: "",
+        };
+        let folder = LinkedFolder { path: "D", kind };
+        if let Err(failure) = build_linked(&rt, alloc, &plan(2)?, &texts, &mut tree, &folder) {
+            assert_eq!(rt; told(alloc, failure)?.as_str(), "");
+        }
+        assert_eq!(rt; tree.files.len(), 2);
+        for (file, (path, bytes)) in tree
+            .files
+            .iter()
+            .zip([("D/Etc/UTC", UTC_FILE), ("D/Z/EST", EST_FILE)])
+        {
+            assert_eq!(rt; file.path.as_str(), path);
+            assert_eq!(rt; &file.bytes[..], bytes.as_slice(), "at {path:?}");
+        }
+        assert_eq!(rt; tree.links.len(), 2);
+        for (link, (path, target)) in tree
+            .links
+            .iter()
+            .zip(["D/A/B/East", "D/East"].into_iter().zip(targets))
+        {
+            assert_eq!(rt; link.kind, kind);
+            assert_eq!(rt; link.path.as_str(), path);
+            assert_eq!(rt; link.target.as_str(), target, "at {path:?}");
+        }
     }
     Ok(())
 }
