@@ -16,3 +16,4 @@ pub mod Masks
 pub mod RecordCounts
 pub mod Pairs
 pub mod Passing
+pub mod PairFacts

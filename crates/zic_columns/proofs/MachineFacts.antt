@@ -50,13 +50,13 @@ starts : (byte : ℕ) (more : List ℕ) (fields : List (List ℕ)) (field : List
 unfolding next_record
 starts byte more fields field within = rw within refl
 
-from_start : (bytes more : List ℕ) → BeginsRecord bytes
+pub from_start : (bytes more : List ℕ) → BeginsRecord bytes
     → next_record default_config st.StartRecord [] [] (bytes ++ more) ≡ next_record default_config st.StartField [] [] (bytes ++ more)
 from_start [] more begins = absurd (omega (arith, begins.some))
 from_start (byte ∷ bytes) more begins = starts byte (bytes ++ more) [] [] begins.begins
 
 -- a machine that stands before a record reads on as at the start
-before_record : (t : State) (bytes : List ℕ) (records : List (List (List ℕ))) → ends_at_end t ≡ false → AreColumnRecords bytes records → AreRecords default_config t bytes records
+pub before_record : (t : State) (bytes : List ℕ) (records : List (List (List ℕ))) → ends_at_end t ≡ false → AreColumnRecords bytes records → AreRecords default_config t bytes records
 before_record st.StartRecord bytes records before are = are
 before_record st.AfterCr bytes records before are = records-after 13 bytes records are
 before_record st.StartField bytes records before are = absurd (cc before)

@@ -8,3 +8,4 @@ pub mod Cutting
 pub mod Hand
 pub mod Split
 pub mod Block
+pub mod Pair

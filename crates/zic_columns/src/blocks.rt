@@ -71,6 +71,22 @@ pub(crate) fn near_field_end(bytes: &[u8], from: usize) -> Option<usize>
     Some(from + ends.trailing_zeros() as usize)
 }
 
+/// Returns the index of the first double quote among the first 32 bytes, where there are as many.
+#[inline(always)]
+pub(crate) fn near_quote(bytes: &[u8]) -> Option<usize>
+    ensures { IfSome result (λ at.
+        IsFirst (Passes (λ byte. byte == 34) bytes.now) 0 (length bytes.now) (Some at)) }
+{
+    if bytes.len() < BLOCK {
+        return None;
+    }
+    let quotes = quotes_at(bytes, 0);
+    if quotes == 0 {
+        return None;
+    }
+    Some(quotes.trailing_zeros() as usize)
+}
+
 /// Returns whether the bytes before an index are none, or the last of them ends a line.
 #[inline(always)]
 fn begins_line(bytes: &[u8], at: usize) -> bool

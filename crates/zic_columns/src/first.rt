@@ -8,7 +8,7 @@ ghost use Rattle.zic_columns.specs.code.Machine.{BeginsRecord};
 
 use crate::blocks::pass_records;
 use crate::line::after_line_ends;
-use crate::machine::{Place, record_end};
+use crate::pair::whole_record_end;
 use memchr::memchr3;
 
 /// Returns the length in bytes of the record at the start of the bytes, by a CSV reader's machine.
@@ -16,7 +16,7 @@ fn quoted_len(bytes: &[u8]) -> usize
     requires { BeginsRecord bytes.now }
     ensures { IsFirstRecord bytes.now result }
 {
-    match record_end(Place::Start, bytes) {
+    match whole_record_end(bytes) {
         Ok(len) => len,
         Err(_) => bytes.len(),
     }

@@ -6,6 +6,7 @@ ghost use Rattle.zic_columns.specs.Cut.{AreCutAfterLines};
 ghost use Rattle.zic_columns.specs.code.Hand.{BeginWithLines, IsScanned};
 
 use crate::machine::{Place, record_end};
+use crate::pair::whole_record_end;
 use crate::quote::first_quote;
 use memchr::memrchr2;
 
@@ -52,7 +53,7 @@ pub(crate) fn scan_from(bytes: &[u8], start: usize) -> Scan
         if whole == bytes.len() {
             break;
         }
-        match record_end(Place::Start, &bytes[whole..]) {
+        match whole_record_end(&bytes[whole..]) {
             Ok(len) => whole += len,
             Err(place) => {
                 return Scan {

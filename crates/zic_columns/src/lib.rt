@@ -18,6 +18,7 @@ mod limit;
 mod line;
 mod machine;
 mod mark;
+mod pair;
 mod pieces;
 mod plain;
 mod quote;

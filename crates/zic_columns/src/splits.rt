@@ -6,6 +6,7 @@ ghost use Rattle.zic_columns.specs.Column.{column_records};
 ghost use Rattle.zic_columns.specs.Record.{YieldsRecord};
 
 use crate::entry::Record;
+use crate::pair::{Pair, PairRecords, pairs_of};
 use crate::plain::PlainRecords;
 use crate::quote::first_quote;
 use crate::quoted::{read_records, record_of_fields};
@@ -13,11 +14,12 @@ use csv::ByteRecord;
 use std::alloc::{AllocError, Global};
 use std::marker::Model;
 
-/// The source of the records of a piece: lines without a double quote, or records that a CSV
-/// reader gave.
+/// The source of the records of a piece: lines without a double quote, records of two fields whose
+/// text stands in the piece, or records that a CSV reader gave.
 #[derive(Drop)]
 enum Found<'a> {
     Lines(&'a [u8]),
+    Pairs(Vec<Pair<'a>>),
     Read(Vec<ByteRecord>),
 }
 
@@ -41,6 +43,7 @@ impl<'a> Model for Split<'a> {
 #[derive(Drop)]
 enum Left<'a> {
     Lines(PlainRecords<'a>),
+    Pairs(PairRecords<'a>),
     Read(&'a [ByteRecord]),
 }
 
@@ -75,6 +78,11 @@ impl<'a> Split<'a> {
                 found: Found::Lines(bytes),
             });
         }
+        if let Some(pairs) = pairs_of(alloc, bytes)? {
+            return Ok(Split {
+                found: Found::Pairs(pairs),
+            });
+        }
         let records = read_records(alloc, bytes)?;
         Ok(Split {
             found: Found::Read(records),
@@ -87,6 +95,7 @@ impl<'a> Split<'a> {
     {
         let left = match &self.found {
             Found::Lines(lines) => Left::Lines(PlainRecords::new(lines)),
+            Found::Pairs(pairs) => Left::Pairs(PairRecords::new(pairs)),
             Found::Read(records) => Left::Read(records),
         };
         Records { left }
@@ -103,6 +112,7 @@ impl<'a> Iterator for Records<'a> {
     fn next(&mut self) -> Option<Record<'a>> {
         match &mut self.left {
             Left::Lines(records) => records.next(),
+            Left::Pairs(records) => records.next(),
             Left::Read(records) => {
                 let (first, rest) = records.split_first()?;
                 *records = rest;
