@@ -2,14 +2,14 @@
 //! `program_tests`.
 #![tactic(auto)]
 
-mod converting;
+mod conversion;
 mod halt;
 pub mod laws;
+mod output;
 mod pieces;
 mod query;
 mod round;
 mod row;
-mod writing;
 mod zone_cache;
 
-pub use converting::{convert, convert_after_header};
+pub use conversion::{convert, convert_after_header};

@@ -6,9 +6,9 @@ ghost use Rattle.zic_convert.specs.code.Pieces.{ArePieces, IsOutcomeOf};
 ghost use Rattle.zic_columns.specs.declared.pieces.TheConstants.{MAX_ROUND_PIECES};
 ghost use Rattle.zic_convert.specs.code.Written.{EndsInRound, WritesRound};
 
+use crate::output::write_rows;
 use crate::pieces::RowPieces;
 use crate::row::Rows;
-use crate::writing::write_rows;
 use std::alloc::Global;
 use std::io::Write;
 use std::sync::Wait;

@@ -2,7 +2,7 @@ use Rattle.std.proofs.Common.{ℕ, List, drop}
 use Rattle.zic_convert.specs.code.Pieces.{joined}
 use Rattle.zic_convert.specs.code.Written.{Wrote}
 use Rattle.zic_convert.proofs.Writings.{IsLeft}
-use Rattle.zic_convert.proofs.writing.write_rows.Given as goal
+use Rattle.zic_convert.proofs.output.write_rows.Given as goal
 
 -- what was written, and then the rows of the pieces that are left, is all
 abbrev pub invariant-loop-rows : goal.invariant-loop-rows

@@ -6,7 +6,7 @@ use Rattle.zic_columns.specs.Round.{unread}
 use Rattle.zic_convert.proofs.Progress.{all_as, as_column, at_start, halt_as, if_err_some, if_ok_some, if_some, unread_part}
 use Rattle.zic_convert.proofs.Sounds.{all_known}
 use Rattle.zic_convert.specs.declared.halt.Halt.TheVariants as halt
-use Rattle.zic_convert.proofs.converting.convert_column.Goals as goal
+use Rattle.zic_convert.proofs.conversion.convert_column.Goals as goal
 
 pub returns-in_err-column-clause-halt : goal.returns-in_err-column-clause-halt
 returns-in_err-column-clause-halt g c =

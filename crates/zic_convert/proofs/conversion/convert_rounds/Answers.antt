@@ -8,7 +8,7 @@ use Rattle.zic_convert.proofs.Halts.{all_done, as_many, ends_at_flush, ends_in_r
 use Rattle.zic_convert.proofs.Joining.{rows_of_round, some_records}
 use Rattle.zic_convert.proofs.Progress.{at_start, if_some, none_taken, taken_come_next, unread_part}
 use Rattle.zic_convert.proofs.Sounds.{all_known}
-use Rattle.zic_convert.proofs.converting.convert_rounds.Goals as goal
+use Rattle.zic_convert.proofs.conversion.convert_rounds.Goals as goal
 
 -- a round without a piece takes no record
 no_piece : (old new : Option (List ℕ)) (pieces : List (List ℕ)) → (0 < length pieces → ⊥) → Takes old new (records_of pieces) → Takes old new []

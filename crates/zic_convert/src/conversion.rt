@@ -12,9 +12,9 @@ ghost use Rattle.zic_convert.specs.code.Progress.{RowsOfRecords};
 ghost use Rattle.zic_convert.specs.code.Halt.{IsCauseOfHalt, IsReadingStop, WritesAtHalt};
 
 use crate::halt::Halt;
+use crate::output::flush;
 use crate::pieces::RowPieces;
 use crate::round::convert_round;
-use crate::writing::flush;
 use std::alloc::Global;
 use std::io::{Read, Write};
 use std::sync::Wait;

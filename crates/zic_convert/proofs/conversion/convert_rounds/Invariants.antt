@@ -2,7 +2,7 @@ use Rattle.std.proofs.Common.{◌≡◌, ◌≤◌, ◌+◌, ◌-◌, ℕ, List,
 use Rattle.zic_columns.specs.Column.{column_records}
 use Rattle.zic_columns.specs.Round.{unread}
 use Rattle.zic_convert.specs.code.Progress.{IsSoFar}
-use Rattle.zic_convert.proofs.converting.convert_rounds.Given as goal
+use Rattle.zic_convert.proofs.conversion.convert_rounds.Given as goal
 
 abbrev pub invariant-loop-column : goal.invariant-loop-column
 invariant-loop-column g l = record {

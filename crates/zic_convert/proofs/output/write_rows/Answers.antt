@@ -8,7 +8,7 @@ use Rattle.zic_convert.specs.code.Written.{Wrote}
 use Rattle.zic_convert.specs.code.Pieces.{joined}
 use Rattle.zic_convert.proofs.Bytes.{wrote_both, wrote_part}
 use Rattle.zic_convert.proofs.Writings.{IsLeft, next_part, next_left, piece_done, fault_next}
-use Rattle.zic_convert.proofs.writing.write_rows.Goals as goal
+use Rattle.zic_convert.proofs.output.write_rows.Goals as goal
 
 -- no fault is there
 none_of : (o : Option RowKind) → ((kind : RowKind) → o ≡ Some kind → ⊥) → o ≡ None

@@ -9,7 +9,7 @@ use Rattle.zic_convert.specs.Convert.{WritesAllOf}
 use Rattle.zic_convert.specs.code.Halt.{WritesAtHalt}
 use Rattle.zic_convert.specs.code.Progress.{RowsOfRecords}
 use Rattle.zic_convert.proofs.Sounds.{all_known}
-use Rattle.zic_convert.proofs.converting.convert_body.Goals as goal
+use Rattle.zic_convert.proofs.conversion.convert_body.Goals as goal
 
 pub returns-in_err-column-clause-halt : goal.returns-in_err-column-clause-halt
 returns-in_err-column-clause-halt g c =
