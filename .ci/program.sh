@@ -282,16 +282,18 @@ expect 1 '' "line 1: Month
 --> faulty:1, field 6 (IN)
 $month" convert --explain faulty
 expect 1 '' 'line 1: Month' check faulty
-expect 1 '' 'file: Magic
+expect 1 '' 'file: Short
 --> plain
 
 Expected:
-  A compiled file.' show --explain plain 0
-expect 1 '' 'file: Magic
+  Two headers of 44 bytes with their data blocks, and a footer between two
+  newlines.' show --explain plain 0
+expect 1 '' 'file: Short
 --> plain
 
 Expected:
-  A compiled file.' dump --explain plain
+  Two headers of 44 bytes with their data blocks, and a footer between two
+  newlines.' dump --explain plain
 expect 3 '' 'cannot read nowhere
 
 Expected:

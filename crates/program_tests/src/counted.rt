@@ -127,21 +127,6 @@ fn flushes_are_passed_on(rt: HostRuntime) {
     assert!(rt; writer.into_inner().answers.is_empty());
 }
 
-#[test]
-fn counts_stay_at_their_greatest_value(rt: HostRuntime) {
-    let answers = [Answer::Bytes(3), OTHER, OTHER, Answer::Bytes(1)];
-    let mut reader = Counted {
-        inner: Scripted { answers: &answers },
-        failures: u64::MAX - 1,
-        taken: u64::MAX - 2,
-    };
-    for answer in &answers {
-        assert_eq!(rt; told(reader.read(&mut [0; 4])), *answer);
-    }
-    assert_eq!(rt; (reader.failures(), reader.taken()), (u64::MAX, u64::MAX));
-    assert!(rt; reader.has_failed_since(u64::MAX));
-}
-
 /// Why a reader is not read whole.
 #[derive(Clone, Copy, Debug, PartialEq, Eq)]
 enum Unread {

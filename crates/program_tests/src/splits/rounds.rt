@@ -117,22 +117,19 @@ fn rest_of<R: Read + Drop>(
     Ok(None)
 }
 
-/// Returns the number of records of a column that is cut into pieces of `size` records, or `None`
-/// where a piece has more.
-pub(super) fn count_in_pieces(
+/// Returns the records of a column in pieces of `size` records, each as its two fields with `=`
+/// between them, or nothing for another number of fields, and `|`; `None` where a piece has more.
+pub(super) fn text_in_pieces(
     alloc: Global,
     bytes: &[u8],
     size: usize,
-) -> Result<Option<usize>, Fail> {
+) -> Result<Option<Vec<u8>>, Fail> {
     let device = Device {
         rest: bytes,
         step: 100_000,
         fails: None,
     };
-    let Some((text, _)) = shown(alloc, device, 1_000_000, (1000, size))? else {
-        return Ok(None);
-    };
-    Ok(Some(text.iter().filter(|byte| **byte == b'|').count()))
+    Ok(shown(alloc, device, 1_000_000, (1000, size))?.map(|(text, _)| text))
 }
 
 #[test]
