@@ -125,7 +125,7 @@ enum Written {
     Placed,
     /// The temporary name is that of another file.
     Taken,
-    /// Another run removed it before it had its name.
+    /// Another run removed it, or replaced what it links to, before it had its name.
     Removed,
 }
 
@@ -230,6 +230,10 @@ impl<'a, F: FileSystem> Disk<'a, F> {
         match made {
             Ok(()) => {}
             Err(e) if e.kind() == ErrorKind::AlreadyExists => return Ok(Written::Taken),
+            // Another run gave the path of the zone's file to a file of its own at that moment.
+            Err(e) if kind == LinkKind::Hard && e.kind() == ErrorKind::NotFound => {
+                return Ok(Written::Removed);
+            }
             Err(e) => return Err(e),
         }
         let written = self.finish(temporary, fs::rename(self.system, temporary, path))?;
