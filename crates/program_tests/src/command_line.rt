@@ -160,36 +160,6 @@ fn words_are_a_request_or_a_usage_fault(rt: HostRuntime) -> Result<(), Fail> {
 }
 
 #[test]
-fn commands_that_can_find_a_fault_take_explain(rt: HostRuntime) -> Result<(), Fail> {
-    let alloc = rt.alloc();
-    for (line, want) in [
-        ("pzic check --explain a", "explained"),
-        ("pzic build --explain D a", "explained"),
-        ("pzic convert a --explain", "explained"),
-        ("pzic show --explain f 0", "explained"),
-        ("pzic dump --explain f", "explained"),
-        ("pzic check a", "not explained"),
-        ("pzic explain", "not explained"),
-        ("pzic --version", "not explained"),
-        ("pzic check --explain --explain a", "usage"),
-        ("pzic check --explain=1 a", "usage"),
-        ("pzic explain --explain", "usage"),
-    ] {
-        let mut words = Vec::new(alloc);
-        for word in line.split_whitespace() {
-            words.push(String::from_str(alloc, word)?)?;
-        }
-        let got = match parse(alloc, &words) {
-            Ok(asked) if asked.explain => "explained",
-            Ok(_) => "not explained",
-            Err(_) => "usage",
-        };
-        assert_eq!(rt; got, want, "at {line:?}");
-    }
-    Ok(())
-}
-
-#[test]
 fn usage_calls_the_program_pzic(rt: HostRuntime) -> Result<(), Fail> {
     let alloc = rt.alloc();
     for line in [
