@@ -4,8 +4,8 @@ zoneinfo shows, of our files and of zic's, and with what reader.py reads.
 
 usage: columns.py PROGRAM SOURCE FOLDER
 
-FOLDER has the folders `ours` and `fat`, with our files of SOURCE and those of `zic -b fat`. The column has 100,000 rows, by chance with a
-fixed seed: each name at the first and the last instant that a row may have, and then names by chance at instants by chance from the
+FOLDER has the folders `ours` and `fat`, with our files of SOURCE and those of `zic -b fat`. The column has 100,000 random rows of a
+fixed seed: each name at the first and the last instant that a row may have, and then random names at random instants from the
 year 1 to 9999, at transitions, edges of footers and half years and one second before, or within two hours of these. Python can show
 local time, abbreviation and flag at each. The program converts it by 1 and 4 workers and pieces of 1,024 and 3 rows, as plain lines;
 with a byte order mark and carriage returns; with quotes in one of a hundred records; with quotes, zeros before digits and line ends of all kinds; and with a row that has a

@@ -206,7 +206,7 @@ def compare_by_chance(program, folder, names):
         length = len(octets_of(path))
         changes = [(random.randrange(length), random.randrange(256)) for _ in range(20)]
         expected += expected_of_changed(path, changes)
-    compare_changed(program, "octets by chance of slim files", expected)
+    compare_changed(program, "random bytes of slim files", expected)
 
 
 def main():

@@ -5,7 +5,7 @@ zic_posix/specs/{Meaning,Printing} into Python. Nothing of the project's code is
 usage: footers.py SOURCE FOLDER
 
 Compares the footer of each zone of SOURCE with that of the file that `zic -b fat` made of the same release in FOLDER, octet for
-octet, and what it means with what the zone shows by definitions.py: at the last change, round its edges, and at instants by chance
+octet, and what it means with what the zone shows by definitions.py: at the last change, round its edges, and at random instants
 up to 2110. Prints the numbers of zones and instants, and each difference; the status is 1 if there is one.
 """
 import os

@@ -23,7 +23,7 @@ from datetime import datetime, timedelta, timezone
 from zoneinfo import ZoneInfo
 
 NAMES = ["Z/NY", "Etc/UTC", "Z/I"]
-SPAN = 4102444800                                   # the instants of columns lie within so many seconds of 1970
+SPAN = 4102444800                                   # the instants of columns lie within this number of seconds of 1970
 ENDS = ["\n", "\r\n", "\r", "\n\n", "\r\n\r\n"]
 
 

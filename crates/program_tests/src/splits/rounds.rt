@@ -241,7 +241,7 @@ fn long_records_come_whole(rt: HostRuntime) -> Result<(), Fail> {
 }
 
 #[test]
-fn so_many_bytes_are_read_at_most(rt: HostRuntime) -> Result<(), Fail> {
+fn a_column_has_a_greatest_number_of_bytes(rt: HostRuntime) -> Result<(), Fail> {
     let columns: [&[u8]; 5] = [
         b"a,0\nb,1\n",
         b"a,0\nb,1",
