@@ -22,7 +22,7 @@ pub without_all : (entries : List Entry) (name : List ℕ) (i : ℕ) → length 
 without_all entries name i end before =
     subst (λ (xs : List Entry). HasNoName xs name) (take_all i entries end) before
 
--- an entry has the nearest name, which takes so many edits, and of the first entries none takes fewer
+-- an entry has the nearest name, and `least` is the number of edits to it; none of the first entries takes fewer
 pub record NearestOf (entries : List Entry) (name : List ℕ) (count : ℕ) (nearest : List ℕ) (least : ℕ) : Type 0 where
   pub entry : Entry
   pub has_name : HasName entries nearest entry

@@ -3,9 +3,10 @@ use Rattle.std.proofs.Common.{rules, ◌≡◌, ◌<◌, ◌≤◌, ◌+◌, ℕ
 use Rattle.std.specs.Prelude.{All}
 use Rattle.std.proofs.lemmas.List.{take_all}
 use Rattle.std.proofs.lemmas.List.Elements.{All-more}
-use Rattle.zic_explain.specs.Explanation.{IsNearestAt, edits}
+use Rattle.zic_explain.specs.Explanation.{edits}
+use Rattle.zic_explain.specs.code.Nearest.{IsNearestAt}
 
--- the name at the index takes so many edits, and of the first names none takes fewer
+-- `least` is the number of edits to the name at the index; none of the first names takes fewer
 pub record NearestAt (names : List (List ℕ)) (name : List ℕ) (count index least : ℕ) : Type 0 where
   pub within : index < length names
   pub is : least ≡ edits name (get_or names index [])

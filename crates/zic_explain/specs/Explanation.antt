@@ -1,5 +1,5 @@
 -- The explanations of errors.
-use Rattle.std.specs.Prelude.{◌≡◌, ◌≢◌, ◌≤◌, ◌<◌, ◌⊎◌, ℕ, List, [], ◌∷◌, ◌++◌, codes, length, nat_eq, get_or, All}
+use Rattle.std.specs.Prelude.{◌≡◌, ◌≢◌, ◌≤◌, ◌⊎◌, ℕ, List, [], ◌∷◌, ◌++◌, codes, length, nat_eq, All}
 use Rattle.std.specs.List.{Contains}
 use Rattle.std.specs.Str.{chars}
 use Rattle.strsim.specs.Edits.{levenshtein_row}
@@ -50,11 +50,6 @@ abbrev pub IsExpectation : List Entry → List ℕ → List ℕ → Type 0
 IsExpectation entries name text =
     (HasNoName entries name × (text ≡ []))
     ⊎ ((entry : Entry) × HasName entries name entry × (text ≡ section (codes "Expected") entry.expected.now))
-
--- the name at this index takes as few edits from a name as any
-pub record IsNearestAt (names : List (List ℕ)) (name : List ℕ) (index : ℕ) : Type 0 where
-  pub within : index < length names
-  pub least : All (λ other. edits name (get_or names index []) ≤ edits name other) names
 
 -- why there is no explanation: no error has the name, or memory ran out
 abbrev pub IsUnexplained : List Entry → List ℕ → Unexplained → Type 0

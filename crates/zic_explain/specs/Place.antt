@@ -10,10 +10,6 @@ IsShown byte = (byte ≡ 9) ⊎ ((byte ≡ 10) ⊎ ((32 ≤ byte) × (byte ≤ 1
 abbrev pub IsShownText : List ℕ → Type 0
 IsShownText text = All IsShown text
 
--- A text that was shown before is shown after.
-abbrev pub StaysShown : List ℕ → List ℕ → Type 0
-StaysShown before after = IsShownText before → IsShownText after
-
 -- The text begins so, and what goes on is shown.
 abbrev pub GoesOnShown : List ℕ → List ℕ → Type 0
 GoesOnShown begin text = (rest : List ℕ) × IsShownText rest × (text ≡ begin ++ rest)

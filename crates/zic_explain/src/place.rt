@@ -1,7 +1,8 @@
 //! Where a fault stands.
 
 ghost use Rattle.std.specs.Prelude.{OnOk, IfOk, string_bytes};
-ghost use Rattle.zic_explain.specs.Place.{line_head, row_head, GoesOnShown, IsShownText, StaysShown};
+ghost use Rattle.zic_explain.specs.Place.{line_head, row_head, GoesOnShown, IsShownText};
+ghost use Rattle.zic_explain.specs.code.Shown.{StaysShown};
 
 use crate::faulty::{Part, faulty_part};
 use crate::fields::{Span, fields_of};

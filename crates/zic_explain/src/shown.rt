@@ -1,7 +1,8 @@
 //! A line as it stands, with a part of it underlined.
 
 ghost use Rattle.std.specs.Prelude.{OnOk, string_bytes};
-ghost use Rattle.zic_explain.specs.Place.{IsShown, StaysShown};
+ghost use Rattle.zic_explain.specs.Place.{IsShown};
+ghost use Rattle.zic_explain.specs.code.Shown.{StaysShown};
 
 use crate::fields::Span;
 use std::alloc::AllocError;

@@ -1,8 +1,9 @@
 //! The zone whose name is nearest to that of a row.
 
 ghost use Rattle.std.specs.Prelude.{◌<◌, length, map, string_bytes, IfOk, OnOk};
-ghost use Rattle.zic_explain.specs.Place.{IsShownText, StaysShown};
-ghost use Rattle.zic_explain.specs.Explanation.{IsNearestAt};
+ghost use Rattle.zic_explain.specs.Place.{IsShownText};
+ghost use Rattle.zic_explain.specs.code.Nearest.{IsNearestAt};
+ghost use Rattle.zic_explain.specs.code.Shown.{StaysShown};
 
 use crate::fields::fields_of;
 use crate::form::{Form, awaits, form_of};
@@ -15,7 +16,8 @@ use strsim::levenshtein;
 const LONGEST: usize = 255;
 
 /// Returns a title and the name that takes the fewest edits from that of a record, among the names
-/// of the zones and links of a source without faults; or an empty text where there is none.
+/// of the zones and links of a source without faults; or an empty text if there is none. A terminal
+/// shows every byte of it. The contract says only this; which name is the nearest is tested.
 ///
 /// # Errors
 ///
