@@ -57,7 +57,7 @@ module _ (files : List File) (most size : ℕ) where
 -- the rows of all pieces of a round
 pub joined_round : (p : Pieces) (values : List RowsOf) → ArePieces p → AreValues (IsOutcomeOf p) (length p.pieces) values
     → AreRowsOf p.files p.most p.first (records_of p.pieces) (joined values)
-joined_round p values sound are = rows_of_all p.files p.most p.size p.first p.pieces values sound.cut are.0 are.1
+joined_round p values sound are = rows_of_all p.files p.most p.size p.first p.pieces values sound.cut are.0 (λ i rows at. (are.1 i rows at).0)
 
 -- a piece has no more records than a full one
 pub piece_few : (size : ℕ) (pieces : List (List ℕ)) (i : ℕ) (piece : List ℕ) → slice_get pieces i ≡ Some piece → ArePiecesOf size pieces → length (column_records piece) ≤ size

@@ -30,9 +30,9 @@ pub record ArePieces (p : Pieces) : Type 0 where
 abbrev pub AreRowsOfPiece : Pieces → ℕ → RowsOf → Type 0
 AreRowsOfPiece p i rows = IfSome (slice_get p.pieces i) (λ piece. AreRowsOf p.files p.most (p.first + i * p.size) (column_records piece) rows)
 
--- The outcome of a piece: its rows, up to the first that has a fault, or where that is to stop the task a fault.
+-- The outcome of a piece: its rows, up to the first that has a fault, or, where that is to stop the task, a fault.
 abbrev pub IsOutcomeOf : Pieces → ℕ → Result RowsOf (Unit {0}) → Type 0
-IsOutcomeOf p i (Ok rows) = AreRowsOfPiece p i rows
+IsOutcomeOf p i (Ok rows) = AreRowsOfPiece p i rows × (p.stops ≡ true → rows.fault ≡ None)
 IsOutcomeOf p i (Err fault) = (p.stops ≡ true) × (rows : RowsOf) × AreRowsOfPiece p i rows × IsSome rows.fault
 
 -- some rows, and the rows after them, where none of the first has a fault
