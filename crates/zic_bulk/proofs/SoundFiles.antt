@@ -17,7 +17,7 @@ use Rattle.zic_rules.specs.Period.{zone_of}
 use Rattle.zic_rules.proofs.Limits.{shows_within_limits}
 use Rattle.zic_posix.specs.Footer.{TzString}
 use Rattle.zic_posix.specs.Printing.{printed, printed_name, printed_offset, printed_rest, printed_seconds, printed_number}
-use Rattle.zic_content.specs.Content.{Content}
+use Rattle.zic_tzif.specs.Content.{Content}
 use Rattle.zic_base.proofs.Lists.{get_mapped}
 use Rattle.zic_files.specs.File.{FileImage, File}
 use Rattle.zic_bulk.specs.Files.{IsReadImage, AreImagesOf, IsFileAt}

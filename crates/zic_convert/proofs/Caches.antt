@@ -5,7 +5,7 @@ use Rattle.zic_base.specs.State.{Shown}
 use Rattle.zic_files.specs.File.{File}
 use Rattle.zic_plan.specs.declared.stop.RowKind.{RowKind}
 use Rattle.zic_rows.specs.Row.{IsRowState}
-use Rattle.zic_content.specs.Content.{Content}
+use Rattle.zic_tzif.specs.Content.{Content}
 use Rattle.zic_tzif.specs.Answer.{Answers}
 use Rattle.zic_convert.specs.code.ZoneCache.{IsShown, IsTold, IsZoneOf, Told}
 use Rattle.zic_convert.specs.code.Query.{IsAsked}

@@ -10,7 +10,7 @@ use Rattle.zic_base.specs.State.{Shown}
 use Rattle.zic_base.specs.declared.limit.TheConstants.{LONGEST_ABBREVIATION, SHORTEST_ABBREVIATION}
 use Rattle.zic_words.specs.Limits.{IsWithinLimits}
 use Rattle.zic_tzif.specs.Answer.{Answers}
-use Rattle.zic_content.specs.Content.{Content}
+use Rattle.zic_tzif.specs.Content.{Content}
 use Rattle.zic_rows.specs.Instant.{instant_of}
 use Rattle.zic_rows.specs.Row.{IsRowState, row_text}
 use Rattle.zic_tzif.specs.Laws.{FilesAnswerOnce}

@@ -7,7 +7,7 @@ use Rattle.std.specs.List.{flat_map}
 use Rattle.zic_base.specs.State.{Shown}
 use Rattle.zic_posix.specs.declared.instants.Instants.{Instants}
 use Rattle.zic_posix.specs.Instants.{Includes}
-use Rattle.zic_content.specs.Content.{Content}
+use Rattle.zic_tzif.specs.Content.{Content}
 use Rattle.zic_tzif.specs.Answer.{AnswersThroughout, Answers}
 use Rattle.zic_tzif.proofs.AnswerLemmas.{one_answer}
 use Rattle.zic_dump.specs.Changes.{Change, StaysSame, IsNext, AreChanges, HasLocalTime}

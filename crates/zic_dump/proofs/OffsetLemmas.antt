@@ -11,9 +11,9 @@ use Rattle.zic_posix.specs.Grammar.{IsTzString}
 use Rattle.zic_posix.specs.Meaning.{MeansBy}
 use Rattle.zic_posix.proofs.StringLemmas.{limits_of}
 use Rattle.zic_posix.proofs.Edges.{offset_within, daylight_within, daylight_is}
-use Rattle.zic_content.specs.declared.content.LocalType.{LocalType}
-use Rattle.zic_content.specs.Content.{Content, IsLocalType, type_state}
-use Rattle.zic_content.specs.Designation.{is_designated}
+use Rattle.zic_tzif.specs.declared.content.LocalType.{LocalType}
+use Rattle.zic_tzif.specs.Content.{Content, IsLocalType, type_state}
+use Rattle.zic_tzif.specs.Designation.{is_designated}
 use Rattle.zic_tzif.specs.declared.reason.Reason.TheVariants as reason
 use Rattle.zic_tzif.specs.Answer.{Answers, Gives}
 use Rattle.zic_tzif.specs.Block.{type_in, is_type_record, type_records, names_in}

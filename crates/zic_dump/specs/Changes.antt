@@ -4,7 +4,7 @@ use Rattle.std.specs.Int.{int_div_euclid, int_rem_euclid}
 use Rattle.zic_base.specs.State.{Shown}
 use Rattle.zic_calendar.specs.declared.civil_time.Civil.{Civil}
 use Rattle.zic_calendar.specs.Civil.{IsOnDay, IsAtSecond}
-use Rattle.zic_content.specs.Content.{Content}
+use Rattle.zic_tzif.specs.Content.{Content}
 use Rattle.zic_tzif.specs.Answer.{Answers}
 
 -- a change: its instant, what is answered from then on, and local time right after it

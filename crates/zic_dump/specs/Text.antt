@@ -6,7 +6,7 @@ use Rattle.std.specs.List.{flat_map, list_all}
 use Rattle.zic_base.specs.Digits.{two_digits}
 use Rattle.zic_base.specs.State.{Shown}
 use Rattle.zic_calendar.specs.declared.civil_time.Civil.{Civil}
-use Rattle.zic_content.specs.Content.{Content}
+use Rattle.zic_tzif.specs.Content.{Content}
 use Rattle.zic_tzif.specs.Answer.{Answers}
 use Rattle.zic_tzif.specs.Reading.{IsFile}
 use Rattle.zic_dump.specs.Changes.{Change, told, AreChanges}

@@ -3,7 +3,7 @@ use Rattle.std.specs.Prelude.{◌≡◌, ◌≢◌, ℤ, true, List, [], Option,
 use Rattle.zic_base.specs.State.{Shown}
 use Rattle.zic_words.specs.Name.{is_name}
 use Rattle.zic_words.specs.Limits.{IsWithinLimits}
-use Rattle.zic_content.specs.Content.{Content}
+use Rattle.zic_tzif.specs.Content.{Content}
 use Rattle.zic_tzif.specs.Answer.{Answers}
 use Rattle.zic_tzif.specs.Reading.{IsFile}
 use Rattle.zic_files.specs.File.{File}

@@ -25,8 +25,8 @@ use Rattle.zic_posix.specs.Grammar.{SpellsName, Spells}
 use Rattle.zic_posix.specs.Meaning.{Means}
 use Rattle.zic_posix.proofs.StringLemmas.{spells_one}
 use Rattle.zic_footer.specs.Making.{GoesOn}
-use Rattle.zic_content.specs.declared.content.Change.{Change}
-use Rattle.zic_content.specs.Content.{Content, IsFooter, IsStateOfType, IsWritable, type_state}
+use Rattle.zic_tzif.specs.declared.content.Change.{Change}
+use Rattle.zic_tzif.specs.Content.{Content, IsFooter, IsStateOfType, IsWritable, type_state}
 use Rattle.zic_table.specs.ContentOf.{before, states_of, names_of, local_type, transition, content_of, IsContentOf}
 use Rattle.zic_tzif.specs.Answer.{IsLastChange, IsBeforeAll, IsBeforeLast, IsTypeAt, Gives, Answers}
 use Rattle.zic_tzif.proofs.AnswerLemmas.{answer_at}

@@ -28,7 +28,7 @@ use Rattle.zic_posix.specs.Footer.{TzString, constant}
 use Rattle.zic_footer.specs.Making.{IsForEver, AreInTurn, IsMade, IsFaultOfFooter, by_rules}
 use Rattle.zic_footer.proofs.OneTail.{same_pair}
 use Rattle.zic_footer.proofs.Pairs.{one_pair}
-use Rattle.zic_content.specs.Content.{Content}
+use Rattle.zic_tzif.specs.Content.{Content}
 use Rattle.zic_table.specs.ContentOf.{content_of, limits, IsContentOf, IsFaultOfTable}
 use Rattle.zic_tzif.specs.Writing.{written}
 use Rattle.zic_files.specs.File.{FileImage}

@@ -29,13 +29,13 @@ use Rattle.zic_words.specs.Limits.{IsWithinLimits}
 use Rattle.zic_rules.specs.Timeline.{IsWholeZone}
 use Rattle.zic_rules.proofs.Limits.{shows_within_limits}
 use Rattle.zic_footer.specs.Making.{IsMade, GoesOn}
-use Rattle.zic_content.specs.Content.{Content, IsFooter, IsLocalType, IsWritable, type_state}
+use Rattle.zic_tzif.specs.Content.{Content, IsFooter, IsLocalType, IsWritable, type_state}
 use Rattle.zic_table.specs.ContentOf.{firsts, before, same_state, states_of, names_of, ended, local_type, transition, content_of, limits, IsContentOf, IsFaultOfTable, HasFewChanges}
 use Rattle.zic_table.specs.code.LocalTypes.{AreLocalTypes, HasManyCharacters}
 use Rattle.zic_table.specs.code.Transitions.{AreTransitions, HasManyTypes}
-use Rattle.zic_content.specs.declared.content.Change.{Change}
-use Rattle.zic_content.specs.declared.content.LocalType.{LocalType}
-use Rattle.zic_content.specs.declared.limit.TheConstants.{MAX_TRANSITIONS, MAX_TYPES, MAX_CHARACTERS}
+use Rattle.zic_tzif.specs.declared.content.Change.{Change}
+use Rattle.zic_tzif.specs.declared.content.LocalType.{LocalType}
+use Rattle.zic_tzif.specs.declared.limit.TheConstants.{MAX_TRANSITIONS, MAX_TYPES, MAX_CHARACTERS}
 use Rattle.zic_table.proofs.Designations.{designation_is, designated}
 use Rattle.zic_table.proofs.Firsts.{at_place, place_within}
 use Rattle.zic_base.proofs.Lists.{get_mapped}

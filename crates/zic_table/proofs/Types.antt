@@ -5,7 +5,7 @@ use Rattle.zic_base.specs.State.{Shown}
 use Rattle.zic_base.proofs.Elements.{contains_got}
 use Rattle.zic_words.specs.Limits.{is_abbreviation}
 use Rattle.zic_states.specs.Change as of_zone
-use Rattle.zic_content.specs.Content.{type_state}
+use Rattle.zic_tzif.specs.Content.{type_state}
 use Rattle.zic_table.specs.ContentOf.{before, same_state, states_of, names_of, ended, local_type}
 use Rattle.zic_table.proofs.Designations.{designation_is}
 use Rattle.zic_table.proofs.Firsts.{at_place}

@@ -15,10 +15,10 @@ use Rattle.zic_posix.specs.Footer.{TzString, version_of}
 use Rattle.zic_posix.specs.Printing.{printed}
 use Rattle.zic_states.specs.Change as of_zone
 use Rattle.zic_states.specs.Zone.{Zone}
-use Rattle.zic_content.specs.declared.content.Change.{Change}
-use Rattle.zic_content.specs.declared.content.LocalType.{LocalType}
-use Rattle.zic_content.specs.declared.limit.TheConstants.{MAX_TRANSITIONS, MAX_TYPES, MAX_CHARACTERS}
-use Rattle.zic_content.specs.Content.{Content}
+use Rattle.zic_tzif.specs.declared.content.Change.{Change}
+use Rattle.zic_tzif.specs.declared.content.LocalType.{LocalType}
+use Rattle.zic_tzif.specs.declared.limit.TheConstants.{MAX_TRANSITIONS, MAX_TYPES, MAX_CHARACTERS}
+use Rattle.zic_tzif.specs.Content.{Content}
 
 -- each member once, in the order of their first use
 abbrev pub firsts : {A : Type 0} → (A → A → Bool) → List A → List A

@@ -3,7 +3,7 @@ pub mod ContentOf
 pub mod Image
 pub mod Laws
 pub use Rattle.zic_footer.specs.Making
-pub use Rattle.zic_content.specs.Content
+pub use Rattle.zic_tzif.specs.Content
 pub use Rattle.zic_posix.specs.Footer
 pub use Rattle.zic_posix.specs.Grammar
 pub use Rattle.zic_posix.specs.Meaning

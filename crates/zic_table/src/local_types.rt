@@ -9,7 +9,7 @@ ghost use Rattle.zic_table.specs.code.LocalTypes.{AreLocalTypes, HasManyCharacte
 
 use std::alloc::Global;
 use zic_base::{Kind, Place, State, Stop};
-use zic_content::{LocalType, MAX_CHARACTERS};
+use zic_tzif::{LocalType, MAX_CHARACTERS};
 
 /// Local time types, and the bytes of their designations.
 #[derive(Drop)]

@@ -4,14 +4,14 @@ ghost use Rattle.std.specs.Prelude.{IfOk};
 ghost use Rattle.zic_base.specs.Fault.{fault_of};
 ghost use Rattle.zic_base.specs.Memory.{IfRefusal, OnOutOfMemory};
 ghost use Rattle.zic_footer.specs.Making.{IsMade};
-ghost use Rattle.zic_content.specs.Content.{IsFooter, IsWritable};
+ghost use Rattle.zic_tzif.specs.Content.{IsFooter, IsWritable};
 ghost use Rattle.zic_table.specs.ContentOf.{IsContentOf, IsFaultOfTable, HasFewChanges};
 
 use crate::local_types::local_types;
 use crate::transitions::transitions;
 use std::alloc::Global;
 use zic_base::{Kind, Place, Stop};
-use zic_content::{MAX_TRANSITIONS, Table};
+use zic_tzif::{MAX_TRANSITIONS, Table};
 use zic_footer::{Footer, print};
 use zic_rules::Timeline;
 

@@ -10,7 +10,7 @@ use std::alloc::{AllocError, Global};
 use std::collections::HashMap;
 use std::marker::Model;
 use zic_base::State;
-use zic_content::MAX_TYPES;
+use zic_tzif::MAX_TYPES;
 
 /// Different states, each with a number from 0 in the order in which they came. There are at most
 /// as many as a table has local time types. Clauses see the states.

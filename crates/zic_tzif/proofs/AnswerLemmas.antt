@@ -10,9 +10,9 @@ use Rattle.zic_posix.specs.Grammar.{Spells}
 use Rattle.zic_posix.specs.Meaning.{Means}
 use Rattle.zic_posix.proofs.Meanings.{means_some, means_only}
 use Rattle.zic_posix.proofs.StringLemmas.{spells_one, limits_of}
-use Rattle.zic_content.specs.declared.content.Change.{Change}
-use Rattle.zic_content.specs.declared.content.LocalType.{LocalType}
-use Rattle.zic_content.specs.Content.{Content, IsStateOfType, type_state}
+use Rattle.zic_tzif.specs.declared.content.Change.{Change}
+use Rattle.zic_tzif.specs.declared.content.LocalType.{LocalType}
+use Rattle.zic_tzif.specs.Content.{Content, IsStateOfType, type_state}
 use Rattle.zic_tzif.specs.Answer.{IsLastChange, IsBeforeAll, IsBeforeLast, IsTypeAt, HasNeither, Gives, IsUnspecified, Answers}
 use Rattle.zic_tzif.specs.Reading.{HasFooter}
 use Rattle.zic_tzif.proofs.Transitions.{AllPairs-first, AllPairs-rest}

@@ -9,9 +9,9 @@ use Rattle.zic_base.proofs.Checks.{each_passes}
 use Rattle.zic_posix.specs.Footer.{TzString}
 use Rattle.zic_posix.specs.Laws.{MeansOneState}
 use Rattle.zic_posix.specs.Meaning.{Means}
-use Rattle.zic_content.specs.declared.content.Change.{Change}
-use Rattle.zic_content.specs.declared.content.LocalType.{LocalType}
-use Rattle.zic_content.specs.Content.{Content, IsLocalType, type_state}
+use Rattle.zic_tzif.specs.declared.content.Change.{Change}
+use Rattle.zic_tzif.specs.declared.content.LocalType.{LocalType}
+use Rattle.zic_tzif.specs.Content.{Content, IsLocalType, type_state}
 use Rattle.zic_tzif.specs.declared.data_block.DataBlock.{DataBlock}
 use Rattle.zic_tzif.specs.Block.{pieces, time_in, type_in, changes_at}
 use Rattle.zic_tzif.specs.code.Parts.{DoesAgree, times_of, records_of, checks_of}

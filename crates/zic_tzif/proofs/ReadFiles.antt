@@ -8,9 +8,9 @@ use Rattle.zic_base.specs.Memory.{IfRefusal, NeverRefuses}
 use Rattle.zic_base.proofs.Checks.{each_passes, first_failed-append, first_failed-stops}
 use Rattle.zic_posix.specs.Footer.{TzString}
 use Rattle.zic_posix.specs.Parsing.{NeedsMemory}
-use Rattle.zic_content.specs.declared.content.Change.{Change}
-use Rattle.zic_content.specs.Content.{Content, IsFooter}
-use Rattle.zic_content.specs.Designation.{is_designated}
+use Rattle.zic_tzif.specs.declared.content.Change.{Change}
+use Rattle.zic_tzif.specs.Content.{Content, IsFooter}
+use Rattle.zic_tzif.specs.Designation.{is_designated}
 use Rattle.zic_tzif.specs.declared.data_block.DataBlock.{DataBlock}
 use Rattle.zic_tzif.specs.declared.reader.Parts.{Parts}
 use Rattle.zic_tzif.specs.declared.zone.Zone.{Zone}

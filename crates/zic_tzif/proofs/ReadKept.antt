@@ -3,8 +3,8 @@ use Rattle.std.proofs.Common.{◌≡◌, ℕ, ◌<◌, true, List, [], ◌∷◌
 use Rattle.std.specs.List.{list_all}
 use Rattle.std.proofs.lemmas.Bool.{and_parts, ltb-true, leb-true}
 use Rattle.std.proofs.lemmas.List.Elements.{All-nil, All-cons}
-use Rattle.zic_content.specs.Content.{IsLocalType}
-use Rattle.zic_content.specs.Designation.{is_designated}
+use Rattle.zic_tzif.specs.Content.{IsLocalType}
+use Rattle.zic_tzif.specs.Designation.{is_designated}
 use Rattle.zic_tzif.specs.Block.{type_in, is_type_record}
 
 pub types_kept : (names : List ℕ) (records : List (List ℕ)) → list_all (λ r. is_designated names (type_in r).place) records ≡ true → list_all is_type_record records ≡ true → All (IsLocalType names) (map type_in records)

@@ -4,7 +4,7 @@ use Rattle.std.specs.Prelude.{int_lt, int_le}
 use Rattle.std.proofs.lemmas.Int.{ints}
 use Rattle.std.proofs.lemmas.List.{drop-drop}
 use borrow.Author.Differences.{lt-true, lt-false, le-true, le-false}
-use Rattle.zic_content.specs.declared.content.Change.{Change}
+use Rattle.zic_tzif.specs.declared.content.Change.{Change}
 use Rattle.zic_tzif.specs.Block.{pieces, time_in, do_rise, changes_at}
 use Rattle.zic_tzif.proofs.ReadPieces.{pieces_left, first_piece}
 

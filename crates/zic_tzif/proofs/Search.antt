@@ -6,8 +6,8 @@ use Rattle.std.proofs.lemmas.Option.{same_Some, slice_get_within, get_or_from_sl
 use Rattle.zic_base.specs.State.{Shown}
 use Rattle.zic_posix.specs.Footer.{TzString}
 use Rattle.zic_posix.specs.Meaning.{Means}
-use Rattle.zic_content.specs.declared.content.Change.{Change}
-use Rattle.zic_content.specs.Content.{Content, IsFooter}
+use Rattle.zic_tzif.specs.declared.content.Change.{Change}
+use Rattle.zic_tzif.specs.Content.{Content, IsFooter}
 use Rattle.zic_tzif.specs.Answer.{IsLastChange, IsBeforeLast, IsTypeAt, Gives, IsUnspecified}
 use Rattle.zic_tzif.specs.Block.{changes_at}
 use Rattle.zic_tzif.specs.code.After.{IsNumberAfter, IsStateAfter}

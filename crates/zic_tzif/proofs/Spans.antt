@@ -9,8 +9,8 @@ use Rattle.zic_posix.specs.Footer.{TzString}
 use Rattle.zic_posix.specs.Instants.{Includes, AreBetween}
 use Rattle.zic_posix.specs.Meaning.{HasEdgeAt, MeansThroughout}
 use Rattle.zic_posix.proofs.StringLemmas.{spells_one}
-use Rattle.zic_content.specs.declared.content.Change.{Change}
-use Rattle.zic_content.specs.Content.{Content, IsFooter}
+use Rattle.zic_tzif.specs.declared.content.Change.{Change}
+use Rattle.zic_tzif.specs.Content.{Content, IsFooter}
 use Rattle.zic_tzif.specs.Answer.{HasTransitionAt, MayChangeAt, AnswersThroughout}
 use Rattle.zic_tzif.specs.Block.{changes_at}
 use Rattle.zic_tzif.specs.code.After.{IsStateAfter}

@@ -10,8 +10,8 @@ use Rattle.zic_posix.specs.Footer.{TzString}
 use Rattle.zic_posix.specs.Grammar.{Spells}
 use Rattle.zic_posix.specs.Meaning.{standard_state, daylight_state, MeansBy, Means}
 use Rattle.zic_posix.proofs.StringLemmas.{spells_one}
-use Rattle.zic_content.specs.declared.content.LocalType.{LocalType}
-use Rattle.zic_content.specs.Content.{Content, IsStateOfType, type_state}
+use Rattle.zic_tzif.specs.declared.content.LocalType.{LocalType}
+use Rattle.zic_tzif.specs.Content.{Content, IsStateOfType, type_state}
 use Rattle.zic_tzif.specs.States.{IsStateOfString, IsStateOfNumber, HasStateOfNumber, AreStates}
 use Rattle.zic_tzif.proofs.AnswerLemmas.{spells_none, one_state_of_type, state_of_type}
 use mir.Val.{bool_byte}

@@ -9,10 +9,10 @@ use Rattle.std.specs.List.{list_all, list_any, before_first, position_or_len}
 use Rattle.std.specs.Str.{bytes_eq}
 use Rattle.zic_base.specs.Check.{first_failed}
 use Rattle.zic_base.specs.declared.limit.TheConstants.{FARTHEST_FILE_OFFSET, LONGEST_FILE}
-use Rattle.zic_content.specs.declared.content.Change.{Change}
-use Rattle.zic_content.specs.declared.content.LocalType.{LocalType}
-use Rattle.zic_content.specs.Content.{Content, IsLocalType, IsWritable}
-use Rattle.zic_content.specs.Designation.{designation, is_designated}
+use Rattle.zic_tzif.specs.declared.content.Change.{Change}
+use Rattle.zic_tzif.specs.declared.content.LocalType.{LocalType}
+use Rattle.zic_tzif.specs.Content.{Content, IsLocalType, IsWritable}
+use Rattle.zic_tzif.specs.Designation.{designation, is_designated}
 use Rattle.zic_tzif.specs.declared.reason.Reason.{Reason}
 use Rattle.zic_tzif.specs.declared.reason.Reason.TheVariants as reason
 use Rattle.zic_tzif.specs.Header.{Counts, counts_at, second_header, second_block, second_counts, footer_place}

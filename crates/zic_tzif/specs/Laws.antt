@@ -1,7 +1,7 @@
 -- Laws about what bytes are a file.
 use Rattle.std.specs.Prelude.{◌≡◌, ℕ, ℤ, List, Option}
 use Rattle.zic_base.specs.State.{Shown}
-use Rattle.zic_content.specs.Content.{Content}
+use Rattle.zic_tzif.specs.Content.{Content}
 use Rattle.zic_tzif.specs.Answer.{Answers}
 use Rattle.zic_tzif.specs.declared.reason.Reason.{Reason}
 use Rattle.zic_tzif.specs.Reading.{IsFile, IsFault}

@@ -1,6 +1,8 @@
 pub mod Answer
 pub mod Block
 pub mod code
+pub mod Content
+pub mod Designation
 pub mod Header
 pub mod Laws
 pub mod Reading
@@ -12,5 +14,3 @@ pub use Rattle.zic_posix.specs.Grammar
 pub use Rattle.zic_posix.specs.Instants
 pub use Rattle.zic_posix.specs.Meaning
 pub use Rattle.zic_base.specs.State
-pub use Rattle.zic_content.specs.Content
-pub use Rattle.zic_content.specs.Designation

@@ -4,7 +4,7 @@ use Rattle.zic_base.specs.State.{Shown}
 use Rattle.zic_posix.specs.Footer.{TzString}
 use Rattle.zic_posix.specs.Grammar.{Spells}
 use Rattle.zic_posix.specs.Meaning.{standard_state, daylight_state}
-use Rattle.zic_content.specs.Content.{Content, IsStateOfType}
+use Rattle.zic_tzif.specs.Content.{Content, IsStateOfType}
 
 -- the string's standard time is its first state, number 0, and its daylight saving time, if there is one, its second
 abbrev pub IsStateOfString : TzString → ℕ → Shown → Type 0

@@ -2,7 +2,7 @@
 
 ghost use Rattle.std.specs.Prelude.{◌≡◌, ℕ, ◌==◌, ◌<◌, ◌≤◌, ◌&&◌, ◌||◌, nat_le, false, length, position, get_or};
 ghost use Rattle.std.specs.List.{before_first};
-ghost use Rattle.zic_content.specs.Designation.{designation, is_designated};
+ghost use Rattle.zic_tzif.specs.Designation.{designation, is_designated};
 ghost use Rattle.zic_tzif.specs.declared.designation.TheConstants.{PLACES};
 
 /// Returns the place of the first byte that equals `mark`.

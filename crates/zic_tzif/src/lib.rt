@@ -1,13 +1,15 @@
-//! TZif files, as RFC 9636 has them: from bytes, as bytes, and what they answer at an instant. The
-//! tests stand in `zone_tests`.
+//! TZif files, as RFC 9636 has them: their content, from bytes, as bytes, and what they answer at
+//! an instant. The tests stand in `zone_tests`.
 #![tactic(auto)]
 
+mod content;
 mod data_block;
 mod designation;
 mod gap;
 mod header;
 mod hints;
 pub mod laws;
+mod limit;
 mod reader;
 mod reason;
 mod stored;
@@ -17,6 +19,8 @@ mod type_record;
 mod writer;
 mod zone;
 
+pub use content::{Change, LocalType, Table};
+pub use limit::{LONGEST_FOOTER, MAX_CHARACTERS, MAX_TRANSITIONS, MAX_TYPES};
 pub use reader::read;
 pub use reason::{ReadStop, Reason};
 pub use writer::{write, written_is_file};

@@ -7,12 +7,13 @@ ghost use Rattle.zic_base.specs.Check.{first_failed};
 ghost use Rattle.zic_base.specs.Memory.{IfRefusal, NeverRefuses, OnOutOfMemory};
 ghost use Rattle.zic_base.specs.State.{shown};
 ghost use Rattle.zic_posix.specs.Parsing.{NeedsMemory};
-ghost use Rattle.zic_content.specs.Content.{IsFooter, type_state};
+ghost use Rattle.zic_tzif.specs.Content.{IsFooter, type_state};
 ghost use Rattle.zic_tzif.specs.Header.{second_header, footer_place};
 ghost use Rattle.zic_tzif.specs.Reading.{first_checks, second_checks, footer_checks, checks, HasFooter, IsFile, IsSomeFile, IsFault, ReadNeedsMemory, reason_of};
 ghost use Rattle.zic_tzif.specs.code.Kept.{IsKept};
 ghost use Rattle.zic_tzif.specs.code.Parts.{Checks, IsFirstPart, IsBlock, IsText, AreParts, DoesAgree, checks_of, content_of};
 
+use crate::content::LocalType;
 use crate::data_block::DataBlock;
 use crate::designation::{designation, place_of};
 use crate::header::{HEADER_LENGTH, counts_at};
@@ -23,7 +24,6 @@ use crate::type_record::{local_types, type_at};
 use crate::zone::Zone;
 use std::alloc::{AllocError, Global};
 use zic_base::{LONGEST_FILE, State};
-use zic_content::LocalType;
 use zic_posix::laws::means_one_state;
 use zic_posix::{Footer, ParseStop, parse, spells_at_most_one};
 

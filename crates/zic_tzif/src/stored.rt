@@ -1,6 +1,6 @@
 //! The parts of a file that a zone keeps.
 
-use zic_content::LocalType;
+use crate::content::LocalType;
 
 /// The parts of a file, as a zone keeps them.
 #[derive(Drop)]

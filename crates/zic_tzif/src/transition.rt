@@ -4,9 +4,9 @@ ghost use Rattle.std.specs.Prelude.{◌≡◌, ◌*◌, ◌-◌, ◌≤◌, nat_
 ghost use Rattle.std.specs.List.{list_all};
 ghost use Rattle.zic_tzif.specs.Block.{pieces, time_in, do_rise, changes_at};
 
+use crate::content::Change;
 use byteorder::{BigEndian, ByteOrder};
 use std::alloc::{AllocError, Global};
-use zic_content::Change;
 
 /// The length of a time in bytes.
 pub const TIME_LENGTH: usize = 8;

@@ -2,14 +2,14 @@
 
 ghost use Rattle.std.specs.Prelude.{◌≡◌, ◌*◌, ◌<◌, ◌≤◌, length, map, slice_get, Some, IfOk};
 ghost use Rattle.std.specs.List.{list_all};
-ghost use Rattle.zic_content.specs.Designation.{is_designated};
+ghost use Rattle.zic_tzif.specs.Designation.{is_designated};
 ghost use Rattle.zic_tzif.specs.Block.{pieces, type_in, is_type_record};
 
+use crate::content::LocalType;
 use crate::designation::designated_places;
 use byteorder::{BigEndian, ByteOrder};
 use std::alloc::{AllocError, Global};
 use zic_base::FARTHEST_FILE_OFFSET;
-use zic_content::LocalType;
 
 /// The length of a record in bytes.
 pub const RECORD_LENGTH: usize = 6;

@@ -4,16 +4,16 @@ ghost use Rattle.std.specs.Prelude.{◌≡◌, ◌≤◌, ◌++◌, length, map,
 ghost use Rattle.std.specs.Int.{w64, cast_unsigned};
 ghost use Rattle.std.specs.List.{flat_map};
 ghost use Rattle.byteorder.specs.Endian.{big_bytes};
-ghost use Rattle.zic_content.specs.Content.{IsWritable};
+ghost use Rattle.zic_tzif.specs.Content.{IsWritable};
 ghost use Rattle.zic_tzif.specs.Reading.{IsFile};
 ghost use Rattle.zic_tzif.specs.Writing.{header, time_octets, type_octets, written, WrittenIsFile};
 
+use crate::content::{Change, LocalType, Table};
 use crate::header::HEADER_LENGTH;
 use crate::transition::TIME_LENGTH;
 use crate::type_record::RECORD_LENGTH;
 use byteorder::{BigEndian, ByteOrder};
 use std::alloc::{AllocError, Global};
-use zic_content::{Change, LocalType, Table};
 
 /// Returns the file of a table, which a reader accepts with the table's content.
 ///

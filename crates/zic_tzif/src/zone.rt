@@ -1,16 +1,16 @@
 //! Files that were read, and what they answer.
 
 ghost use Rattle.std.specs.Prelude.{◌≡◌, ◌<◌, ◌≤◌, length, map, All, IfOk};
-ghost use Rattle.zic_content.specs.Content.{IsLocalType};
+ghost use Rattle.zic_tzif.specs.Content.{IsLocalType};
 ghost use Rattle.zic_tzif.specs.code.Kept.{name_length};
 
+use crate::content::LocalType;
 use crate::designation::designation;
 use crate::stored::Stored;
 use crate::times::Times;
 use std::alloc::{AllocError, Global};
 use std::marker::Model;
 use zic_base::State;
-use zic_content::LocalType;
 use zic_posix::{Footer, PreparedFooter};
 
 mod span;
@@ -35,7 +35,7 @@ pub struct Zone {
 }
 
 impl Model for Zone {
-    ghost use Rattle.zic_content.specs.Content.{Content};
+    ghost use Rattle.zic_tzif.specs.Content.{Content};
 
     ghost Value = { Content };
 

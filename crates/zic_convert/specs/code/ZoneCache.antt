@@ -5,7 +5,7 @@ use Rattle.zic_files.specs.File.{File}
 use Rattle.zic_files.specs.Sound.{IsAlwaysKnown}
 use Rattle.zic_posix.specs.declared.instants.Instants.{Instants}
 use Rattle.zic_rows.specs.Row.{row_text}
-use Rattle.zic_content.specs.Content.{Content}
+use Rattle.zic_tzif.specs.Content.{Content}
 use Rattle.zic_tzif.specs.Answer.{AnswersThroughout}
 use Rattle.zic_convert.specs.Rows.{IsTextOf, fault_of, is_named}
 use Rattle.zic_convert.specs.declared.query.Query.{Query}

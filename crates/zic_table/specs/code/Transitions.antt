@@ -5,8 +5,8 @@ use Rattle.zic_base.specs.State.{Shown}
 use Rattle.zic_states.specs.Change as of_zone
 use Rattle.zic_states.specs.Zone.{Zone}
 use Rattle.zic_table.specs.ContentOf.{states_of, transition}
-use Rattle.zic_content.specs.declared.content.Change.{Change}
-use Rattle.zic_content.specs.declared.limit.TheConstants.{MAX_TYPES}
+use Rattle.zic_tzif.specs.declared.content.Change.{Change}
+use Rattle.zic_tzif.specs.declared.limit.TheConstants.{MAX_TYPES}
 
 -- the states up to this number of changes, and the transitions of these changes
 pub record AreTransitionsTo (zone : Zone) (count : ℕ) (states : List Shown) (transitions : List Change) : Type 0 where

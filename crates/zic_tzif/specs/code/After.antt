@@ -1,8 +1,8 @@
 -- Local time after a number of transitions.
 use Rattle.std.specs.Prelude.{◌≡◌, ℕ, zero, suc, List, IsSomeAnd, slice_get}
 use Rattle.zic_base.specs.State.{Shown}
-use Rattle.zic_content.specs.declared.content.Change.{Change}
-use Rattle.zic_content.specs.Content.{Content, IsStateOfType}
+use Rattle.zic_tzif.specs.declared.content.Change.{Change}
+use Rattle.zic_tzif.specs.Content.{Content, IsStateOfType}
 
 -- the number of the type in force after this number of transitions: type 0 before all of them
 abbrev pub IsNumberAfter : List Change → ℕ → ℕ → Type 0

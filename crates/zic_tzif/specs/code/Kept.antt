@@ -2,9 +2,9 @@
 use Rattle.std.specs.Prelude.{ℕ, ℤ, List, map, ◌≡◌, ◌<◌, ◌≤◌, ◌<ℤ◌, Option, [], length, All, AllPairs}
 use Rattle.std.specs.Option.{MatchOption}
 use Rattle.zic_posix.specs.Footer.{TzString}
-use Rattle.zic_content.specs.declared.content.LocalType.{LocalType}
-use Rattle.zic_content.specs.Content.{Content, IsFooter, IsLocalType}
-use Rattle.zic_content.specs.Designation.{designation}
+use Rattle.zic_tzif.specs.declared.content.LocalType.{LocalType}
+use Rattle.zic_tzif.specs.Content.{Content, IsFooter, IsLocalType}
+use Rattle.zic_tzif.specs.Designation.{designation}
 
 -- Transitions rise and have types; there is a type, and each type has a designation; the footer is that of the text, or none for no text.
 pub record IsKept (content : Content) (footer : Option TzString) : Type 0 where

@@ -5,9 +5,9 @@ use Rattle.zic_base.specs.Check.{Check, check, first_failed}
 use Rattle.zic_base.specs.State.{Shown}
 use Rattle.zic_posix.specs.Footer.{TzString}
 use Rattle.zic_posix.specs.Meaning.{Means}
-use Rattle.zic_content.specs.declared.content.Change.{Change}
-use Rattle.zic_content.specs.Content.{Content, IsLastTransition, IsStateOfType}
-use Rattle.zic_content.specs.Designation.{is_designated}
+use Rattle.zic_tzif.specs.declared.content.Change.{Change}
+use Rattle.zic_tzif.specs.Content.{Content, IsLastTransition, IsStateOfType}
+use Rattle.zic_tzif.specs.Designation.{is_designated}
 use Rattle.zic_tzif.specs.declared.data_block.DataBlock.{DataBlock}
 use Rattle.zic_tzif.specs.declared.reader.FirstPart.{FirstPart}
 use Rattle.zic_tzif.specs.declared.reader.Parts.{Parts}

@@ -1,5 +1,5 @@
 -- The parts of a file that a zone keeps.
-use Rattle.zic_content.specs.Content.{Content}
+use Rattle.zic_tzif.specs.Content.{Content}
 use Rattle.zic_tzif.specs.declared.stored.Stored.{Stored}
 use Rattle.zic_tzif.specs.Block.{changes_at}
 

@@ -8,7 +8,7 @@ use zic_base::State;
 
 impl Zone {
     ghost use Rattle.zic_base.specs.State.{shown};
-    ghost use Rattle.zic_content.specs.Content.{IsStateOfType};
+    ghost use Rattle.zic_tzif.specs.Content.{IsStateOfType};
     ghost use Rattle.zic_tzif.specs.States.{AreStates, HasStateOfNumber, IsStateOfNumber};
 
     /// Returns the number of states that the file shows: local time of each of its types, and the

@@ -4,7 +4,7 @@ use Rattle.std.proofs.lemmas.Int.{ints}
 use Rattle.std.proofs.lemmas.List.Elements.{All-nil}
 use Rattle.zic_base.specs.State.{shown}
 use Rattle.zic_rules.specs.Timeline.{change_of}
-use Rattle.zic_content.specs.declared.content.Change.{Change}
+use Rattle.zic_tzif.specs.declared.content.Change.{Change}
 use Rattle.zic_table.proofs.NumberedChanges.{more_transitions, too_many, all_transitions}
 use Rattle.zic_table.proofs.transitions.transitions.Goals as goal
 

@@ -1,7 +1,7 @@
 use Rattle.std.proofs.Common.{◌≡◌, ℕ, ◌+◌, ◌-◌, ◌<◌, ◌≤◌, Bool, ◌&&◌, ◌||◌, false, List, length, length-set, get_or, refl, sym, ap, ◌∙◌, arith}
 use Rattle.std.specs.Prelude.{nat_le, ◌==◌}
 use Rattle.std.proofs.lemmas.List.{get_or-replicate}
-use Rattle.zic_content.specs.Designation.{is_designated}
+use Rattle.zic_tzif.specs.Designation.{is_designated}
 use Rattle.zic_tzif.proofs.ReadDesignations.{none_behind, begins_here, known_more}
 use Rattle.zic_tzif.proofs.designation.designated_places.Goals as goal
 use Rattle.zic_tzif.proofs.designation.designated_places.Goals.{then-place-lt-PLACES, else-place-lt-PLACES}

@@ -1,5 +1,5 @@
 use Rattle.std.proofs.Common.{◌≡◌, ℕ, ◌-◌, ◌<◌, ◌≤◌, false, length, get_or}
-use Rattle.zic_content.specs.Designation.{is_designated}
+use Rattle.zic_tzif.specs.Designation.{is_designated}
 use Rattle.zic_tzif.proofs.designation.designated_places.Given as goal
 
 abbrev pub invariant-loop-passed : goal.invariant-loop-passed

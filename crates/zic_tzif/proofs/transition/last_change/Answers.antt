@@ -1,6 +1,6 @@
 use Rattle.std.proofs.Common.{rules, ◌≡◌, ℕ, ◌+◌, ◌-◌, ◌*◌, ◌<◌, ℤ, take, drop, Some, refl, sym, ap, ap₂, ◌∙◌, length, arith, w64, to_z, of_z, get_or}
 use Rattle.std.proofs.lemmas.Int.{to_z-of_z}
-use Rattle.zic_content.specs.declared.content.Change.{Change}
+use Rattle.zic_tzif.specs.declared.content.Change.{Change}
 use Rattle.zic_tzif.specs.Block.{time_in}
 use Rattle.zic_tzif.proofs.ReadTransitions.{change_at}
 use Rattle.zic_tzif.proofs.transition.last_change.Goals as goal

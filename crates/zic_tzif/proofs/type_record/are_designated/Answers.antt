@@ -1,6 +1,6 @@
 use Rattle.std.proofs.Common.{◌≡◌, ℕ, List, true, false, take, sym, ap, subst, ◌∙◌, ◌-◌, ◌+◌, ◌*◌, ◌≤◌, length, get_or, arith}
 use Rattle.std.specs.List.{list_all}
-use Rattle.zic_content.specs.Designation.{is_designated}
+use Rattle.zic_tzif.specs.Designation.{is_designated}
 use Rattle.zic_tzif.specs.Block.{pieces, type_in}
 use Rattle.zic_tzif.proofs.ReadPieces.{enough_left, all_more, all_stops}
 use Rattle.zic_tzif.proofs.type_record.are_designated.Goals as goal

@@ -1,6 +1,6 @@
 use Rattle.std.proofs.Common.{◌≡◌, ◌-◌, ◌*◌, ◌≤◌, length}
 use Rattle.std.specs.List.{list_all}
-use Rattle.zic_content.specs.Designation.{is_designated}
+use Rattle.zic_tzif.specs.Designation.{is_designated}
 use Rattle.zic_tzif.specs.Block.{pieces, type_in}
 use Rattle.zic_tzif.proofs.type_record.are_designated.Given as goal
 

@@ -1,5 +1,5 @@
 use Rattle.std.proofs.Common.{◌≡◌, ℕ, List, [], ◌∷◌, ◌++◌, map, take, drop, sym, ap, subst, ◌∙◌, ◌-◌, ◌+◌, ◌*◌, ◌≤◌, length}
-use Rattle.zic_content.specs.declared.content.LocalType.{LocalType}
+use Rattle.zic_tzif.specs.declared.content.LocalType.{LocalType}
 use Rattle.zic_tzif.specs.Block.{pieces, type_in}
 use Rattle.zic_tzif.proofs.ReadPieces.{enough_left, made_more}
 use Rattle.zic_tzif.proofs.type_record.local_types.Goals as goal

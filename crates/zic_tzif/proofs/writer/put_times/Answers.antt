@@ -1,7 +1,7 @@
 use Rattle.std.proofs.Common.{List, ◌++◌, pos, w64, SFits, to_z-of_z, rules, get_or, take, ap, sym, ◌∙◌}
 use Rattle.std.proofs.lemmas.List.{flat_map_more, take_more}
 use Rattle.std.specs.List.{flat_map}
-use Rattle.zic_content.specs.declared.content.Change.{Change}
+use Rattle.zic_tzif.specs.declared.content.Change.{Change}
 use Rattle.zic_tzif.specs.Writing.{time_octets}
 use Rattle.zic_tzif.proofs.writer.put_times.Goals as goal
 

@@ -1,6 +1,6 @@
 use Rattle.std.proofs.Common.{ℕ, List, ◌++◌, replicate, length, map, sym, subst}
 use Rattle.std.specs.List.{flat_map}
-use Rattle.zic_content.specs.declared.content.Change.{Change}
+use Rattle.zic_tzif.specs.declared.content.Change.{Change}
 use Rattle.zic_tzif.specs.Reading.{IsFile}
 use Rattle.zic_tzif.specs.Writing.{header, time_octets, type_octets}
 use Rattle.zic_tzif.proofs.WriteLists.{line_behind}

@@ -1,8 +1,8 @@
 use Rattle.std.proofs.Common.{ℤ, List, length, FitsSigned, w64, to_z-of_z, ap, subst, arith, rules}
 use Rattle.zic_base.specs.State.{shown}
 use Rattle.zic_posix.specs.Meaning.{Means}
-use Rattle.zic_content.specs.declared.content.Change.{Change}
-use Rattle.zic_content.specs.Content.{Content}
+use Rattle.zic_tzif.specs.declared.content.Change.{Change}
+use Rattle.zic_tzif.specs.Content.{Content}
 use Rattle.zic_tzif.specs.code.Kept.{IsKept}
 use Rattle.zic_tzif.specs.code.Window.{IsSplit}
 use Rattle.zic_tzif.proofs.Search.{IsFound, found, times_rise, gives_type, gives_footer, leaves_open, kept_footer, kept_none}

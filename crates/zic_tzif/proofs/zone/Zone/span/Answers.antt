@@ -2,8 +2,8 @@ use Rattle.std.proofs.Common.{◌≡◌, ℕ, ◌+◌, ◌≤◌, ◌⊎◌, inl
 use Rattle.zic_base.specs.State.{shown}
 use Rattle.zic_posix.specs.declared.instants.Instants.{Instants}
 use Rattle.zic_posix.specs.Instants.{Includes}
-use Rattle.zic_content.specs.declared.content.Change.{Change}
-use Rattle.zic_content.specs.Content.{Content}
+use Rattle.zic_tzif.specs.declared.content.Change.{Change}
+use Rattle.zic_tzif.specs.Content.{Content}
 use Rattle.zic_tzif.specs.Block.{changes_at}
 use Rattle.zic_tzif.specs.code.Kept.{IsKept}
 use Rattle.zic_tzif.specs.code.Window.{IsSplit}

@@ -1,5 +1,5 @@
 use Rattle.std.proofs.Common.{◌≡◌, ◌≤◌, ◌⊎◌, inl, inr, length, None, ap, subst, arith}
-use Rattle.zic_content.specs.Content.{Content}
+use Rattle.zic_tzif.specs.Content.{Content}
 use Rattle.zic_tzif.specs.code.Kept.{IsKept}
 use Rattle.zic_tzif.proofs.Search.{kept_footer}
 use Rattle.zic_tzif.proofs.States.{standard_numbered, daylight_numbered}

@@ -1,5 +1,5 @@
 use Rattle.std.proofs.Common.{length, sym, ap, subst, ◌∙◌, arith}
-use Rattle.zic_content.specs.Content.{Content}
+use Rattle.zic_tzif.specs.Content.{Content}
 use Rattle.zic_tzif.specs.code.Kept.{IsKept}
 use Rattle.zic_tzif.proofs.Search.{kept_footer, kept_none}
 use Rattle.zic_tzif.proofs.States.{states_of_some, states_of_none, has_daylight, states_without_footer, states_with_footer}

@@ -6,10 +6,10 @@ use Rattle.zic_base.specs.declared.limit.TheConstants.{FARTHEST_FILE_OFFSET}
 use Rattle.zic_posix.specs.Footer.{TzString}
 use Rattle.zic_posix.specs.Grammar.{Spells}
 use Rattle.zic_posix.specs.Meaning.{Means}
-use Rattle.zic_content.specs.declared.content.Change.{Change}
-use Rattle.zic_content.specs.declared.content.LocalType.{LocalType}
-use Rattle.zic_content.specs.declared.limit.TheConstants.{MAX_TRANSITIONS, MAX_TYPES, MAX_CHARACTERS, LONGEST_FOOTER}
-use Rattle.zic_content.specs.Designation.{designation, is_designated}
+use Rattle.zic_tzif.specs.declared.content.Change.{Change}
+use Rattle.zic_tzif.specs.declared.content.LocalType.{LocalType}
+use Rattle.zic_tzif.specs.declared.limit.TheConstants.{MAX_TRANSITIONS, MAX_TYPES, MAX_CHARACTERS, LONGEST_FOOTER}
+use Rattle.zic_tzif.specs.Designation.{designation, is_designated}
 
 -- version; transitions; local time types; bytes of designations; text of the footer
 pub record Content : Type 0 where

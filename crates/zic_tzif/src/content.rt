@@ -35,7 +35,7 @@ pub struct Table {
 }
 
 impl Model for Table {
-    ghost use Rattle.zic_content.specs.Content.{Content, IsWritable, content};
+    ghost use Rattle.zic_tzif.specs.Content.{Content, IsWritable, content};
 
     ghost Value = { Content };
 
@@ -47,7 +47,7 @@ impl Model for Table {
 }
 
 impl Table {
-    ghost use Rattle.zic_content.specs.Content.{Content, IsWritable, content};
+    ghost use Rattle.zic_tzif.specs.Content.{Content, IsWritable, content};
 
     /// Returns the table of this version, these transitions in the order of time, these local time
     /// types, bytes of designations and bytes of a footer.
