@@ -49,7 +49,7 @@ Right:
   $ printf '#%2047s\nZone Etc/UTC 0 - UTC\n' '' | pzic check -
 
 Usual cause:
-  A file that isn't a source, such as a compiled file, or a text whose lines
+  A file that isn't a source, such as a TZif file, or a text whose lines
   end with a carriage return alone, which doesn't end a line here.
 @Keyword?The first field of a line isn't Rule, Zone or Link.?  The first field of a line isn't Rule, Zone or Link.
 ?  `Rule`, `Zone` or `Link`, or an abbreviation of one, in upper or lower case.
@@ -201,10 +201,10 @@ Right:
 Usual cause:
   `2am` or `2.00` instead of `2:00`, or a `+` sign.
 @Save?SAVE, or an amount in RULES, isn't an amount of time that can be saved.?  SAVE, or an amount in RULES, isn't an amount of time that can be saved.
-?  A time as in AT, at most 24:00:00, with `-` before it if it is negative and
-  without a `+`. `s` after it means standard time and `d` daylight saving time;
-  without a letter 0 is standard time and any other amount daylight saving
-  time.
+?  An amount such as `1:00`, `0:20:30` or `1`, which is an hour: at most
+  24:00:00, with `-` before it if it is negative and without a `+`. `s` after
+  it means standard time and `d` daylight saving time; without a letter 0 is
+  standard time and any other amount daylight saving time.
 ?
 Wrong:
   Rule US 2007 max - Mar Sun>=8 2:00 +1:00 D
@@ -233,8 +233,8 @@ Right:
 Usual cause:
   Two letters with a slash, which belong in FORMAT.
 @Offset?STDOFF isn't a UT offset.?  STDOFF isn't a UT offset.
-?  A time as in AT but without a letter, at most 24:00:00: positive east of
-  Greenwich, with `-` west of it, and without a `+`.
+?  Hours, perhaps with minutes and seconds, as `5:30` or `-3:30:52`: at most
+  24:00:00, positive east of Greenwich, with `-` west of it, and without a `+`.
 ?
 Wrong:
   Zone Europe/Dublin 0:00 - GMT 1968
@@ -407,8 +407,9 @@ Right:
 
 Usual cause:
   Minutes instead of hours: an hour is `1:00` or `1`, and `12` means 12 hours.
-@RulesOutOfOrder?In some year two rules of a set take effect at the same time or in the wrong order.?  In some year two rules of a set take effect at the same time or in the wrong
-  order.
+@RulesOutOfOrder?In some year two rules of a set that the zone uses take effect at the same time or in the wrong order.?  In some year two rules of a set that the zone uses take effect at the same
+  time or in the wrong order. The line is the Zone line; a continuation line
+  may name the set.
 ?  The times of all rules of the set rise strictly, by their own clocks and as
   instants, in every year to come.
 ?
@@ -428,7 +429,7 @@ Right:
 Usual cause:
   A rule given twice, two days that coincide in some years (here in 2009), or
   two rule sets with the same name.
-@UntilNotRising?An UNTIL isn't later than the one before it.?  An UNTIL isn't later than the one before it.
+@UntilNotRising?An UNTIL isn't later than the one before it.?  An UNTIL isn't later than the one before it. The line is the Zone line.
 ?  Each UNTIL of a zone is later than the UNTIL of the line before.
 ?
 Wrong:
@@ -482,7 +483,7 @@ Usual cause:
 @NoFooter?No POSIX TZ string continues as the rules of the zone's last line do.?  No POSIX TZ string continues as the rules of the zone's last line do.
 ?  The set has no rule, one rule or two rules with TO `max`. Two such rules are
   one of standard time and one of daylight saving time, alternate in every
-  year, and have days that POSIX can express; `Sun>=29` is none.
+  year, and have days that POSIX can express. It can't express `Sun>=29`.
 ?
 Wrong:
   Rule A 2000 max - Mar lastSun 2:00 1:00 D
@@ -708,7 +709,7 @@ Right:
 Usual cause:
   A truncated or empty file.
 @Magic?The file doesn't begin with `TZif`.?  The file doesn't begin with `TZif`.
-?  A compiled file.
+?  A TZif file, as `pzic build` or zic writes it.
 ?
 The examples use:
   $ echo 'Rule US 2007 max - Mar Sun>=8 2:00 1:00 D' >ny.zi
@@ -1006,7 +1007,7 @@ Right:
 Usual cause:
   Two files in one, or a newline added by an editor.
 @TooLarge?The file has more than 1,048,576 bytes.?  The file has more than 1,048,576 bytes.
-?  A compiled file; most have less than 4,000 bytes.
+?  A TZif file; most have less than 4,000 bytes.
 ?
 The examples use:
   $ echo 'Rule US 2007 max - Mar Sun>=8 2:00 1:00 D' >ny.zi
@@ -1067,7 +1068,7 @@ Usual cause:
   A service that runs with its standard input closed.
 @cannot write PATH?The file at PATH, or a folder that it needs, can't be written.?  The file at PATH, or a folder that it needs, can't be written. Status 3. The
   files of all earlier Zone and Link lines are in place.
-?  A folder that can be written to and has room. DIR is not an empty string.
+?  A folder that can be written to and has room. DIR must not be empty.
 ?
 The examples use:
   $ echo 'Zone Etc/UTC 0 - UTC' >utc.zi
@@ -1083,7 +1084,8 @@ Right:
 
 Usual cause:
   Missing permissions, a full disk, a file where a folder is needed, or a
-  folder where the file belongs.
+  folder where the file belongs. Sources with the names `A/B` and `A/B/C` have
+  both in one: no tree can hold them.
 @cannot write rows?The converted rows can't be written.?  The converted rows can't be written. Status 3.
 ?  Standard output that accepts all rows.
 ?
@@ -1102,7 +1104,8 @@ Right:
 Usual cause:
   A full disk, or a program at the other end of the pipe, such as `head`, that
   has exited.
-@cannot write output?The output of `check` or `show` can't be written.?  The output of `check` or `show` can't be written. Status 3.
+@cannot write output?The output of `check`, `show`, `dump`, `explain` or `--version` can't be written.?  The output of `check`, `show`, `dump`, `explain` or `--version` can't be
+  written. Status 3.
 ?  Standard output that accepts all of the output.
 ?
 The examples use:
