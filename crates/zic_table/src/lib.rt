@@ -11,5 +11,5 @@ mod transitions;
 
 pub use image::image_of;
 pub use maker::table;
-pub use zic_tzif::{Change, LocalType, Table};
 pub use zic_files::Image;
+pub use zic_tzif::{Change, LocalType, Table};

@@ -11,9 +11,9 @@ use crate::local_types::local_types;
 use crate::transitions::transitions;
 use std::alloc::Global;
 use zic_base::{Kind, Place, Stop};
-use zic_tzif::{MAX_TRANSITIONS, Table};
 use zic_footer::{Footer, print};
 use zic_rules::Timeline;
+use zic_tzif::{MAX_TRANSITIONS, Table};
 
 /// Returns the table of a zone, whose Zone line stands at `zone_place`, with the footer that was
 /// made for it: the state before every change, all changes before the explicit end, and the

@@ -11,8 +11,8 @@ ghost use Rattle.zic_table.specs.code.Transitions.{AreTransitions, HasManyTypes}
 use crate::numbering::Numbering;
 use std::alloc::Global;
 use zic_base::{Kind, Place, State, Stop};
-use zic_tzif::Change;
 use zic_rules::Timeline;
+use zic_tzif::Change;
 
 /// Transitions, and the states that the numbers of their types stand for.
 #[derive(Drop)]
