@@ -266,7 +266,10 @@ month='  Rule US 2007 max - 3 Sun>=8 2:00 1:00 D
 
 Expected:
   The English name of a month or an unambiguous abbreviation, such as `Ja`,
-  `Mar` or `S`. `M`, `Ma`, `J`, `Ju` and `A` are ambiguous.'
+  `Mar` or `S`. `M`, `Ma`, `J`, `Ju` and `A` are ambiguous.
+
+Usual cause:
+  A number instead of a name.'
 expect 1 '' "line 1: Month
 --> faulty:1, field 6 (IN)
 $month" check --explain faulty
@@ -287,25 +290,38 @@ expect 1 '' 'file: Short
 
 Expected:
   Two headers of 44 bytes with their data blocks, and a footer between two
-  newlines.' show --explain plain 0
+  newlines.
+
+Usual cause:
+  A truncated or empty file.' show --explain plain 0
 expect 1 '' 'file: Short
 --> plain
 
 Expected:
   Two headers of 44 bytes with their data blocks, and a footer between two
-  newlines.' dump --explain plain
+  newlines.
+
+Usual cause:
+  A truncated or empty file.' dump --explain plain
 expect 3 '' 'cannot read nowhere
 
 Expected:
   The path of a readable file, or `-` for standard input. A source has at most
-  67,108,864 bytes.' check --explain nowhere
+  67,108,864 bytes.
+
+Usual cause:
+  A wrong path, a folder, or missing permissions.' check --explain nowhere
 expect 0 'Etc/UTC 111 UTC0' '' check --explain plain
 row='Etc/UTC,0,1970-01-01T00:00:00,+00:00:00,0,UTC'
 zone='row 2: RowZone
 --> standard input, row 2, field 1 (NAME)'
 expected='
 Expected:
-  A name exactly as in the source, including upper and lower case.'
+  A name exactly as in the source, including upper and lower case.
+
+Usual cause:
+  In row 1: a header, which `--header` passes over. Otherwise a name of
+  another release or of `backward`, or an abbreviation such as `PST`.'
 # The record of a file is read again, after a mark and line ends, and from where the file is read on.
 printf '\xef\xbb\xbf\r\nEtc/UTC,0\r\n\r\n"Etc/\x1b[0m",7\nEtc/UTC,1\n' >column
 input=column
@@ -325,7 +341,10 @@ told 'pzic convert of the rest of a file' 1 "$row" 'row 2: RowInstant
 
 Expected:
   Seconds since 1970-01-01T00:00:00 UT: 1 to 18 digits, with `-` before them
-  for earlier instants, without `+`, spaces or a fraction.'
+  for earlier instants, without `+`, spaces or a fraction.
+
+Usual cause:
+  A date, a number with a fraction, or the two fields swapped.'
 input=/dev/null
 # That of a pipe is not.
 status=0

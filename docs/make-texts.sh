@@ -28,16 +28,15 @@ awk '
     END {
         print "//! The texts of the errors. This file is generated from docs/errors.txt by docs/make-texts.sh.\n"
         print "/// All errors, in the order of docs/ERRORS.md, with `@` between two of them, and of each its name,"
-        print "/// the first sentence of its meaning, its meaning, what is expected, and its examples, with `?`"
-        print "/// between two of them."
+        print "/// the first sentence of its meaning, its meaning, what is expected, its examples, and the usual"
+        print "/// cause, with `?` between two of them."
         printf "pub(crate) const TEXTS: &str =\n    r#\""
         for (i = 1; i <= count; i++) {
             name = names[i]
             setup = (name, "wrong") in texts ? texts[groups[name], "setup"] : ""
-            printf "%s%s?%s?%s?%s?%s", (i > 1 ? "@" : ""), name, first(texts[name, "says"]), texts[name, "says"], \
+            printf "%s%s?%s?%s?%s?%s?%s", (i > 1 ? "@" : ""), name, first(texts[name, "says"]), texts[name, "says"], \
                 texts[name, "expected"], part("The examples use", setup) part("Wrong", texts[name, "wrong"]) \
-                part("It prints", texts[name, "prints"]) part("Right", texts[name, "right"]) \
-                part("Usual cause", texts[name, "meant"])
+                part("It prints", texts[name, "prints"]) part("Right", texts[name, "right"]), texts[name, "meant"]
         }
         print "\"#;"
     }' errors.txt

@@ -127,7 +127,10 @@ fn what_is_expected_is_told_by_name(rt: HostRuntime) -> Result<(), Fail> {
     let alloc = rt.alloc();
     let entries = entries(alloc)?;
     let told = expectation(alloc, &entries, "Indicators")?;
-    assert_eq!(rt; told.as_str(), "\nExpected:\n  0 or 1.\n");
+    assert_eq!(rt;
+        told.as_str(),
+        "\nExpected:\n  0 or 1.\n\nUsual cause:\n  A damaged file.\n"
+    );
     let told = expectation(alloc, &entries, "no thread")?;
     assert_eq!(rt; told.as_str(), "");
     Ok(())

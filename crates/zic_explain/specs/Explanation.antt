@@ -17,6 +17,7 @@ abbrev pub explanation_text : Entry → List ℕ
 explanation_text entry =
     entry.name.now ++ codes "\n\n" ++ entry.says.now
     ++ section (codes "Expected") entry.expected.now ++ entry.examples.now
+    ++ section (codes "Usual cause") entry.cause.now
 
 -- the line of an error in the list of all
 abbrev pub index_line : Entry → List ℕ
@@ -45,11 +46,16 @@ pub record IsNearest (entries : List Entry) (name nearest : List ℕ) : Type 0 w
   pub has_name : HasName entries nearest entry
   pub least : All (λ other. edits name nearest ≤ edits name other.name.now) entries
 
--- what is expected where an error has this name, and nothing where no error has it
+-- what is expected and what people usually meant
+abbrev pub expectation_text : Entry → List ℕ
+expectation_text entry =
+    section (codes "Expected") entry.expected.now ++ section (codes "Usual cause") entry.cause.now
+
+-- that of an error of this name, and nothing where no error has it
 abbrev pub IsExpectation : List Entry → List ℕ → List ℕ → Type 0
 IsExpectation entries name text =
     (HasNoName entries name × (text ≡ []))
-    ⊎ ((entry : Entry) × HasName entries name entry × (text ≡ section (codes "Expected") entry.expected.now))
+    ⊎ ((entry : Entry) × HasName entries name entry × (text ≡ expectation_text entry))
 
 -- why there is no explanation: no error has the name, or memory ran out
 abbrev pub IsUnexplained : List Entry → List ℕ → Unexplained → Type 0

@@ -17,9 +17,10 @@ pub struct Entry {
     pub says: &'static str,
     /// The rule that the error breaks.
     pub expected: &'static str,
-    /// The parts after that, each after an empty line and a title: a wrong and a right example, and
-    /// what people usually meant.
+    /// The parts after that, each after an empty line and a title: a wrong and a right example.
     pub examples: &'static str,
+    /// What people usually meant.
+    pub cause: &'static str,
 }
 
 /// Returns what is told of each error of the program, in the order of docs/ERRORS.md.
@@ -46,13 +47,15 @@ fn entry_of(texts: &'static str) -> Entry {
     let (name, texts) = cut(texts);
     let (meaning, texts) = cut(texts);
     let (says, texts) = cut(texts);
-    let (expected, examples) = cut(texts);
+    let (expected, texts) = cut(texts);
+    let (examples, cause) = cut(texts);
     Entry {
         name,
         meaning,
         says,
         expected,
         examples,
+        cause,
     }
 }
 

@@ -49,14 +49,15 @@ pub fn explanation(alloc: Global, entries: &[Entry], name: &str) -> Result<Strin
     }
 }
 
-/// Returns the section that tells what is expected where an error has this name, or an empty text
-/// where there is none.
+/// Returns the sections that tell what is expected, and what people usually meant, where an error
+/// has this name, or an empty text where none has it.
 pub fn expectation(alloc: Global, entries: &[Entry], name: &str) -> Result<String, AllocError>
     ensures { IfOk result (λ lines. IsExpectation entries.now name.now (string_bytes lines)) }
 {
     let mut lines = String::new(alloc);
     if let Some(entry) = find(entries, name) {
         push_section(&mut lines, "Expected", entry.expected)?;
+        push_section(&mut lines, "Usual cause", entry.cause)?;
     }
     Ok(lines)
 }
@@ -113,6 +114,7 @@ fn text_of(alloc: Global, entry: &Entry) -> Result<String, AllocError>
     text.push_str(entry.says)?;
     push_section(&mut text, "Expected", entry.expected)?;
     text.push_str(entry.examples)?;
+    push_section(&mut text, "Usual cause", entry.cause)?;
     Ok(text)
 }
 

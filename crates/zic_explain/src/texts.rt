@@ -1,8 +1,8 @@
 //! The texts of the errors. This file is generated from docs/errors.txt by docs/make-texts.sh.
 
 /// All errors, in the order of docs/ERRORS.md, with `@` between two of them, and of each its name,
-/// the first sentence of its meaning, its meaning, what is expected, and its examples, with `?`
-/// between two of them.
+/// the first sentence of its meaning, its meaning, what is expected, its examples, and the usual
+/// cause, with `?` between two of them.
 pub(crate) const TEXTS: &str =
     r#"NotAscii?A byte outside a comment is neither white space nor a visible ASCII character.?  A byte outside a comment is neither white space nor a visible ASCII
   character.
@@ -17,9 +17,7 @@ It prints:
 
 Right:
   Zone America/Asuncion -4:00 - %z # Asunción
-
-Usual cause:
-  A name with an accent, a no-break space or typographic quotes pasted from a
+?  A name with an accent, a no-break space or typographic quotes pasted from a
   word processor, or a file saved with a byte order mark or as UTF-16.
 @Quote?A double quote opens a quoted part that isn't closed on the same line.?  A double quote opens a quoted part that isn't closed on the same line.
 ?  Double quotes in pairs, each pair on one line. A quote itself can't be
@@ -33,9 +31,7 @@ It prints:
 
 Right:
   Zone "Etc/UTC" 0 - UTC
-
-Usual cause:
-  A missing closing quote, or a quote that belongs in a comment.
+?  A missing closing quote, or a quote that belongs in a comment.
 @LineTooLong?A line has more than 2,048 bytes.?  A line has more than 2,048 bytes.
 ?  At most 2,048 bytes before each newline, including any comment.
 ?
@@ -47,9 +43,7 @@ It prints:
 
 Right:
   $ printf '#%2047s\nZone Etc/UTC 0 - UTC\n' '' | pzic check -
-
-Usual cause:
-  A file that isn't a source, such as a TZif file, or a text whose lines
+?  A file that isn't a source, such as a TZif file, or a text whose lines
   end with a carriage return alone, which doesn't end a line here.
 @Keyword?The first field of a line isn't Rule, Zone or Link.?  The first field of a line isn't Rule, Zone or Link.
 ?  `Rule`, `Zone` or `Link`, or an abbreviation of one, in upper or lower case.
@@ -66,9 +60,7 @@ It prints:
 Right:
   Zone America/Chicago -5:50:36 - LMT 1883 Nov 18 18:00u
   -6:00 - CST
-
-Usual cause:
-  The UNTIL is missing from the line before a continuation; or the file is a
+?  The UNTIL is missing from the line before a continuation; or the file is a
   list of leap seconds or another table of the tz database, such as zone.tab.
 @FieldCount?A line has too few or too many fields.?  A line has too few or too many fields.
 ?  10 fields: `Rule NAME FROM TO - IN ON AT SAVE LETTER`; 5 to 9: `Zone NAME
@@ -83,9 +75,7 @@ It prints:
 
 Right:
   Rule US 2007 max - Mar Sun>=8 2:00 1:00 -
-
-Usual cause:
-  A missing `-` for an empty field, or a space inside a name or in `Sun >= 8`.
+?  A missing `-` for an empty field, or a space inside a name or in `Sun >= 8`.
   If the line before has an UNTIL, this line was read as its continuation.
 @Name?The name of a zone, a link, a link's target or a rule set isn't allowed.?  The name of a zone, a link, a link's target or a rule set isn't allowed.
 ?  A zone or link name: 1 to 255 ASCII letters, digits, `_`, `-`, `+`, `.` and
@@ -101,9 +91,7 @@ It prints:
 
 Right:
   Zone Etc/UTC 0 - UTC
-
-Usual cause:
-  An absolute path, or a space, for which `_` is used.
+?  An absolute path, or a space, for which `_` is used.
 @Year?FROM or TO isn't a year.?  FROM or TO isn't a year.
 ?  FROM: a year from 1 to 9000. TO: such a year, `only` or `maximum`. These
   words may be abbreviated, `maximum` to no less than `ma`.
@@ -116,9 +104,7 @@ It prints:
 
 Right:
   Rule US 1967 max - Mar Sun>=8 2:00 1:00 D
-
-Usual cause:
-  FROM is `minimum`, which older versions of zic accept: write the year in
+?  FROM is `minimum`, which older versions of zic accept: write the year in
   which the rule began. Or a field is missing before FROM.
 @YearOrder?TO is before FROM.?  TO is before FROM.
 ?  The earlier year first.
@@ -131,9 +117,7 @@ It prints:
 
 Right:
   Rule US 1987 2006 - Apr Sun>=1 2:00 1:00 D
-
-Usual cause:
-  The two years are swapped.
+?  The two years are swapped.
 @Reserved?The fifth field of a Rule line isn't `-`.?  The fifth field of a Rule line isn't `-`.
 ?  `-`. In old sources this field was the type of year, such as `even`.
 ?
@@ -146,9 +130,7 @@ It prints:
 Right:
   Rule AN 1986 only - Mar Sun>=15 2:00s 0 -
   Rule AN 1988 only - Mar Sun>=15 2:00s 0 -
-
-Usual cause:
-  An old source: write a line for each year. Or the `-` is missing, and IN
+?  An old source: write a line for each year. Or the `-` is missing, and IN
   stands in its place.
 @Month?IN isn't a month.?  IN isn't a month.
 ?  The English name of a month or an unambiguous abbreviation, such as `Ja`,
@@ -162,9 +144,7 @@ It prints:
 
 Right:
   Rule US 2007 max - Mar Sun>=8 2:00 1:00 D
-
-Usual cause:
-  A number instead of a name.
+?  A number instead of a name.
 @Day?ON isn't a day of the month.?  ON isn't a day of the month.
 ?  A day such as `8`; the last weekday of the month, `lastSun`; the first
   weekday on or after a day, `Sun>=8`; or the last on or before a day,
@@ -180,9 +160,7 @@ It prints:
 
 Right:
   Rule US 2007 max - Mar Sun>=8 2:00 1:00 D
-
-Usual cause:
-  `>` instead of `>=`, `last` without a weekday, or February 29 in every year.
+?  `>` instead of `>=`, `last` without a weekday, or February 29 in every year.
 @Time?AT isn't a time.?  AT isn't a time.
 ?  `h`, `h:mm` or `h:mm:ss`, with an optional fraction of a second, at most
   300:00:00. `-` before it means before midnight, and `-` alone is 0:00. A
@@ -197,9 +175,7 @@ It prints:
 
 Right:
   Rule US 2007 max - Mar Sun>=8 2:00 1:00 D
-
-Usual cause:
-  `2am` or `2.00` instead of `2:00`, or a `+` sign.
+?  `2am` or `2.00` instead of `2:00`, or a `+` sign.
 @Save?SAVE, or an amount in RULES, isn't an amount of time that can be saved.?  SAVE, or an amount in RULES, isn't an amount of time that can be saved.
 ?  An amount such as `1:00`, `0:20:30` or `1`, which is an hour: at most
   24:00:00, with `-` before it if it is negative and without a `+`. `s` after
@@ -214,9 +190,7 @@ It prints:
 
 Right:
   Rule US 2007 max - Mar Sun>=8 2:00 1:00 D
-
-Usual cause:
-  A `+` sign; minutes, although `60` means 60 hours; or, on a Zone line, the
+?  A `+` sign; minutes, although `60` means 60 hours; or, on a Zone line, the
   name of a rule set that begins with a digit.
 @Letter?LETTER can't be part of an abbreviation.?  LETTER can't be part of an abbreviation.
 ?  `-` for nothing, or 1 to 16 ASCII letters, digits, `+` and `-`.
@@ -229,9 +203,7 @@ It prints:
 
 Right:
   Rule US 2007 max - Mar Sun>=8 2:00 1:00 D
-
-Usual cause:
-  Two letters with a slash, which belong in FORMAT.
+?  Two letters with a slash, which belong in FORMAT.
 @Offset?STDOFF isn't a UT offset.?  STDOFF isn't a UT offset.
 ?  Hours, perhaps with minutes and seconds, as `5:30` or `-3:30:52`: at most
   24:00:00, positive east of Greenwich, with `-` west of it, and without a `+`.
@@ -247,9 +219,7 @@ Right:
   Zone Europe/Dublin 0:00 - GMT 1968
   1:00 - IST
   Zone Etc/UTC 0 - UTC
-
-Usual cause:
-  The line before has an UNTIL, so this line was read as its continuation: add
+?  The line before has an UNTIL, so this line was read as its continuation: add
   the continuation, or drop the UNTIL. Otherwise a `+` sign, or seconds instead
   of hours.
 @Format?FORMAT has a `%` or a `/` in the wrong place.?  FORMAT has a `%` or a `/` in the wrong place.
@@ -266,9 +236,7 @@ It prints:
 
 Right:
   Zone Europe/London 0:00 - GMT/BST
-
-Usual cause:
-  `%s` on both sides of a slash, or another `%`.
+?  `%s` on both sides of a slash, or another `%`.
 @Until?A field of an UNTIL is wrong.?  A field of an UNTIL is wrong.
 ?  `YEAR [MONTH [DAY [TIME]]]`, each as on a Rule line. The defaults are
   January, 1 and 0:00. A plain day must exist in that month of that year.
@@ -283,9 +251,7 @@ It prints:
 Right:
   Zone Etc/Test 0 - AAA 2001 Mar 1
   0 - BBB
-
-Usual cause:
-  A day that the month doesn't have, the order day, month, year, or a comment
+?  A day that the month doesn't have, the order day, month, year, or a comment
   without its `#`.
 @NoContinuation?The source ends after a line with an UNTIL.?  The source ends after a line with an UNTIL.
 ?  A continuation after each line with an UNTIL, in the same source. The message
@@ -300,9 +266,7 @@ It prints:
 Right:
   Zone Etc/Test 0 - AAA 2001
   0 - BBB
-
-Usual cause:
-  An UNTIL that says how long the data is known: drop it. Or a zone that is cut
+?  An UNTIL that says how long the data is known: drop it. Or a zone that is cut
   off, or that continues in another file.
 @DuplicateName?A Zone or Link line has the name of an earlier Zone or Link line.?  A Zone or Link line has the name of an earlier Zone or Link line.
 ?  Each name once in all the sources that are given together.
@@ -317,9 +281,7 @@ It prints:
 Right:
   Zone Etc/UTC 0 - UTC
   Zone Etc/GMT 0 - GMT
-
-Usual cause:
-  The same source given twice; or the tz database's `backzone` given with
+?  The same source given twice; or the tz database's `backzone` given with
   `backward`, which has links for the names of its zones.
 @TooMany?This line exceeds one of the limits on the number of lines.?  This line exceeds one of the limits on the number of lines.
 ?  At most 1,000 Rule lines of one set, 10,000 Rule lines, 10,000 Zone and
@@ -333,9 +295,7 @@ It prints:
 
 Right:
   $ for i in $(seq 10000); do echo "Zone Z/$i 0 - UTC"; done | pzic check -
-
-Usual cause:
-  A generated source. Build it in parts into one folder, each part with the
+?  A generated source. Build it in parts into one folder, each part with the
   rules and the link targets that it uses.
 @UnknownRules?RULES names a rule set that has no Rule line.?  RULES names a rule set that has no Rule line.
 ?  A Rule line of that name, before or after the zone, in any of the sources
@@ -351,9 +311,7 @@ Right:
   Rule EU 1981 max - Mar lastSun 1:00u 1:00 S
   Rule EU 1996 max - Oct lastSun 1:00u 0 -
   Zone Europe/Paris 1:00 EU CE%sT
-
-Usual cause:
-  One file of the tz database without the file that has its rules: give them
+?  One file of the tz database without the file that has its rules: give them
   together. Or a misspelt name.
 @UnknownTarget?A link leads to a name that no Zone or Link line has.?  A link leads to a name that no Zone or Link line has.
 ?  `Link TARGET NAME`: the existing name first. The target may be another link,
@@ -369,9 +327,7 @@ It prints:
 Right:
   Zone Etc/UTC 0 - UTC
   Link Etc/UTC UTC
-
-Usual cause:
-  The two names are swapped, or `backward` was given without the files that
+?  The two names are swapped, or `backward` was given without the files that
   have its targets.
 @LinkCycle?A link leads back to itself and never to a zone.?  A link leads back to itself and never to a zone.
 ?  A chain of links that ends at a zone.
@@ -387,9 +343,7 @@ Right:
   Link UTC UCT
   Link Etc/UTC UTC
   Zone Etc/UTC 0 - UTC
-
-Usual cause:
-  Two links that name each other.
+?  Two links that name each other.
 @OffsetRange?STDOFF plus the saving exceeds 24:00:00 either way.?  STDOFF plus the saving exceeds 24:00:00 either way.
 ?  A total within 24:00:00, for the amount in RULES or for the SAVE of every
   rule of the set, even of one that never applies to this line.
@@ -404,9 +358,7 @@ It prints:
 Right:
   Zone Etc/Test 22:30 1:00 AAA 2000
   0 - BBB
-
-Usual cause:
-  Minutes instead of hours: an hour is `1:00` or `1`, and `12` means 12 hours.
+?  Minutes instead of hours: an hour is `1:00` or `1`, and `12` means 12 hours.
 @RulesOutOfOrder?In some year two rules of a set that the zone uses take effect at the same time or in the wrong order.?  In some year two rules of a set that the zone uses take effect at the same
   time or in the wrong order. The line is the Zone line; a continuation line
   may name the set.
@@ -425,9 +377,7 @@ Right:
   Rule B 2000 max - Mar 1 0:00 1:00 D
   Rule B 2000 max - Mar Sun>=8 0:00 0 S
   Zone Etc/Test 0 B X%sT
-
-Usual cause:
-  A rule given twice, two days that coincide in some years (here in 2009), or
+?  A rule given twice, two days that coincide in some years (here in 2009), or
   two rule sets with the same name.
 @UntilNotRising?An UNTIL isn't later than the one before it.?  An UNTIL isn't later than the one before it. The line is the Zone line.
 ?  Each UNTIL of a zone is later than the UNTIL of the line before.
@@ -444,9 +394,7 @@ Right:
   Zone Etc/Test 0 - AAA 1999
   0 - BBB 2000
   0 - CCC
-
-Usual cause:
-  Lines in the wrong order, or two changes within an hour, one by wall clock
+?  Lines in the wrong order, or two changes within an hour, one by wall clock
   time and one in UT.
 @NoLetter?FORMAT has `%s`, and at some instant there is no LETTER for it.?  FORMAT has `%s`, and at some instant there is no LETTER for it.
 ?  `%s` on lines whose RULES name a set. Before the first rule of the set takes
@@ -461,9 +409,7 @@ It prints:
 
 Right:
   Zone Europe/Paris 1:00 - CET
-
-Usual cause:
-  RULES is `-`, or no rule of the set is of standard time.
+?  RULES is `-`, or no rule of the set is of standard time.
 @BadAbbreviation?At some instant the abbreviation is too short, too long or has a character that isn't allowed.?  At some instant the abbreviation is too short, too long or has a character
   that isn't allowed.
 ?  FORMAT and LETTER together give 3 to 16 ASCII letters, digits, `+` and `-`.
@@ -476,9 +422,7 @@ It prints:
 
 Right:
   Zone Etc/Test 0 - UTC
-
-Usual cause:
-  FORMAT is `-` or a single letter, or `%s` has an empty LETTER. Use `%z` for
+?  FORMAT is `-` or a single letter, or `%s` has an empty LETTER. Use `%z` for
   the offset, or `-00` if local time isn't known.
 @NoFooter?No POSIX TZ string continues as the rules of the zone's last line do.?  No POSIX TZ string continues as the rules of the zone's last line do.
 ?  The set has no rule, one rule or two rules with TO `max`. Two such rules are
@@ -499,9 +443,7 @@ Right:
   Rule A 2000 2030 - Jun Sun>=1 2:00 2:00 M
   Rule A 2000 max - Oct lastSun 3:00 0 S
   Zone Etc/Test 1:00 A C%sT
-
-Usual cause:
-  Some of the rules have ended: give those a last year. If all of them really
+?  Some of the rules have ended: give those a last year. If all of them really
   go on, give all of them a last year.
 @PermanentDaylight?From some instant on the zone has daylight saving time for ever.?  From some instant on the zone has daylight saving time for ever.
 ?  A zone that ends with standard time, or that alternates for ever.
@@ -514,9 +456,7 @@ It prints:
 
 Right:
   Zone Etc/Test 2:00 - XXX
-
-Usual cause:
-  A zone that stayed on summer time: add a line with the new STDOFF and RULES
+?  A zone that stayed on summer time: add a line with the new STDOFF and RULES
   `-`. Or a set whose last rule, in its last year, begins daylight saving time.
 @TooManyChanges?A zone has more than 100,000 transitions.?  A zone has more than 100,000 transitions.
 ?  At most 100,000. Two rules with TO `max` add only a few transitions after the
@@ -535,9 +475,7 @@ It prints:
 
 Right:
   $ sed 's/9000/8333/' often.zi | pzic check -
-
-Usual cause:
-  A generated source with rules for thousands of years: use TO `max`.
+?  A generated source with rules for thousands of years: use TO `max`.
 @TooManyTypes?A zone has more than 256 local time types.?  A zone has more than 256 local time types.
 ?  At most 256 different combinations of offset, daylight flag and abbreviation,
   which is all that a TZif file can number.
@@ -553,9 +491,7 @@ It prints:
 
 Right:
   $ types 256 | pzic check - | cut -c 1-20
-
-Usual cause:
-  A generated source.
+?  A generated source.
 @TooManyChars?The abbreviations of a zone have more than 256 bytes.?  The abbreviations of a zone have more than 256 bytes.
 ?  At most 256 bytes, where each different abbreviation counts with one byte
   more than it has letters. So there is room for 64 abbreviations of three
@@ -572,9 +508,7 @@ It prints:
 
 Right:
   $ names 64 | pzic check -
-
-Usual cause:
-  A generated source with a different abbreviation for each change.
+?  A generated source with a different abbreviation for each change.
 @RowFields?A record doesn't have two fields.?  A record doesn't have two fields.
 ?  `NAME,SECONDS` with one comma.
 ?
@@ -589,9 +523,7 @@ It prints:
 
 Right:
   $ echo 'Etc/UTC,0' | pzic convert utc.zi
-
-Usual cause:
-  Another separator, or more fields: `cut -d , -f 1,2` keeps two. In row 1: a
+?  Another separator, or more fields: `cut -d , -f 1,2` keeps two. In row 1: a
   header with other columns, which `--header` passes over.
 @RowZone?The source has no zone or link of that name.?  The source has no zone or link of that name.
 ?  A name exactly as in the source, including upper and lower case.
@@ -607,9 +539,7 @@ It prints:
 
 Right:
   $ printf 'zone,instant\nEtc/UTC,0\n' | pzic convert --header utc.zi
-
-Usual cause:
-  In row 1: a header, which `--header` passes over. Otherwise a name of
+?  In row 1: a header, which `--header` passes over. Otherwise a name of
   another release or of `backward`, or an abbreviation such as `PST`.
 @RowInstant?The second field isn't an instant.?  The second field isn't an instant.
 ?  Seconds since 1970-01-01T00:00:00 UT: 1 to 18 digits, with `-` before them
@@ -626,9 +556,7 @@ It prints:
 
 Right:
   $ echo "Etc/UTC,$(date -u -d 1970-01-01 +%s)" | pzic convert utc.zi
-
-Usual cause:
-  A date, a number with a fraction, or the two fields swapped.
+?  A date, a number with a fraction, or the two fields swapped.
 @RowRange?The instant is outside the supported range.?  The instant is outside the supported range.
 ?  -62135510400 to 253402214399, which is 0001-01-02T00:00:00 to
   9999-12-30T23:59:59 UT.
@@ -644,9 +572,7 @@ It prints:
 
 Right:
   $ echo 'Etc/UTC,1750000000' | pzic convert utc.zi
-
-Usual cause:
-  Milliseconds: divide by 1,000.
+?  Milliseconds: divide by 1,000.
 @TooManyRows?The column has more rows than `--max-rows` allows.?  The column has more rows than `--max-rows` allows.
 ?  At most 100,000,000 rows, or the number given with the option.
 ?
@@ -661,9 +587,7 @@ It prints:
 
 Right:
   $ printf 'Etc/UTC,0\nEtc/UTC,1\n' | pzic convert --max-rows 2 utc.zi
-
-Usual cause:
-  A longer column: convert it in parts (see "Long columns" in USING.md).
+?  A longer column: convert it in parts (see "Long columns" in USING.md).
 @ColumnTooLong?The column has more bytes than `--max-bytes` allows.?  The column has more bytes than `--max-bytes` allows.
 ?  At most 4,294,967,296 bytes, or the number given with the option. The message
   has no row number. The rows that were written are the first rows of the
@@ -680,9 +604,7 @@ It prints:
 
 Right:
   $ echo 'Etc/UTC,0' | pzic convert --max-bytes 10 utc.zi
-
-Usual cause:
-  A longer column: convert it in parts. Or an endless input.
+?  A longer column: convert it in parts. Or an endless input.
 @Short?The file ends before all the data that its headers announce.?  The file ends before all the data that its headers announce.
 ?  Two headers of 44 bytes with their data blocks, and a footer between two
   newlines.
@@ -705,9 +627,7 @@ It prints:
 
 Right:
   $ pzic show tree/NY 0
-
-Usual cause:
-  A truncated or empty file.
+?  A truncated or empty file.
 @Magic?The file doesn't begin with `TZif`.?  The file doesn't begin with `TZif`.
 ?  A TZif file, as `pzic build` or zic writes it.
 ?
@@ -729,9 +649,7 @@ It prints:
 
 Right:
   $ pzic show tree/NY 0
-
-Usual cause:
-  A source, a table such as zone.tab, or a compressed file.
+?  A source, a table such as zone.tab, or a compressed file.
 @Version?The version of the file is neither 2 nor 3.?  The version of the file is neither 2 nor 3.
 ?  The fifth byte is `2` or `3`.
 ?
@@ -753,9 +671,7 @@ It prints:
 
 Right:
   $ change 4 2; pzic show bad 0
-
-Usual cause:
-  A file of version 1, which has 32-bit times only, or of version 4, which has
+?  A file of version 1, which has 32-bit times only, or of version 4, which has
   leap seconds. Compile the source again.
 @HeadersDiffer?The second header doesn't begin with the same five bytes as the first.?  The second header doesn't begin with the same five bytes as the first.
 ?  `TZif` and the same version in both headers.
@@ -778,9 +694,7 @@ It prints:
 
 Right:
   $ pzic show tree/NY 0
-
-Usual cause:
-  A damaged file, in which the first data block doesn't have the length that
+?  A damaged file, in which the first data block doesn't have the length that
   its header says.
 @Counts?The counts in the second header are inconsistent.?  The counts in the second header are inconsistent.
 ?  At least one local time type and one byte of abbreviations; as many
@@ -804,9 +718,7 @@ It prints:
 
 Right:
   $ change 90 '\2'; pzic show bad 0
-
-Usual cause:
-  A damaged file.
+?  A damaged file.
 @LeapSeconds?The file has leap seconds.?  The file has leap seconds.
 ?  A file without them: instants are POSIX times, which don't count leap
   seconds.
@@ -829,9 +741,7 @@ It prints:
 
 Right:
   $ change 31 '\0'; pzic show bad 0
-
-Usual cause:
-  A file from the folder `right` of a zoneinfo tree. Use the file of the same
+?  A file from the folder `right` of a zoneinfo tree. Use the file of the same
   name outside it.
 @TimesNotRising?The transition times don't rise.?  The transition times don't rise.
 ?  Each transition is later than the one before it.
@@ -854,9 +764,7 @@ It prints:
 
 Right:
   $ pzic show tree/NY 0
-
-Usual cause:
-  A damaged file.
+?  A damaged file.
 @TypeIndex?A transition refers to a local time type that doesn't exist.?  A transition refers to a local time type that doesn't exist.
 ?  Numbers below the number of types.
 ?
@@ -878,9 +786,7 @@ It prints:
 
 Right:
   $ change 143 '\1'; pzic show bad 0
-
-Usual cause:
-  A damaged file.
+?  A damaged file.
 @Designation?A local time type has no valid abbreviation.?  A local time type has no valid abbreviation.
 ?  An index into the abbreviations, where ASCII characters from space to `~` end
   with a NUL.
@@ -903,9 +809,7 @@ It prints:
 
 Right:
   $ change 154 '\0'; pzic show bad 0
-
-Usual cause:
-  A damaged file.
+?  A damaged file.
 @TypeRecord?A local time type has an invalid daylight flag or offset.?  A local time type has an invalid daylight flag or offset.
 ?  A flag of 0 or 1, and an offset within 25:59:59 either way.
 ?
@@ -927,9 +831,7 @@ It prints:
 
 Right:
   $ change 153 '\0'; pzic show bad 0
-
-Usual cause:
-  A damaged file.
+?  A damaged file.
 @Indicators?A standard/wall or UT/local indicator is neither 0 nor 1.?  A standard/wall or UT/local indicator is neither 0 nor 1.
 ?  0 or 1.
 ?
@@ -952,9 +854,7 @@ It prints:
 
 Right:
   $ pzic show tree/NY 0
-
-Usual cause:
-  A damaged file.
+?  A damaged file.
 @Footer?The footer is wrong.?  The footer is wrong.
 ?  A newline, a POSIX TZ string with rules or nothing, and a newline. The string
   must fit the version of the file, and must mean the same offset, flag and
@@ -978,9 +878,7 @@ It prints:
 
 Right:
   $ change 170 E; pzic show bad 0
-
-Usual cause:
-  A file of zic 2.36, some of which contradict themselves or would need version
+?  A file of zic 2.36, some of which contradict themselves or would need version
   3 (see ZIC.md), or a TZ string without rules, such as `EST5EDT`.
 @TrailingBytes?The file goes on after the footer.?  The file goes on after the footer.
 ?  Nothing after the second newline of the footer.
@@ -1003,9 +901,7 @@ It prints:
 
 Right:
   $ pzic show tree/NY 0
-
-Usual cause:
-  Two files in one, or a newline added by an editor.
+?  Two files in one, or a newline added by an editor.
 @TooLarge?The file has more than 1,048,576 bytes.?  The file has more than 1,048,576 bytes.
 ?  A TZif file; most have less than 4,000 bytes.
 ?
@@ -1027,9 +923,7 @@ It prints:
 
 Right:
   $ pzic show tree/NY 0
-
-Usual cause:
-  Some other file.
+?  Some other file.
 @cannot read PATH?The source or the file can't be read.?  The source or the file can't be read. Status 3.
 ?  The path of a readable file, or `-` for standard input. A source has at most
   67,108,864 bytes.
@@ -1045,9 +939,7 @@ It prints:
 
 Right:
   $ pzic check utc.zi
-
-Usual cause:
-  A wrong path, a folder, or missing permissions.
+?  A wrong path, a folder, or missing permissions.
 @cannot read column?Standard input can't be read.?  Standard input can't be read. Status 3. The rows that were written are the
   first rows of the column.
 ?  Standard input that is open and isn't a folder.
@@ -1063,9 +955,7 @@ It prints:
 
 Right:
   $ pzic convert utc.zi </dev/null
-
-Usual cause:
-  A service that runs with its standard input closed.
+?  A service that runs with its standard input closed.
 @cannot write PATH?The file at PATH, or a folder that it needs, can't be written.?  The file at PATH, or a folder that it needs, can't be written. Status 3. The
   files of all earlier Zone and Link lines are in place.
 ?  A folder that can be written to and has room. DIR must not be empty.
@@ -1081,9 +971,7 @@ It prints:
 
 Right:
   $ pzic build folder utc.zi
-
-Usual cause:
-  Missing permissions, a full disk, a file where a folder is needed, or a
+?  Missing permissions, a full disk, a file where a folder is needed, or a
   folder where the file belongs. Sources with the names `A/B` and `A/B/C` have
   both in one: no tree can hold them.
 @cannot write rows?The converted rows can't be written.?  The converted rows can't be written. Status 3.
@@ -1100,9 +988,7 @@ It prints:
 
 Right:
   $ echo 'Etc/UTC,0' | pzic convert utc.zi >rows
-
-Usual cause:
-  A full disk, or a program at the other end of the pipe, such as `head`, that
+?  A full disk, or a program at the other end of the pipe, such as `head`, that
   has exited.
 @cannot write output?The output of `check`, `show`, `dump`, `explain` or `--version` can't be written.?  The output of `check`, `show`, `dump`, `explain` or `--version` can't be
   written. Status 3.
@@ -1119,9 +1005,7 @@ It prints:
 
 Right:
   $ pzic check utc.zi >listing
-
-Usual cause:
-  A full disk, or a program at the other end of the pipe that has exited.
+?  A full disk, or a program at the other end of the pipe that has exited.
 @out of memory?The system refused memory.?  The system refused memory. Status 4.
 ?  A few MB for a release of the tz database, and at most some 60 MB for a
   column with 4 threads.
@@ -1137,13 +1021,11 @@ It prints:
 
 Right:
   $ pzic check utc.zi
-
-Usual cause:
-  A limit of the shell or of a container. `--workers 1` and a smaller
+?  A limit of the shell or of a container. `--workers 1` and a smaller
   `--row-piece` use less memory.
 @no thread?No thread could be started.?  No thread could be started. Status 4. At present no command ends with this
   message: the threads that can be started do all the work.
-??@usage?The command line is wrong or asks for help.?  The command line is wrong or asks for help. Status 2. The message on standard
+???@usage?The command line is wrong or asks for help.?  The command line is wrong or asks for help. Status 2. The message on standard
   error says what is wrong, or is the help text.
 ?  `pzic --help` lists the commands, and `pzic COMMAND --help` the options of
   one.
@@ -1159,8 +1041,6 @@ It prints:
 
 Right:
   $ pzic build folder utc.zi; pzic show folder/Etc/UTC -- -1
-
-Usual cause:
-  An INSTANT before 1970 without `--` before it, `-` as the SOURCE of
+?  An INSTANT before 1970 without `--` before it, `-` as the SOURCE of
   `convert`, or an option given twice.
 "#;
