@@ -209,7 +209,7 @@ fn a_usage_fault_names_the_word_and_what_is_right(rt: HostRuntime) -> Result<(),
         ),
         (
             "pzic show f 1x",
-            "invalid value '1x' for '<INSTANT>': it is no number of seconds from -9223372036854775808 to 9223372036854775807",
+            "invalid value '1x' for '<INSTANT>': not a whole number of seconds from -9223372036854775808 to 9223372036854775807",
         ),
         (
             "pzic build D - a -",

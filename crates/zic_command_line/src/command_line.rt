@@ -450,7 +450,7 @@ fn usage(alloc: Global, text: &str) -> NoRequest {
 /// Returns the refusal of a word that is no instant.
 fn bad_instant(alloc: Global, word: &str) -> NoRequest {
     match format!(in alloc;
-        "invalid value '{word}' for '<INSTANT>': it is no number of seconds from {} to {}",
+        "invalid value '{word}' for '<INSTANT>': not a whole number of seconds from {} to {}",
         i64::MIN,
         i64::MAX
     ) {
