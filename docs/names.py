@@ -47,6 +47,8 @@ class Function:
         self.is_test = text[:self.start].rstrip().endswith('#[test]')
         parameters = text[match.end():head.end()].strip()
         self.is_law = self.clauses != [] and re.fullmatch(r'(<[^()]*>)?\(\)', parameters) is not None
+        # What C calls; its `"C"` is hidden.
+        self.is_export = ' extern ' in match[0]
         self.is_public = not module.is_test and (match[1] == 'pub ' or trait not in ('', 'Model'))
 
 
@@ -78,7 +80,7 @@ class Module:
             trait, _, owner = match[2][past_generics(match[2], 0):].rpartition(' for ')
             owner = re.match(r'[\s&]*(?:\w+::)*(\w+)', owner)[1]
             blocks.append((match.start(), past(self.text, match.end() - 1), owner, trait.strip(), match[1]))
-        for match in re.finditer(r'^ *(pub(?:\(\w+\))? )?(?:const )?fn (\w+)', self.text, re.M):
+        for match in re.finditer(r'^ *(pub(?:\(\w+\))? )?(?:const |extern +)?fn (\w+)', self.text, re.M):
             start, _, owner, trait, kind = next((b for b in blocks if b[0] < match.start() < b[1]), (0, 0, '', '', ''))
             if kind != 'pub trait':
                 f = Function(self, match, owner, trait)
@@ -88,7 +90,7 @@ class Module:
 
     def read_definitions(self):
         """Yields each name that stands for a definition of specs/, or as `name.` for a file of it, with that file."""
-        uses = r'ghost use Rattle\.(zic_\w+)\.specs\.([\w.]+?)(?:\.{([^}]*)}| as (\w+));'
+        uses = r'ghost use Rattle\.(p?zic_\w+)\.specs\.([\w.]+?)(?:\.{([^}]*)}| as (\w+));'
         for crate, place, names, alias in re.findall(uses, self.text):
             path = CRATES / crate / 'specs' / (place.replace('.', '/') + '.antt')
             for name in names.split(',') if path.exists() else []:
@@ -117,6 +119,8 @@ class Tree:
             (self.methods[f.name] if f.owner else self.free[f.module.crate, f.name]).append(f)
 
     def is_exported(self, f):
+        if f.is_export:
+            return True
         name, root = f.owner or f.name, self.roots[f.module.crate]
         is_opened = re.search(rf'^pub mod {f.module.path.stem};', root.text, re.M) is not None
         return is_opened or name in root.exports or root.path.stem == 'main'

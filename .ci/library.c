@@ -1,0 +1,440 @@
+// Tests the library from C: `library TREE NAME...` reads the zones of these names from a tree of
+// TZif files. The C library's localtime_r, which reads the same files, is the witness. Link it with
+// `--wrap=malloc` and `--wrap=realloc`, so that growths of memory can be refused.
+#include <pthread.h>
+#include <stdbool.h>
+#include <stdio.h>
+#include <stdlib.h>
+#include <string.h>
+#include <time.h>
+
+#include "pzic.h"
+
+#define CHECK(holds)                                                              \
+    do {                                                                          \
+        if (!(holds)) {                                                           \
+            fprintf(stderr, "%s:%d: not so: %s\n", __FILE__, __LINE__, #holds); \
+            exit(1);                                                              \
+        }                                                                         \
+    } while (0)
+
+enum { THREADS = 8, MANY = 5000 };
+
+// The growths that are let through before one is refused, or -1 where none is.
+static _Thread_local long growths_left = -1;
+
+void *__real_malloc(size_t size);
+void *__real_realloc(void *block, size_t size);
+
+static bool is_refused(void) {
+    if (growths_left < 0) return false;
+    return growths_left-- == 0;
+}
+
+void *__wrap_malloc(size_t size) { return is_refused() ? NULL : __real_malloc(size); }
+
+void *__wrap_realloc(void *block, size_t size) {
+    return is_refused() ? NULL : __real_realloc(block, size);
+}
+
+typedef struct file {
+    char path[4096];
+    uint8_t *bytes;
+    size_t length;
+} file;
+
+static file load(const char *tree, const char *name) {
+    file f;
+    CHECK((size_t)snprintf(f.path, sizeof f.path, "%s/%s", tree, name) < sizeof f.path);
+    FILE *in = fopen(f.path, "rb");
+    CHECK(in != NULL);
+    f.bytes = malloc(1 << 20);
+    CHECK(f.bytes != NULL);
+    f.length = fread(f.bytes, 1, 1 << 20, in);
+    CHECK(f.length > 0);
+    fclose(in);
+    return f;
+}
+
+// Reads a copy of as many bytes as are told, so that a read past them is seen.
+static int32_t read_copy(const uint8_t *bytes, size_t length, pzic_handle *zone, uint32_t *reason) {
+    uint8_t *copy = malloc(length ? length : 1);
+    CHECK(copy != NULL);
+    if (length) memcpy(copy, bytes, length);
+    int32_t status = pzic_zone_read(copy, length, zone, reason);
+    free(copy);
+    return status;
+}
+
+static void read_zone(const file *f, pzic_handle *zone) {
+    uint32_t reason = 77;
+    CHECK(read_copy(f->bytes, f->length, zone, &reason) == PZIC_OK);
+    CHECK(zone->kind == 1);
+    CHECK(reason == 77);
+}
+
+static bool are_same(const pzic_state *a, const pzic_state *b) {
+    return a->offset == b->offset && a->daylight == b->daylight
+        && a->name_length == b->name_length && memcmp(a->name, b->name, sizeof a->name) == 0;
+}
+
+// A generator of instants: xorshift, 1880 to 2120.
+static int64_t next_instant(uint64_t *seed) {
+    *seed ^= *seed << 13;
+    *seed ^= *seed >> 7;
+    *seed ^= *seed << 17;
+    return (int64_t)(*seed % 7573910400u) - 2840140800;
+}
+
+// Compares a zone with localtime_r at many instants.
+static void compare(const file *f, pzic_handle *zone) {
+    char setting[4100];
+    snprintf(setting, sizeof setting, ":%s", f->path);
+    CHECK(setenv("TZ", setting, 1) == 0);
+    tzset();
+    uint64_t seed = 88172645463325252u;
+    for (int i = 0; i < MANY; i++) {
+        time_t t = next_instant(&seed);
+        struct tm tm;
+        CHECK(localtime_r(&t, &tm) != NULL);
+        pzic_state state;
+        CHECK(pzic_zone_at(zone, t, &state) == PZIC_OK);
+        CHECK(state.offset == tm.tm_gmtoff);
+        CHECK((int)state.daylight == tm.tm_isdst);
+        CHECK(state.name_length == strlen(tm.tm_zone));
+        CHECK(strcmp(state.name, tm.tm_zone) == 0);
+    }
+}
+
+// Goes over spans: each begins where the one before ends, and the answer differs or a transition
+// stands there.
+static void go_over_spans(pzic_handle *zone) {
+    int64_t first, last, next = INT64_MIN;
+    int spans = 0;
+    pzic_state state, other;
+    do {
+        CHECK(pzic_zone_span(zone, next, &state, &first, &last) == PZIC_OK);
+        CHECK(first == next && first <= last);
+        CHECK(pzic_zone_at(zone, first, &other) == PZIC_OK && are_same(&state, &other));
+        CHECK(pzic_zone_at(zone, last, &other) == PZIC_OK && are_same(&state, &other));
+        next = last + (last < INT64_MAX);
+        spans++;
+    } while (last < INT64_MAX && spans < 1000);
+    CHECK(pzic_zone_span(zone, INT64_MAX, &state, &first, &last) == PZIC_OK && last == INT64_MAX);
+    CHECK(pzic_zone_span(zone, INT64_MIN, &state, &first, &last) == PZIC_OK && first == INT64_MIN);
+}
+
+// Compares a column with single answers. The instants are sorted, or not.
+static void compare_column(pzic_handle *zone, bool sorted) {
+    int64_t *instants = malloc(MANY * sizeof *instants);
+    int32_t *offsets = malloc(MANY * sizeof *offsets);
+    uint8_t *flags = malloc(MANY);
+    CHECK(instants && offsets && flags);
+    uint64_t seed = 362436069;
+    for (int i = 0; i < MANY; i++)
+        instants[i] = sorted ? -2840140800 + i * INT64_C(1514782) : next_instant(&seed);
+    CHECK(pzic_zone_offsets(zone, instants, MANY, offsets, MANY, flags, MANY) == PZIC_OK);
+    for (int i = 0; i < MANY; i++) {
+        pzic_state state;
+        CHECK(pzic_zone_at(zone, instants[i], &state) == PZIC_OK);
+        CHECK(offsets[i] == state.offset && flags[i] == (state.daylight ? PZIC_DAYLIGHT : 0));
+    }
+    offsets[0] = 12345;
+    flags[0] = 99;
+    CHECK(pzic_zone_offsets(zone, instants, 2, offsets, 1, flags, 2) == PZIC_LENGTHS);
+    CHECK(pzic_zone_offsets(zone, instants, 2, offsets, 2, flags, 3) == PZIC_LENGTHS);
+    CHECK(pzic_zone_offsets(zone, instants, 0, offsets, 0, flags, 0) == PZIC_OK);
+    CHECK(offsets[0] == 12345 && flags[0] == 99);
+    free(instants);
+    free(offsets);
+    free(flags);
+}
+
+// Each beginning of a file is refused, and so are other bytes.
+static void refuse_bytes(const file *f) {
+    pzic_handle zone = {0};
+    uint32_t reason = 0;
+    for (size_t length = 0; length < f->length; length += length < 200 ? 1 : 13) {
+        CHECK(read_copy(f->bytes, length, &zone, &reason) == PZIC_BAD_FILE);
+        CHECK(reason == PZIC_REASON_SHORT);
+        CHECK(zone.kind == 0);
+    }
+    uint8_t *other = malloc(f->length + 1);
+    CHECK(other != NULL);
+    memcpy(other, f->bytes, f->length);
+    other[f->length] = '\n';
+    CHECK(read_copy(other, f->length + 1, &zone, &reason) == PZIC_BAD_FILE);
+    CHECK(reason == PZIC_REASON_TRAILING_BYTES);
+    other[0] = 't';
+    CHECK(read_copy(other, f->length, &zone, &reason) == PZIC_BAD_FILE);
+    CHECK(reason == PZIC_REASON_MAGIC);
+    free(other);
+    // What the handle held is let go.
+    read_zone(f, &zone);
+    CHECK(read_copy(f->bytes, 3, &zone, &reason) == PZIC_BAD_FILE);
+    CHECK(zone.kind == 0);
+    CHECK(zone.at == NULL);
+}
+
+// A handle that holds nothing is refused by each call, and may be freed.
+static void refuse_nothing(void) {
+    pzic_handle zone = {0}, other = {0};
+    pzic_state state = {.offset = 5};
+    int64_t instant = 0, first = 6, last = 7;
+    int32_t offset = 8;
+    uint8_t flag = 9;
+    CHECK(pzic_zone_at(&zone, 0, &state) == PZIC_NO_HANDLE && state.offset == 5);
+    CHECK(pzic_zone_span(&zone, 0, &state, &first, &last) == PZIC_NO_HANDLE);
+    CHECK(state.offset == 5 && first == 6 && last == 7);
+    CHECK(pzic_zone_offsets(&zone, &instant, 1, &offset, 1, &flag, 1) == PZIC_NO_HANDLE);
+    CHECK(offset == 8 && flag == 9);
+    CHECK(pzic_share(&zone, &other) == PZIC_NO_HANDLE && other.kind == 0);
+    pzic_free(&zone);
+    pzic_free(&zone);
+}
+
+// A file of one transition, at 1000, with no footer: local time is left open from there on.
+static void leave_open(void) {
+    static const uint8_t head[44] = {'T', 'Z', 'i', 'f', '2'};
+    uint8_t bytes[200] = {0};
+    memcpy(bytes, head, sizeof head);
+    uint8_t *second = bytes + 44;
+    memcpy(second, head, sizeof head);
+    second[35] = 1; // transitions
+    second[39] = 2; // types
+    second[43] = 8; // designations
+    uint8_t *block = second + 44;
+    block[6] = 1000 >> 8;
+    block[7] = 1000 & 255;
+    block[8] = 1;                    // the second type
+    block[9 + 3] = 60;               // the first type: a minute east, ABC
+    block[15 + 3] = 120;             // the second: two minutes, daylight saving time, DEF
+    block[15 + 4] = 1, block[15 + 5] = 4;
+    memcpy(block + 21, "ABC\0DEF\0\n\n", 10);
+    size_t length = (size_t)(block + 31 - bytes);
+    pzic_handle zone = {0};
+    uint32_t reason = 0;
+    int32_t status = read_copy(bytes, length, &zone, &reason);
+    CHECK(status == PZIC_OK);
+    pzic_state state;
+    CHECK(pzic_zone_at(&zone, 999, &state) == PZIC_OK);
+    CHECK(state.offset == 60 && state.daylight == 0 && strcmp(state.name, "ABC") == 0);
+    memset(&state, 1, sizeof state);
+    CHECK(pzic_zone_at(&zone, 1000, &state) == PZIC_UNSPECIFIED);
+    CHECK(state.offset == 0 && state.daylight == 0 && state.name_length == 0);
+    for (int i = 0; i < 17; i++) CHECK(state.name[i] == 0);
+    int64_t first, last;
+    CHECK(pzic_zone_span(&zone, 5000, &state, &first, &last) == PZIC_UNSPECIFIED);
+    CHECK(first == 1000 && last == INT64_MAX);
+    int64_t instants[2] = {1000, 999};
+    int32_t offsets[2] = {1, 1};
+    uint8_t flags[2] = {7, 7};
+    CHECK(pzic_zone_offsets(&zone, instants, 2, offsets, 2, flags, 2) == PZIC_OK);
+    CHECK(offsets[0] == 0 && flags[0] == PZIC_OPEN && offsets[1] == 60 && flags[1] == 0);
+    pzic_free(&zone);
+}
+
+static const char source[] =
+    "Zone Test/Fixed 1:00 - XYZ\n"
+    "Link Test/Fixed Test/Alias\n"
+    "Rule US 2007 max - Mar Sun>=8 2:00 1:00 D\n"
+    "Rule US 2007 max - Nov Sun>=1 2:00 0 S\n"
+    "Zone Test/York -5:00 US E%sT\n";
+
+static int32_t compile(const char *text, pzic_handle *files, pzic_fault *fault) {
+    return pzic_compile((const uint8_t *)text, strlen(text), files, fault);
+}
+
+static int32_t find(pzic_handle *files, const char *name, size_t *number) {
+    return pzic_files_find(files, (const uint8_t *)name, strlen(name), number);
+}
+
+// Compiles a source, and asks for its files and zones.
+static void compile_source(void) {
+    pzic_handle files = {0}, zone = {0}, again = {0}, other = {0};
+    pzic_fault fault = {7, 8};
+    pzic_state state;
+    CHECK(compile(source, &files, &fault) == PZIC_OK && files.kind == 2 && fault.line == 7);
+    size_t count = 0, number = 9;
+    CHECK(pzic_files_len(&files, &count) == PZIC_OK && count == 3);
+    CHECK(find(&files, "Test/Alias", &number) == PZIC_OK && number == 1);
+    CHECK(find(&files, "Test/None", &number) == PZIC_NO_SUCH && number == 1);
+    uint8_t room[100];
+    memset(room, 'x', sizeof room);
+    CHECK(pzic_files_name(&files, 2, room, 4, &count) == PZIC_OK && count == 9);
+    CHECK(memcmp(room, "Testx", 5) == 0);
+    CHECK(pzic_files_name(&files, 2, room, sizeof room, &count) == PZIC_OK);
+    CHECK(memcmp(room, "Test/Yorkx", 10) == 0);
+    count = 5;
+    CHECK(pzic_files_name(&files, 3, room, sizeof room, &count) == PZIC_NO_SUCH && count == 5);
+    CHECK(pzic_files_bytes(&files, 3, room, sizeof room, &count) == PZIC_NO_SUCH && count == 5);
+    CHECK(pzic_files_bytes(&files, 2, room, 0, &count) == PZIC_OK && count > 44);
+    uint8_t *bytes = malloc(count);
+    CHECK(bytes != NULL);
+    CHECK(pzic_files_bytes(&files, 2, bytes, count, &count) == PZIC_OK);
+    uint32_t reason;
+    CHECK(read_copy(bytes, count, &zone, &reason) == PZIC_OK);
+    free(bytes);
+    // 2024-07-03 and 2024-01-01.
+    CHECK(pzic_zone_at(&zone, 1720000000, &state) == PZIC_OK);
+    CHECK(state.offset == -4 * 3600 && state.daylight == 1 && strcmp(state.name, "EDT") == 0);
+    CHECK(pzic_share(&files, &other) == PZIC_OK && other.kind == 2);
+    pzic_free(&files);
+    CHECK(pzic_zone_of(&other, 2, &again) == PZIC_OK && again.kind == 1);
+    CHECK(pzic_zone_of(&other, 3, &zone) == PZIC_NO_SUCH && zone.kind == 0);
+    // Neither kind of handle is the other.
+    CHECK(pzic_zone_at(&other, 0, &state) == PZIC_NO_HANDLE);
+    CHECK(pzic_files_len(&again, &count) == PZIC_NO_HANDLE);
+    CHECK(find(&again, "Test/York", &number) == PZIC_NO_HANDLE);
+    CHECK(pzic_files_name(&again, 0, room, 1, &count) == PZIC_NO_HANDLE);
+    CHECK(pzic_files_bytes(&again, 0, room, 1, &count) == PZIC_NO_HANDLE);
+    CHECK(pzic_zone_of(&again, 0, &zone) == PZIC_NO_HANDLE);
+    // The zone stays without the files.
+    pzic_free(&other);
+    CHECK(pzic_zone_at(&again, 1704067200, &state) == PZIC_OK);
+    CHECK(state.offset == -5 * 3600 && state.daylight == 0 && strcmp(state.name, "EST") == 0);
+    CHECK(pzic_share(&again, &zone) == PZIC_OK && zone.kind == 1);
+    pzic_free(&again);
+    pzic_free(&zone);
+}
+
+// Texts that are no source, and growths of memory that are refused in turn.
+static void refuse_sources(void) {
+    pzic_handle files = {0};
+    pzic_fault fault = {0};
+    CHECK(compile("Zone A 0 - XYZ\nZone B 0 - XYZ\nWord\n", &files, &fault) == PZIC_BAD_SOURCE);
+    CHECK(fault.line == 3 && fault.kind == 4 && files.kind == 0); // Keyword
+    CHECK(compile("Zone A 0 NoSet XYZ\n", &files, &fault) == PZIC_BAD_SOURCE);
+    CHECK(fault.line == 1 && fault.kind == 21 && files.kind == 0); // UnknownRules
+    CHECK(compile("", &files, &fault) == PZIC_OK && files.kind == 2);
+    size_t count = 1;
+    CHECK(pzic_files_len(&files, &count) == PZIC_OK && count == 0);
+    for (long n = 0;; n++) {
+        growths_left = n;
+        int32_t status = compile(source, &files, &fault);
+        bool all = growths_left >= 0;
+        growths_left = -1;
+        if (all) {
+            CHECK(status == PZIC_OK && n > 10);
+            break;
+        }
+        CHECK(status == PZIC_NO_MEMORY && files.kind == 0 && fault.line == 1);
+    }
+    pzic_handle zone = {0};
+    growths_left = 0;
+    CHECK(pzic_zone_of(&files, 0, &zone) == PZIC_NO_MEMORY && zone.kind == 0);
+    growths_left = -1;
+    pzic_free(&files);
+}
+
+// A zone stays while one of its handles holds it.
+static void share(const file *f) {
+    pzic_handle zone = {0}, other = {0};
+    pzic_state state, same;
+    read_zone(f, &zone);
+    CHECK(pzic_zone_at(&zone, 1720000000, &state) == PZIC_OK);
+    for (int i = 0; i < 3; i++) CHECK(pzic_share(&zone, &other) == PZIC_OK && other.kind == 1);
+    pzic_free(&zone);
+    CHECK(pzic_zone_at(&other, 1720000000, &same) == PZIC_OK && are_same(&state, &same));
+    CHECK(pzic_share(&zone, &other) == PZIC_NO_HANDLE && other.kind == 0);
+}
+
+// Each growth of memory is refused in turn.
+static void refuse_growths(const file *f) {
+    pzic_handle zone = {0}, other = {0};
+    uint32_t reason = 77;
+    long n = 0;
+    for (;; n++) {
+        growths_left = n;
+        int32_t status = pzic_zone_read(f->bytes, f->length, &zone, &reason);
+        bool all = growths_left >= 0;
+        growths_left = -1;
+        if (all) {
+            CHECK(status == PZIC_OK);
+            break;
+        }
+        CHECK(status == PZIC_NO_MEMORY && zone.kind == 0 && reason == 77);
+    }
+    CHECK(n > 3);
+    growths_left = 0;
+    CHECK(pzic_share(&zone, &other) == PZIC_NO_MEMORY && other.kind == 0);
+    // These ask for no memory.
+    growths_left = 0;
+    pzic_state state;
+    int64_t first, last;
+    CHECK(pzic_zone_at(&zone, 5, &state) == PZIC_OK);
+    CHECK(pzic_zone_span(&zone, 5, &state, &first, &last) == PZIC_OK);
+    CHECK(growths_left == 0);
+    growths_left = -1;
+    pzic_free(&zone);
+}
+
+typedef struct task {
+    const file *f;
+    pzic_handle zone;
+} task;
+
+// What each thread does: it uses its handle of the shared zone, and reads a zone of its own.
+static void *work(void *argument) {
+    task *mine = argument;
+    compare_column(&mine->zone, false);
+    compare_column(&mine->zone, true);
+    for (int i = 0; i < 50; i++) {
+        pzic_handle again = {0}, own = {0};
+        pzic_state state, same;
+        read_zone(mine->f, &own);
+        CHECK(pzic_share(&mine->zone, &again) == PZIC_OK);
+        CHECK(pzic_zone_at(&again, i * INT64_C(40000000), &state) == PZIC_OK);
+        CHECK(pzic_zone_at(&own, i * INT64_C(40000000), &same) == PZIC_OK && are_same(&state, &same));
+        pzic_free(&own);
+        pzic_free(&again);
+    }
+    pzic_free(&mine->zone);
+    return NULL;
+}
+
+static void use_threads(const file *f) {
+    pzic_handle zone = {0};
+    pthread_t threads[THREADS];
+    task tasks[THREADS];
+    read_zone(f, &zone);
+    for (int i = 0; i < THREADS; i++) {
+        tasks[i] = (task){.f = f};
+        CHECK(pzic_share(&zone, &tasks[i].zone) == PZIC_OK);
+        CHECK(pthread_create(&threads[i], NULL, work, &tasks[i]) == 0);
+    }
+    compare_column(&zone, false);
+    // The zone is let go in whatever thread is last. The sanitizer of threads doesn't see the
+    // library's count of handles, so for it this thread is the last.
+#ifndef __SANITIZE_THREAD__
+    pzic_free(&zone);
+#endif
+    for (int i = 0; i < THREADS; i++) CHECK(pthread_join(threads[i], NULL) == 0);
+    pzic_free(&zone);
+}
+
+int main(int count, char **words) {
+    CHECK(count >= 3);
+    refuse_nothing();
+    leave_open();
+    compile_source();
+    refuse_sources();
+    for (int i = 2; i < count; i++) {
+        file f = load(words[1], words[i]);
+        pzic_handle zone = {0};
+        read_zone(&f, &zone);
+        compare(&f, &zone);
+        go_over_spans(&zone);
+        compare_column(&zone, false);
+        compare_column(&zone, true);
+        pzic_free(&zone);
+        if (i == 2) {
+            refuse_bytes(&f);
+            share(&f);
+            refuse_growths(&f);
+            use_threads(&f);
+        }
+        free(f.bytes);
+    }
+    printf("%d zones\n", count - 2);
+}

@@ -1,0 +1,12 @@
+use Rattle.std.proofs.Common.{rules, FitsSigned, w32, to_z-of_z}
+use Rattle.zic_tzif.specs.Reading.{IsFault, ReadNeedsMemory, reason_of}
+use Rattle.pzic_c.proofs.Refusals.{match_of}
+use Rattle.pzic_c.proofs.zone.pzic_zone_read.Goals as goal
+
+pub returns-in-Err-clause-read : goal.returns-in-Err-clause-read
+returns-in-Err-clause-read c =
+    let octets = c.args.octets.now in
+    let refusal = reason_of c.in-Err.stop in
+    let why = c.in-Err.ensures in
+    let fits : FitsSigned w32 c.refuse_bytes.result = search rules in
+    rw (to_z-of_z fits, c.take.ensures.empty) (refusal, match_of (IsFault octets) (ReadNeedsMemory octets) refusal why.err why.memory, c.refuse_bytes.ensures)

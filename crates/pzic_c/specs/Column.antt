@@ -1,0 +1,35 @@
+-- What the cells of a column tell of a zone. Own choice.
+use Rattle.std.specs.Prelude.{◌≡◌, ℕ, ℤ, ◌⊎◌, List, length, Option, Some, None}
+use Rattle.std.specs.List.{AllZip}
+use Rattle.zic_base.specs.State.{Shown}
+use Rattle.zic_tzif.specs.Content.{Content}
+use Rattle.zic_tzif.specs.Answer.{Answers}
+use Rattle.pzic_c.specs.State.{flag, state_of}
+use Rattle.pzic_c.specs.declared.status.TheConstants.{OK, LENGTHS}
+
+-- the flags of an answer: 1 is daylight saving time, and 2 that local time is left open
+abbrev pub flags_of : Option Shown → ℕ
+flags_of (Some shown) = flag shown.daylight
+flags_of None = 2
+
+-- the offset is the one that the file of this content answers at an instant, or 0 where it leaves local time open
+abbrev pub IsOffsetAt : Content → ℤ → ℤ → Type 0
+IsOffsetAt content t offset = (answer : Option Shown) × Answers content t answer × (offset ≡ (state_of answer).offset)
+
+-- the flags are those of what the file answers at an instant
+abbrev pub AreFlagsAt : Content → ℤ → ℕ → Type 0
+AreFlagsAt content t flags = (answer : Option Shown) × Answers content t answer × (flags ≡ flags_of answer)
+
+-- The lists have as many items.
+abbrev pub AreAsLong : List ℤ → List ℤ → List ℕ → Type 0
+AreAsLong instants offsets flags = (length offsets ≡ length instants) × (length flags ≡ length instants)
+
+-- each offset and each flag tells what the file answers at the instant of its place
+pub record AreTold (content : Content) (instants : List ℤ) (offsets : List ℤ) (flags : List ℕ) : Type 0 where
+  pub offsets_told : AllZip (IsOffsetAt content) instants offsets
+  pub flags_told : AllZip (AreFlagsAt content) instants flags
+
+-- The column is told, or its arrays differ in length.
+abbrev pub IsColumnTold : Content → List ℤ → ℤ → List ℤ → List ℕ → Type 0
+IsColumnTold content instants status offsets flags =
+    ((status ≡ OK) × AreTold content instants offsets flags) ⊎ ((status ≡ LENGTHS) × (AreAsLong instants offsets flags → ⊥))

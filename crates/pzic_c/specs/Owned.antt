@@ -1,0 +1,17 @@
+-- What a handle owns.
+use base.Fml.{Fml, ftrue}
+use denote.RawPtr.{Ptr}
+use Rattle.std.specs.Prelude.{Option, Some, None}
+use Rattle.std.specs.Box.Ownership.{box_owns}
+use Rattle.libc.specs.Heap.{chunk}
+use Rattle.pzic_c.specs.contracts.held.Held.{the_row}
+
+-- the value at p and the right to free its block, where there is one
+abbrev pub owned : Ptr → Option the_row.Denot → Fml
+owned p (Some x) = box_owns chunk the_row p x
+owned p None = ftrue
+
+-- there is a value
+abbrev pub IsHolding : {X : Type 0} → Option X → Type 0
+IsHolding (Some x) = Unit {0}
+IsHolding None = ⊥

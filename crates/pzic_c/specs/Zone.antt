@@ -1,0 +1,49 @@
+-- What the calls on a zone tell. Own choice.
+use Rattle.std.specs.Prelude.{◌≡◌, ℕ, ℤ, List, Option, Some, None, MatchOption}
+use Rattle.zic_base.specs.State.{Shown}
+use Rattle.zic_tzif.specs.Content.{Content}
+use Rattle.zic_posix.specs.Instants.{Includes, AreBetween}
+use Rattle.zic_posix.specs.declared.instants.Instants.{Instants}
+use Rattle.zic_tzif.specs.Answer.{Answers, AnswersThroughout, MayChangeAt}
+use Rattle.zic_tzif.specs.Reading.{IsFile, IsFault, ReadNeedsMemory}
+use Rattle.zic_tzif.specs.declared.reason.Reason.{Reason}
+use Rattle.zic_tzif.specs.Reason.{reason_number}
+use Rattle.pzic_c.specs.State.{IsStateOf, state_of}
+use Rattle.pzic_c.specs.declared.state.State.{State}
+use Rattle.pzic_c.specs.declared.status.TheConstants.{OK, UNSPECIFIED, NO_MEMORY, BAD_FILE}
+
+-- the status that tells an answer
+abbrev pub status_of : Option Shown → ℤ
+status_of (Some shown) = OK
+status_of None = UNSPECIFIED
+
+-- The status and the state tell the answer.
+pub record IsTold (answer : Option Shown) (status : ℤ) (state : State) : Type 0 where
+  pub status_is : status ≡ status_of answer
+  pub state_is : IsStateOf (state_of answer) state
+
+-- They tell what the file of this content answers at an instant.
+abbrev pub IsToldAt : Content → ℤ → ℤ → State → Type 0
+IsToldAt content t status state = (answer : Option Shown) × Answers content t answer × IsTold answer status state
+
+-- They tell what the file answers at all of these instants, of which t is one. Between them it may change only where it has a transition or its
+-- footer an edge.
+pub record IsToldRound (content : Content) (t : ℤ) (instants : Instants) (status : ℤ) (state : State) : Type 0 where
+  pub asked : Includes instants t
+  pub between : AreBetween (MayChangeAt content) instants
+  pub told : (answer : Option Shown) × AnswersThroughout content instants answer × IsTold answer status state
+
+-- The status and the number tell why bytes weren't read: the reason's number, or that memory ran out.
+abbrev pub IsRefusalTold : Option Reason → ℤ → ℕ → Type 0
+IsRefusalTold (Some r) status number = (status ≡ BAD_FILE) × (number ≡ reason_number r)
+IsRefusalTold None status number = status ≡ NO_MEMORY
+
+-- The bytes were read, and the handle holds the zone of what they say; or they weren't, it holds nothing, and the reason that is told is that of the
+-- first check that they fail, or memory ran out at what may take it.
+abbrev pub IsRead : List ℕ → ℤ → ℕ → Option Content → Type 0
+IsRead octets status number (Some content) = (status ≡ OK) × IsFile octets content
+IsRead octets status number None = (refusal : Option Reason) × MatchOption refusal (ReadNeedsMemory octets) (IsFault octets) × IsRefusalTold refusal status number
+
+-- the instants from the first to the last
+abbrev pub instants : ℤ → ℤ → Instants
+instants first last = record { first = first; last = last }

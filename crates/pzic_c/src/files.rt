@@ -1,0 +1,268 @@
+//! The calls on the files of a source.
+
+ghost use Rattle.std.specs.Prelude.{◌≡◌, ◌∷◌, [], None, length, IfOk, MatchOption};
+ghost use Rattle.zic_base.specs.Fault.{fault_of};
+ghost use Rattle.zic_base.specs.Memory.{IfRefusal};
+ghost use Rattle.zic_bulk.specs.Build.{AreFilesOfTexts, IsFaultOfTexts};
+ghost use Rattle.pzic_c.specs.Files.{IsCompiled, IsFaultTold, IsFound, IsPartTold, IsZoneTold, overwritten};
+ghost use Rattle.pzic_c.specs.Handle.{IsHandle, Keeps, files_in, held_in, zone_in};
+ghost use Rattle.pzic_c.specs.declared.status.TheConstants.{NO_HANDLE, OK};
+
+use crate::handle::Handle;
+use crate::held::{Held, hold_files, hold_member};
+use crate::status::{BAD_SOURCE, NO_HANDLE, NO_MEMORY, NO_SUCH, OK};
+use std::alloc::Global;
+use std::sync::Arc;
+use zic_base::Stop;
+use zic_bulk::{Files, compile};
+use zic_source::read_source;
+
+/// The first fault of a source.
+#[repr(C)]
+#[derive(Drop)]
+pub struct SourceFault {
+    /// The number of the line, from 1.
+    pub line: u64,
+    /// The number of the kind.
+    pub kind: u32,
+}
+
+/// Returns the files of a text.
+fn files_of_text(alloc: Global, text: &[u8]) -> Result<Files, Stop>
+    ensures ok { IfOk result (AreFilesOfTexts (text.now ∷ [])) }
+    ensures err { IfRefusal fault_of result (IsFaultOfTexts (text.now ∷ [])) }
+{
+    let texts = vec![in alloc; Vec::from_slice(alloc, text)?]?;
+    let source = read_source(alloc, &texts)?;
+    compile(alloc, &source)
+}
+
+/// Tells why a text has no files.
+fn refuse_source(stop: Stop, told: &mut SourceFault) -> i32
+    ensures { IsFaultTold (fault_of stop) result told.new }
+{
+    match stop {
+        Stop::Fault(fault) => {
+            *told = SourceFault {
+                line: fault.place.line,
+                kind: u32::from(fault.kind.number()),
+            };
+            BAD_SOURCE
+        }
+        Stop::Memory => NO_MEMORY,
+    }
+}
+
+/// Compiles a source.
+#[unsafe(no_mangle)]
+pub extern "C" fn pzic_compile(
+    alloc: Global,
+    text: &[u8],
+    files: &mut Handle,
+    fault: &mut SourceFault,
+) -> i32
+    requires { IsHandle files.old }
+    ensures handle { IsHandle files.new }
+    ensures compiled { IsCompiled text.now result fault.new (files_in files.new) }
+{
+    drop(files.take(alloc));
+    let made = match files_of_text(alloc, text) {
+        Ok(made) => made,
+        Err(stop) => return refuse_source(stop, fault),
+    };
+    match hold_files(alloc, made) {
+        Ok(held) => {
+            files.put(held);
+            OK
+        }
+        Err(_) => NO_MEMORY,
+    }
+}
+
+/// Tells how many files there are.
+#[unsafe(no_mangle)]
+pub extern "C" fn pzic_files_len(alloc: Global, files: &mut Handle, count: &mut usize) -> i32
+    requires { IsHandle files.old }
+    ensures kept { Keeps files.old files.new }
+    ensures told { MatchOption (files_in files.old) (result ≡ NO_HANDLE)
+        (λ all. (result ≡ OK) × (count.new ≡ length all)) }
+{
+    let Some(held) = files.take(alloc) else {
+        return NO_HANDLE;
+    };
+    let status = match held.files() {
+        Some(all) => {
+            *count = all.len();
+            OK
+        }
+        None => NO_HANDLE,
+    };
+    files.put(held);
+    status
+}
+
+/// Tells the number of the file of a name.
+fn find(files: &Files, name: &[u8], number: &mut usize) -> i32
+    ensures { IsFound files.now name.now result number.new }
+{
+    match files.find(name) {
+        Some(found) => {
+            *number = found;
+            OK
+        }
+        None => NO_SUCH,
+    }
+}
+
+/// Finds the file of a name.
+#[unsafe(no_mangle)]
+pub extern "C" fn pzic_files_find(
+    alloc: Global,
+    files: &mut Handle,
+    name: &[u8],
+    number: &mut usize,
+) -> i32
+    requires { IsHandle files.old }
+    ensures kept { Keeps files.old files.new }
+    ensures found { MatchOption (files_in files.old) (result ≡ NO_HANDLE)
+        (λ all. IsFound all name.now result number.new) }
+{
+    let Some(held) = files.take(alloc) else {
+        return NO_HANDLE;
+    };
+    let status = match held.files() {
+        Some(all) => find(all, name, number),
+        None => NO_HANDLE,
+    };
+    files.put(held);
+    status
+}
+
+/// Copies as much as there is room for, and tells the whole length.
+fn copy(from: &[u8], room: &mut [u8], count: &mut usize)
+    ensures room { room.new ≡ overwritten room.old from.now }
+    ensures count { count.new ≡ length from.now }
+{
+    let copied = from.len().min(room.len());
+    room[..copied].copy_from_slice(&from[..copied]);
+    *count = from.len();
+}
+
+/// Tells the name of a file.
+fn copy_name(files: &Files, number: usize, room: &mut [u8], count: &mut usize) -> i32
+    ensures { IsPartTold (λ file. file.name) files.now number result room.old room.new count.new }
+{
+    if number >= files.len() {
+        return NO_SUCH;
+    }
+    copy(files.name(number), room, count);
+    OK
+}
+
+/// Tells the bytes of a file.
+fn copy_bytes(files: &Files, number: usize, room: &mut [u8], count: &mut usize) -> i32
+    ensures { IsPartTold (λ file. file.image.octets) files.now number result room.old room.new
+        count.new }
+{
+    if number >= files.len() {
+        return NO_SUCH;
+    }
+    copy(files.bytes(number), room, count);
+    OK
+}
+
+/// Copies the name of a file, as much as there is room for.
+#[unsafe(no_mangle)]
+pub extern "C" fn pzic_files_name(
+    alloc: Global,
+    files: &mut Handle,
+    number: usize,
+    room: &mut [u8],
+    count: &mut usize,
+) -> i32
+    requires { IsHandle files.old }
+    ensures kept { Keeps files.old files.new }
+    ensures told { MatchOption (files_in files.old) (result ≡ NO_HANDLE) (λ all.
+        IsPartTold (λ file. file.name) all number result room.old room.new count.new) }
+{
+    let Some(held) = files.take(alloc) else {
+        return NO_HANDLE;
+    };
+    let status = match held.files() {
+        Some(all) => copy_name(all, number, room, count),
+        None => NO_HANDLE,
+    };
+    files.put(held);
+    status
+}
+
+/// Copies the bytes of a file, as many as there is room for.
+#[unsafe(no_mangle)]
+pub extern "C" fn pzic_files_bytes(
+    alloc: Global,
+    files: &mut Handle,
+    number: usize,
+    room: &mut [u8],
+    count: &mut usize,
+) -> i32
+    requires { IsHandle files.old }
+    ensures kept { Keeps files.old files.new }
+    ensures told { MatchOption (files_in files.old) (result ≡ NO_HANDLE) (λ all.
+        IsPartTold (λ file. file.image.octets) all number result room.old room.new count.new) }
+{
+    let Some(held) = files.take(alloc) else {
+        return NO_HANDLE;
+    };
+    let status = match held.files() {
+        Some(all) => copy_bytes(all, number, room, count),
+        None => NO_HANDLE,
+    };
+    files.put(held);
+    status
+}
+
+/// Has an empty handle hold the zone of a file.
+fn put_zone(alloc: Global, files: &Arc<Files>, number: usize, zone: &mut Handle) -> i32
+    requires handle { IsHandle zone.old }
+    requires empty { held_in zone.old ≡ None }
+    ensures handle { IsHandle zone.new }
+    ensures told { IsZoneTold files.now.value number result (zone_in zone.new) }
+{
+    if number >= files.len() {
+        return NO_SUCH;
+    }
+    match hold_member(alloc, files, number) {
+        Ok(held) => {
+            zone.put(held);
+            OK
+        }
+        Err(_) => NO_MEMORY,
+    }
+}
+
+/// Has a handle hold the zone of a file. The files stay while it does.
+#[unsafe(no_mangle)]
+pub extern "C" fn pzic_zone_of(
+    alloc: Global,
+    files: &mut Handle,
+    number: usize,
+    zone: &mut Handle,
+) -> i32
+    requires files { IsHandle files.old }
+    requires zone { IsHandle zone.old }
+    ensures kept { Keeps files.old files.new }
+    ensures handle { IsHandle zone.new }
+    ensures zone { MatchOption (files_in files.old) (result ≡ NO_HANDLE)
+        (λ all. IsZoneTold all number result (zone_in zone.new)) }
+{
+    drop(zone.take(alloc));
+    let Some(held) = files.take(alloc) else {
+        return NO_HANDLE;
+    };
+    let status = match held.as_ref() {
+        Held::Files(all) => put_zone(alloc, all, number, zone),
+        Held::Zone(_) | Held::Member(_) => NO_HANDLE,
+    };
+    files.put(held);
+    status
+}

@@ -1,0 +1,56 @@
+//! Handles: what C holds of the library's values.
+
+ghost use Rattle.std.specs.Prelude.{◌≡◌, Some, None, option_map};
+ghost use Rattle.std.specs.Box.{box_value};
+ghost use Rattle.pzic_c.specs.Handle.{IsHandle, held_in};
+
+use crate::held::Held;
+use crate::owned::Owned;
+use crate::parts::Parts;
+use std::alloc::Global;
+use std::mem::replace;
+
+/// The kind of a handle that holds nothing.
+const NOTHING: u32 = 0;
+/// The kind of a handle that holds a zone.
+const ZONE: u32 = 1;
+/// The kind of a handle that holds files.
+const FILES: u32 = 2;
+
+/// A handle, which C keeps and passes to each call. All zeros is one that holds nothing.
+#[repr(C)]
+#[derive(Drop)]
+pub struct Handle {
+    pub(crate) owned: Owned,
+    pub(crate) kind: u32,
+}
+
+impl Handle {
+    /// Takes what the handle holds out of it.
+    pub(crate) fn take(&mut self, alloc: Global) -> Option<Box<Held>>
+        requires { IsHandle self.old }
+        ensures handle { IsHandle self.new }
+        ensures empty { held_in self.new ≡ None }
+        ensures taken { option_map box_value result ≡ held_in self.old }
+    {
+        let owned = replace(&mut self.owned, Owned::none(alloc));
+        if self.kind == NOTHING {
+            return None;
+        }
+        self.kind = NOTHING;
+        Some(owned.into_parts().into_box())
+    }
+
+    /// Has the handle, which holds nothing, hold this.
+    pub(crate) fn put(&mut self, held: Box<Held>)
+        ensures handle { IsHandle self.new }
+        ensures put { held_in self.new ≡ Some held.value }
+    {
+        let kind = match held.as_ref() {
+            Held::Zone(_) | Held::Member(_) => ZONE,
+            Held::Files(_) => FILES,
+        };
+        self.owned = Owned::of_parts(Parts::of(held));
+        self.kind = kind;
+    }
+}

@@ -1,0 +1,83 @@
+//! What handles hold.
+
+ghost use Rattle.std.specs.Prelude.{◌≡◌, ◌<◌, length, Some, IfOk};
+ghost use Rattle.std.specs.Option.{option_copied};
+ghost use Rattle.pzic_c.specs.Handle.{AreAlike, content_at, content_of, files_of};
+
+use crate::member::Member;
+use std::alloc::{AllocError, Global};
+use std::sync::Arc;
+use zic_files::Files;
+use zic_tzif::Zone;
+
+/// What a handle holds. Handles of one zone, or of the same files, share it.
+#[derive(Drop)]
+pub(crate) enum Held {
+    Zone(Arc<Zone>),
+    Member(Member),
+    Files(Arc<Files>),
+}
+
+impl Held {
+    /// Returns the zone, if it is one.
+    pub(crate) fn zone(&self) -> Option<&Zone>
+        ensures { option_copied result ≡ content_of self.now }
+    {
+        match self {
+            Held::Zone(zone) => Some(zone),
+            Held::Member(member) => Some(member.zone()),
+            Held::Files(_) => None,
+        }
+    }
+
+    /// Returns the files, if there are any.
+    pub(crate) fn files(&self) -> Option<&Files>
+        ensures { option_copied result ≡ files_of self.now }
+    {
+        match self {
+            Held::Files(files) => Some(files),
+            _ => None,
+        }
+    }
+
+    /// Returns another owner of the same.
+    pub(crate) fn again(&self, alloc: Global) -> Result<Box<Held>, AllocError>
+        ensures { IfOk result (λ twin. AreAlike twin.value self.now) }
+    {
+        let twin = match self {
+            Held::Zone(zone) => Held::Zone(Arc::try_clone(zone)?),
+            Held::Member(member) => Held::Member(member.again()?),
+            Held::Files(files) => Held::Files(Arc::try_clone(files)?),
+        };
+        Ok(Box::new(alloc, twin)?)
+    }
+}
+
+/// Returns what a handle of a zone holds.
+pub(crate) fn hold_zone(alloc: Global, zone: Zone) -> Result<Box<Held>, AllocError>
+    ensures { IfOk result (λ held. content_of held.value ≡ Some zone) }
+{
+    let zone = Arc::new(alloc, zone)?;
+    Ok(Box::new(alloc, Held::Zone(zone))?)
+}
+
+/// Returns what a handle of files holds.
+pub(crate) fn hold_files(alloc: Global, files: Files) -> Result<Box<Held>, AllocError>
+    ensures { IfOk result (λ held. files_of held.value ≡ Some files) }
+{
+    let files = Arc::new(alloc, files)?;
+    Ok(Box::new(alloc, Held::Files(files))?)
+}
+
+/// Returns what a handle of the zone of a file holds.
+pub(crate) fn hold_member(
+    alloc: Global,
+    files: &Arc<Files>,
+    number: usize,
+) -> Result<Box<Held>, AllocError>
+    requires { number < length files.now.value }
+    ensures { IfOk result (λ held. content_of held.value ≡ content_at files.now.value number) }
+{
+    let files = Arc::try_clone(files)?;
+    Ok(Box::new(alloc, Held::Member(Member { files, number }))?)
+}

@@ -1,0 +1,15 @@
+//! The calls of the library for C, C++, Python and whoever links it: `include/pzic.h` has them, and
+//! `docs/LIBRARY.md` tells of them. No call starts a thread, prints, aborts or keeps global state.
+#![tactic(auto)]
+
+mod column;
+mod files;
+mod handle;
+mod held;
+mod member;
+mod owned;
+mod parts;
+mod sharing;
+mod state;
+mod status;
+mod zone;

@@ -1,0 +1,43 @@
+//! Letting go and sharing what handles hold.
+
+ghost use Rattle.std.specs.Prelude.{◌≡◌, None};
+ghost use Rattle.pzic_c.specs.Handle.{IsHandle, IsShared, Keeps, held_in};
+
+use crate::handle::Handle;
+use crate::status::{NO_HANDLE, NO_MEMORY, OK};
+use std::alloc::Global;
+
+/// Has another handle hold the same too. It is let go with the last of its handles.
+#[unsafe(no_mangle)]
+pub extern "C" fn pzic_share(alloc: Global, handle: &mut Handle, other: &mut Handle) -> i32
+    requires handle { IsHandle handle.old }
+    requires other { IsHandle other.old }
+    ensures kept { Keeps handle.old handle.new }
+    ensures other { IsHandle other.new }
+    ensures shared { IsShared (held_in handle.old) result (held_in other.new) }
+{
+    drop(other.take(alloc));
+    let Some(held) = handle.take(alloc) else {
+        return NO_HANDLE;
+    };
+    let status = match held.again(alloc) {
+        Ok(twin) => {
+            other.put(twin);
+            OK
+        }
+        Err(_) => NO_MEMORY,
+    };
+    handle.put(held);
+    status
+}
+
+/// Lets go what a handle holds, which then holds nothing.
+#[unsafe(no_mangle)]
+pub extern "C" fn pzic_free(alloc: Global, handle: &mut Handle)
+    requires { IsHandle handle.old }
+    ensures handle { IsHandle handle.new }
+    ensures empty { held_in handle.new ≡ None }
+{
+    let held = handle.take(alloc);
+    drop(held);
+}

@@ -1,0 +1,18 @@
+//! What a call answers.
+
+/// The call did what it is for.
+pub const OK: i32 = 0;
+/// The file leaves local time open at the instant.
+pub const UNSPECIFIED: i32 = 1;
+/// A growth of memory was refused.
+pub const NO_MEMORY: i32 = 2;
+/// The bytes are no TZif file.
+pub const BAD_FILE: i32 = 3;
+/// The handle holds nothing that the call works on.
+pub const NO_HANDLE: i32 = 4;
+/// The arrays differ in length.
+pub const LENGTHS: i32 = 5;
+/// The text is no source, or a zone of it has a fault.
+pub const BAD_SOURCE: i32 = 6;
+/// No file has the name or the number.
+pub const NO_SUCH: i32 = 7;

@@ -1,0 +1,159 @@
+//! The calls on zones.
+
+ghost use Rattle.std.specs.Prelude.{◌≡◌, MatchOption};
+ghost use Rattle.pzic_c.specs.Handle.{IsHandle, Keeps, content_of, zone_in};
+ghost use Rattle.pzic_c.specs.Zone.{IsRead, IsRefusalTold, IsToldAt, IsToldRound, instants};
+ghost use Rattle.pzic_c.specs.Column.{IsColumnTold};
+ghost use Rattle.zic_tzif.specs.Reading.{reason_of};
+ghost use Rattle.pzic_c.specs.declared.status.TheConstants.{NO_HANDLE};
+
+use crate::column;
+use crate::handle::Handle;
+use crate::held::{Held, hold_zone};
+use crate::state::State;
+use crate::status::{BAD_FILE, LENGTHS, NO_HANDLE, NO_MEMORY, OK};
+use std::alloc::Global;
+use zic_tzif::{ReadStop, Zone, read};
+
+/// Tells why bytes weren't read.
+fn refuse_bytes(stop: ReadStop, reason: &mut u32) -> i32
+    ensures { IsRefusalTold (reason_of stop) result reason.new }
+{
+    match stop {
+        ReadStop::Bad(why) => {
+            *reason = u32::from(why.number());
+            BAD_FILE
+        }
+        ReadStop::Memory => NO_MEMORY,
+    }
+}
+
+/// Tells local time of the zone that is held at an instant.
+fn tell_at(held: &Held, instant: i64, state: &mut State) -> i32
+    ensures { MatchOption (content_of held.now) (result ≡ NO_HANDLE)
+        (λ content. IsToldAt content instant result state.new) }
+{
+    match held.zone() {
+        Some(zone) => state.tell(zone.at(instant)),
+        None => NO_HANDLE,
+    }
+}
+
+/// Tells local time at an instant, and the first and the last of the instants round it.
+fn tell_round(zone: &Zone, instant: i64, state: &mut State, first: &mut i64, last: &mut i64) -> i32
+    ensures { IsToldRound zone.now instant (instants first.new last.new) result state.new }
+{
+    let span = zone.span(instant);
+    *first = span.instants.first;
+    *last = span.instants.last;
+    state.tell(span.answer)
+}
+
+/// Tells local time at each of many instants, where the arrays are as long.
+fn tell_column(zone: &Zone, instants: &[i64], offsets: &mut [i32], flags: &mut [u8]) -> i32
+    ensures { IsColumnTold zone.now instants.now result offsets.new flags.new }
+{
+    if offsets.len() != instants.len() || flags.len() != instants.len() {
+        return LENGTHS;
+    }
+    column::write(zone, instants, offsets, flags);
+    OK
+}
+
+/// Reads a zone from the bytes of a TZif file.
+#[unsafe(no_mangle)]
+pub extern "C" fn pzic_zone_read(
+    alloc: Global,
+    octets: &[u8],
+    zone: &mut Handle,
+    reason: &mut u32,
+) -> i32
+    requires { IsHandle zone.old }
+    ensures handle { IsHandle zone.new }
+    ensures read { IsRead octets.now result reason.new (zone_in zone.new) }
+{
+    drop(zone.take(alloc));
+    let made = match read(alloc, octets) {
+        Ok(made) => made,
+        Err(stop) => return refuse_bytes(stop, reason),
+    };
+    match hold_zone(alloc, made) {
+        Ok(held) => {
+            zone.put(held);
+            OK
+        }
+        Err(_) => NO_MEMORY,
+    }
+}
+
+/// Tells local time at an instant.
+#[unsafe(no_mangle)]
+pub extern "C" fn pzic_zone_at(
+    alloc: Global,
+    zone: &mut Handle,
+    instant: i64,
+    state: &mut State,
+) -> i32
+    requires { IsHandle zone.old }
+    ensures kept { Keeps zone.old zone.new }
+    ensures told { MatchOption (zone_in zone.old) (result ≡ NO_HANDLE)
+        (λ content. IsToldAt content instant result state.new) }
+{
+    let Some(held) = zone.take(alloc) else {
+        return NO_HANDLE;
+    };
+    let status = tell_at(&held, instant, state);
+    zone.put(held);
+    status
+}
+
+/// Tells local time at an instant, and the instants round it at which it is the same.
+#[unsafe(no_mangle)]
+pub extern "C" fn pzic_zone_span(
+    alloc: Global,
+    zone: &mut Handle,
+    instant: i64,
+    state: &mut State,
+    first: &mut i64,
+    last: &mut i64,
+) -> i32
+    requires { IsHandle zone.old }
+    ensures kept { Keeps zone.old zone.new }
+    ensures told { MatchOption (zone_in zone.old) (result ≡ NO_HANDLE)
+        (λ content. IsToldRound content instant (instants first.new last.new) result state.new) }
+{
+    let Some(held) = zone.take(alloc) else {
+        return NO_HANDLE;
+    };
+    let status = match held.zone() {
+        Some(zone) => tell_round(zone, instant, state, first, last),
+        None => NO_HANDLE,
+    };
+    zone.put(held);
+    status
+}
+
+/// Tells local time at each of many instants, in any order.
+#[unsafe(no_mangle)]
+pub extern "C" fn pzic_zone_offsets(
+    alloc: Global,
+    zone: &mut Handle,
+    instants: &[i64],
+    offsets: &mut [i32],
+    flags: &mut [u8],
+) -> i32
+    requires { IsHandle zone.old }
+    ensures kept { Keeps zone.old zone.new }
+    ensures told { MatchOption (zone_in zone.old) (result ≡ NO_HANDLE)
+        (λ content. IsColumnTold content instants.now result offsets.new flags.new) }
+{
+    let Some(held) = zone.take(alloc) else {
+        return NO_HANDLE;
+    };
+    let status = match held.zone() {
+        Some(zone) => tell_column(zone, instants, offsets, flags),
+        None => NO_HANDLE,
+    };
+    zone.put(held);
+    status
+}

@@ -1,0 +1,216 @@
+/*
+ * pzic.h: local time by the files of the time zone database.
+ *
+ * Instants are seconds from 1970-01-01T00:00:00 UT, without leap seconds: any int64_t. UT offsets
+ * are seconds, positive east.
+ *
+ * No call prints, starts a thread, ends the process or keeps state of its own between calls. A call
+ * that fails says so by its status, and then writes only what is told of it here.
+ *
+ * Pointers. No pointer may be NULL, also where a length is 0. It points to as many values as the
+ * length beside it says, aligned as their type wants. What a call writes to overlaps nothing else
+ * that it is given. Memory that a call is given stays the caller's, and no call keeps a pointer to
+ * it. Lengths are numbers of items, at most PTRDIFF_MAX bytes in all.
+ *
+ * Threads. Any number of calls may run at once. Each handle, array or state that a call is given is
+ * used by no other call meanwhile. So each thread has handles of its own: pzic_share makes one
+ * more handle of the same, which copies nothing but a few bytes. A handle may be used in one thread
+ * after another.
+ *
+ * Memory is asked for by malloc and given back by free. No call may be made from a signal handler,
+ * or in the child of a fork of a process that has several threads.
+ *
+ * Link with -lpzic; `pkg-config pzic` tells more.
+ */
+#ifndef PZIC_H
+#define PZIC_H
+
+#include <stddef.h>
+#include <stdint.h>
+
+#ifdef __cplusplus
+extern "C" {
+#endif
+
+/* What a call answers. */
+enum {
+    /* The call did what it is for. */
+    PZIC_OK = 0,
+    /* The file leaves local time open at the instant: RFC 9636, 3.3, where there is no footer. */
+    PZIC_UNSPECIFIED = 1,
+    /* A growth of memory was refused. */
+    PZIC_NO_MEMORY = 2,
+    /* The bytes are no TZif file. */
+    PZIC_BAD_FILE = 3,
+    /* The handle holds nothing that the call works on. */
+    PZIC_NO_HANDLE = 4,
+    /* The arrays differ in length. */
+    PZIC_LENGTHS = 5,
+    /* The text is no source, or a zone of it has a fault. */
+    PZIC_BAD_SOURCE = 6,
+    /* No file has the name or the number. */
+    PZIC_NO_SUCH = 7
+};
+
+/* The check that bytes fail first, where they are no TZif file (RFC 9636, 3). */
+enum {
+    PZIC_REASON_SHORT = 1,
+    PZIC_REASON_MAGIC = 2,
+    PZIC_REASON_VERSION = 3,
+    PZIC_REASON_HEADERS_DIFFER = 4,
+    PZIC_REASON_COUNTS = 5,
+    PZIC_REASON_LEAP_SECONDS = 6,
+    PZIC_REASON_TIMES_NOT_RISING = 7,
+    PZIC_REASON_TYPE_INDEX = 8,
+    PZIC_REASON_DESIGNATION = 9,
+    PZIC_REASON_TYPE_RECORD = 10,
+    PZIC_REASON_INDICATORS = 11,
+    PZIC_REASON_FOOTER = 12,
+    PZIC_REASON_TRAILING_BYTES = 13,
+    PZIC_REASON_TOO_LARGE = 14
+};
+
+/* The flags of a column's cell. */
+enum {
+    /* Daylight saving time. */
+    PZIC_DAYLIGHT = 1,
+    /* The file leaves local time open at the instant; the offset is then 0. */
+    PZIC_OPEN = 2
+};
+
+/*
+ * A handle. All zeros, as by `= {0}`, is one that holds nothing; each call may be given it. Only
+ * calls change a handle. Don't copy it: pzic_share does.
+ */
+typedef struct pzic_handle {
+    void *at;
+    /* 0 for nothing, 1 for a zone, 2 for files. */
+    uint32_t kind;
+} pzic_handle;
+
+/* Local time at an instant. */
+typedef struct pzic_state {
+    /* Total UT offset in seconds, positive east; within 25:59:59 either way. */
+    int32_t offset;
+    /* 1 in daylight saving time, and else 0. */
+    uint32_t daylight;
+    /* The length of the abbreviation in bytes. A compiler of zones makes 3 to 16. */
+    size_t name_length;
+    /* The first 16 bytes of the abbreviation, and NULs. */
+    char name[17];
+} pzic_state;
+
+/*
+ * Reads a zone from the bytes of a TZif file of version 2 or 3, of at most 1,048,576 bytes. What the
+ * handle held before is let go first. The bytes aren't needed any longer afterwards.
+ *
+ * PZIC_OK         the handle holds the zone
+ * PZIC_BAD_FILE   the bytes are no such file, and *reason is the number of the first check that
+ *                 they fail; the handle holds nothing
+ * PZIC_NO_MEMORY  the handle holds nothing
+ *
+ * *reason is written by PZIC_BAD_FILE alone.
+ */
+int32_t pzic_zone_read(const uint8_t *bytes, size_t length, pzic_handle *zone, uint32_t *reason);
+
+/*
+ * Has `other` hold the same as `handle` too: a zone, or files. What `other` held before is let go
+ * first. A zone and files are let go with the last handle that holds them.
+ *
+ * PZIC_OK         both hold the same
+ * PZIC_NO_HANDLE  `handle` holds nothing, and neither does `other`
+ * PZIC_NO_MEMORY  `other` holds nothing
+ */
+int32_t pzic_share(pzic_handle *handle, pzic_handle *other);
+
+/* Lets go what a handle holds, which holds nothing then. It may hold nothing before. */
+void pzic_free(pzic_handle *handle);
+
+/*
+ * Tells local time at an instant: RFC 9636, 3.2 and 3.3.
+ *
+ * PZIC_OK           *state is local time
+ * PZIC_UNSPECIFIED  the file leaves local time open; *state is offset 0 with an empty abbreviation
+ * PZIC_NO_HANDLE    `zone` holds no zone; *state isn't written
+ */
+int32_t pzic_zone_at(pzic_handle *zone, int64_t instant, pzic_state *state);
+
+/*
+ * As pzic_zone_at, and tells from the instant *first to the instant *last, both included, local
+ * time is the same. The instants before and after are a transition's or an edge's of the footer,
+ * or there is none: *first may be INT64_MIN and *last INT64_MAX.
+ */
+int32_t pzic_zone_span(pzic_handle *zone, int64_t instant, pzic_state *state, int64_t *first,
+                       int64_t *last);
+
+/*
+ * Tells local time at each of many instants, in any order: offsets[i] is the UT offset at
+ * instants[i], and flags[i] is 0, PZIC_DAYLIGHT or PZIC_OPEN. Quickest where the instants rise or
+ * lie close to each other.
+ *
+ * PZIC_OK         all are written
+ * PZIC_NO_HANDLE  `zone` holds no zone; nothing is written
+ * PZIC_LENGTHS    the three lengths differ; nothing is written
+ */
+int32_t pzic_zone_offsets(pzic_handle *zone, const int64_t *instants, size_t instants_length,
+                          int32_t *offsets, size_t offsets_length, uint8_t *flags,
+                          size_t flags_length);
+
+/* The first fault of a source. */
+typedef struct pzic_fault {
+    /* The number of the line, from 1. */
+    uint64_t line;
+    /* The number of the kind, 1 to 34; `pzic explain` and docs/ERRORS.md tell of each by its name. */
+    uint32_t kind;
+} pzic_fault;
+
+/*
+ * Compiles a text of Rule, Zone, continuation and Link lines, as zic(8) has them, on the calling
+ * thread. Several texts may be joined, each ended by a newline. What the handle held before is let
+ * go first.
+ *
+ * PZIC_OK          the handle holds the files of all Zone and Link lines, in the order of the lines
+ * PZIC_BAD_SOURCE  *fault is the first fault; the handle holds nothing
+ * PZIC_NO_MEMORY   the handle holds nothing
+ *
+ * *fault is written by PZIC_BAD_SOURCE alone.
+ */
+int32_t pzic_compile(const uint8_t *text, size_t length, pzic_handle *files, pzic_fault *fault);
+
+/* Tells how many files there are: PZIC_OK, or PZIC_NO_HANDLE where `files` holds no files. */
+int32_t pzic_files_len(pzic_handle *files, size_t *count);
+
+/*
+ * Finds the file of a name: PZIC_OK and its number, from 0; PZIC_NO_SUCH; or PZIC_NO_HANDLE where
+ * `files` holds no files. *number is written by PZIC_OK alone.
+ */
+int32_t pzic_files_find(pzic_handle *files, const uint8_t *name, size_t length, size_t *number);
+
+/*
+ * Copies the name of a file, or its bytes, as many as there is room for, and tells the whole length.
+ *
+ * PZIC_OK         *length is the whole length, and the first bytes are copied
+ * PZIC_NO_SUCH    no file has the number; nothing is written
+ * PZIC_NO_HANDLE  `files` holds no files; nothing is written
+ */
+int32_t pzic_files_name(pzic_handle *files, size_t number, uint8_t *room, size_t room_length,
+                        size_t *length);
+int32_t pzic_files_bytes(pzic_handle *files, size_t number, uint8_t *room, size_t room_length,
+                         size_t *length);
+
+/*
+ * Has `zone` hold the zone of a file. What it held before is let go first. The files stay in memory
+ * while it does.
+ *
+ * PZIC_OK         the handle holds the zone
+ * PZIC_NO_SUCH    no file has the number; the handle holds nothing
+ * PZIC_NO_HANDLE  `files` holds no files; the handle holds nothing
+ * PZIC_NO_MEMORY  the handle holds nothing
+ */
+int32_t pzic_zone_of(pzic_handle *files, size_t number, pzic_handle *zone);
+
+#ifdef __cplusplus
+}
+#endif
+
+#endif

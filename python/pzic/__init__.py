@@ -1,0 +1,35 @@
+"""Local time by the files of the time zone database.
+
+The calls of the library ``libpzic``, over :mod:`ctypes`. Instants are seconds from
+1970-01-01T00:00:00 UT, without leap seconds: any number that 64 bits with a sign hold. UT offsets
+are seconds, positive east.
+
+    >>> import pzic
+    >>> tree = pzic.Tree.open("/usr/share/zoneinfo")
+    >>> dublin = tree["Europe/Dublin"]
+    >>> dublin.utcoffset(1_720_000_000)
+    3600
+
+The library is looked for under the path that the variable ``PZIC_LIBRARY`` names, and then where
+the system has its libraries.
+"""
+
+from pzic._library import MAX_INSTANT, MIN_INSTANT
+from pzic._timezone import TimeZone
+from pzic._tree import BadSource, Compiled, Tree
+from pzic._zone import DAYLIGHT, OPEN, BadFile, Span, State, Zone
+
+__all__ = [
+    "DAYLIGHT",
+    "MAX_INSTANT",
+    "MIN_INSTANT",
+    "OPEN",
+    "BadFile",
+    "BadSource",
+    "Compiled",
+    "Span",
+    "State",
+    "TimeZone",
+    "Tree",
+    "Zone",
+]

@@ -1,0 +1,150 @@
+"""Compares the Python package with Python's zoneinfo: `library.py TREE`.
+
+Every zone of the tree is asked from 1900 to 2100: at each change, one second before and one after,
+from an instant to local time and back, at either fold; and a column of random instants. The witness
+reads the same files.
+"""
+
+import array
+import os
+import random
+import sys
+import threading
+import zoneinfo
+from datetime import datetime, timedelta, timezone
+
+import pzic
+
+UTC = timezone.utc
+EPOCH = datetime(1970, 1, 1, tzinfo=UTC)
+FIRST = int((datetime(1900, 1, 1, tzinfo=UTC) - EPOCH).total_seconds())
+LAST = int((datetime(2100, 1, 1, tzinfo=UTC) - EPOCH).total_seconds())
+
+
+def check(holds, *what):
+    if not holds:
+        sys.exit(f"library: Python: not so: {what}")
+
+
+def changes(zone):
+    """Yield the first instants of the spans from 1900 to 2100."""
+    instant = FIRST
+    while True:
+        last = zone.span(instant).last
+        if last >= LAST:
+            return
+        instant = last + 1
+        yield instant
+
+
+def compare_instant(name, ours, theirs, instant):
+    utc = EPOCH + timedelta(seconds=instant)
+    got, want = utc.astimezone(ours), utc.astimezone(theirs)
+    check(got.replace(tzinfo=None) == want.replace(tzinfo=None), name, utc, got, want)
+    check(got.fold == want.fold, name, utc, "fold", got.fold)
+    check(got.utcoffset() == want.utcoffset(), name, utc, got.utcoffset(), want.utcoffset())
+    check(got.tzname() == want.tzname(), name, utc, got.tzname(), want.tzname())
+    check(got.astimezone(UTC) == utc, name, utc, "and back")
+
+
+def compare_local(name, ours, theirs, local):
+    for fold in 0, 1:
+        got = local.replace(tzinfo=ours, fold=fold)
+        want = local.replace(tzinfo=theirs, fold=fold)
+        check(got.utcoffset() == want.utcoffset(), name, local, fold, got.utcoffset())
+        check(got.tzname() == want.tzname(), name, local, fold, got.tzname())
+
+
+def compare_zone(name, zone, theirs):
+    ours = zone.tzinfo(name)
+    count = 0
+    for change in changes(zone):
+        for instant in change - 1, change, change + 1:
+            compare_instant(name, ours, theirs, instant)
+            utc = (EPOCH + timedelta(seconds=instant)).replace(tzinfo=None)
+            for state in zone.at(change - 1), zone.at(change):
+                compare_local(name, ours, theirs, utc + timedelta(seconds=state.offset))
+        count += 1
+    return count
+
+
+def compare_column(name, zone, theirs, count):
+    instants = array.array("q", (random.randrange(FIRST, LAST) for _ in range(count)))
+    offsets, flags = zone.convert_array(instants)
+    for instant, offset, flag in zip(instants, offsets, flags):
+        want = (EPOCH + timedelta(seconds=instant)).astimezone(theirs)
+        check(offset == want.utcoffset().total_seconds(), name, instant, offset)
+        check(flag == bool(want.dst()), name, instant, flag)
+
+
+def compare_numpy(tree):
+    """Compare a million instants over twenty zones, where numpy is."""
+    try:
+        import numpy
+    except ImportError:
+        return "no numpy"
+    names = random.sample(sorted(tree), 20)
+    for name in names:
+        zone = tree[name]
+        instants = numpy.random.randint(FIRST, LAST, 50_000, dtype=numpy.int64)
+        offsets = numpy.empty(50_000, dtype=numpy.int32)
+        zone.convert_array(instants, offsets)
+        for instant, offset in zip(instants.tolist(), offsets.tolist()):
+            check(zone.utcoffset(instant) == offset, name, instant)
+    return "numpy too"
+
+
+def refuse(folder, tree):
+    def refuses(error, call, *words):
+        try:
+            call(*words)
+        except error as caught:
+            return caught
+        sys.exit(f"library: Python: {words} isn't refused")
+
+    refuses(KeyError, tree.__getitem__, "No/Such")
+    refuses(KeyError, tree.__getitem__, "../zones/Europe/Dublin")
+    check("No/Such" not in tree and "Europe/Dublin" in tree, "contains")
+    check(refuses(pzic.BadFile, pzic.Zone, b"").reason == "Short", "Short")
+    check(refuses(pzic.BadFile, pzic.Zone, b"x" * 50).reason == "Magic", "Magic")
+    zone = tree["Europe/Dublin"]
+    refuses(OverflowError, zone.at, 2**63)
+    refuses(TypeError, zone.convert_array, array.array("i", [1]))
+    refuses(TypeError, zone.convert_array, array.array("q", [1]), b"1234")
+    refuses(ValueError, zone.convert_array, array.array("q", [1]), array.array("i"))
+    check(zone.convert_array(array.array("q")) == (array.array("i"), bytearray()), "nothing")
+
+
+def use_threads(zone):
+    instants = array.array("q", range(0, 2_000_000_000, 20_011))
+    want = zone.convert_array(instants)
+    got = [None] * 8
+
+    def work(i):
+        got[i] = zone.convert_array(instants)
+
+    threads = [threading.Thread(target=work, args=(i,)) for i in range(8)]
+    for thread in threads:
+        thread.start()
+    for thread in threads:
+        thread.join()
+    check(all(one == want for one in got), "threads")
+
+
+def main():
+    folder = sys.argv[1]
+    random.seed(1)
+    zoneinfo.reset_tzpath([os.path.abspath(folder)])
+    tree = pzic.Tree.open(folder)
+    names = sorted(tree)
+    count = 0
+    for name in names:
+        theirs = zoneinfo.ZoneInfo(name)
+        count += compare_zone(name, tree[name], theirs)
+        compare_column(name, tree[name], theirs, 200)
+    refuse(folder, tree)
+    use_threads(tree["Europe/Dublin"])
+    print(f"library: Python: {len(names)} zones, {count} changes, {compare_numpy(tree)}")
+
+
+main()
