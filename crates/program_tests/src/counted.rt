@@ -67,6 +67,10 @@ const INTERRUPTED: Answer = Answer::Error(ErrorKind::Interrupted);
 
 const OTHER: Answer = Answer::Error(ErrorKind::Other);
 
+const ONE: Answer = Answer::Bytes(1);
+
+const ALL: Answer = Answer::Bytes(4);
+
 /// Checks that a reader passes these answers on, and what it has counted then.
 fn expect_reads(rt: &impl Abort, answers: &[Answer], failures: u64, taken: u64) {
     let mut reader = Counted::new(Scripted { answers });
@@ -90,34 +94,40 @@ fn expect_writes(rt: &impl Abort, answers: &[Answer], bytes: &[u8], failures: u6
     assert!(rt; writer.into_inner().answers.is_empty());
 }
 
-#[test]
-fn reads_count_errors_and_bytes(rt: HostRuntime) {
-    expect_reads(&rt, &[Answer::Bytes(3)], 0, 3);
-    expect_reads(&rt, &[Answer::Bytes(4), Answer::Bytes(2)], 0, 6);
-    expect_reads(&rt, &[Answer::Bytes(0)], 0, 0);
-    expect_reads(&rt, &[OTHER], 1, 0);
-    expect_reads(&rt, &[INTERRUPTED], 1, 0);
-    expect_reads(
-        &rt,
+/// Answers of a reader, the failures that are counted then, and the bytes.
+static READS: [(&[Answer], u64, u64); 6] = [
+    (&[Answer::Bytes(3)], 0, 3),
+    (&[Answer::Bytes(4), Answer::Bytes(2)], 0, 6),
+    (&[Answer::Bytes(0)], 0, 0),
+    (&[OTHER], 1, 0),
+    (&[INTERRUPTED], 1, 0),
+    (
         &[Answer::Bytes(1), OTHER, Answer::Bytes(2), INTERRUPTED],
         2,
         3,
-    );
-}
+    ),
+];
+
+/// Answers of a writer, the bytes of each write, and the failures that are counted then: errors, and
+/// that of some bytes none was taken.
+static WRITES: [(&[Answer], &[u8], u64); 7] = [
+    (&[Answer::Bytes(4)], b"abcd", 0),
+    (&[Answer::Bytes(1), Answer::Bytes(2)], b"abcd", 0),
+    (&[Answer::Bytes(0)], b"abcd", 1),
+    (&[Answer::Bytes(0)], b"", 0),
+    (&[OTHER], b"", 1),
+    (&[INTERRUPTED], b"abcd", 1),
+    (&[Answer::Bytes(0), Answer::Bytes(1), OTHER], b"a", 2),
+];
 
 #[test]
-fn writes_count_errors_and_nothing_taken_of_some(rt: HostRuntime) {
-    expect_writes(&rt, &[Answer::Bytes(4)], b"abcd", 0);
-    expect_writes(&rt, &[Answer::Bytes(1), Answer::Bytes(2)], b"abcd", 0);
-    expect_writes(&rt, &[Answer::Bytes(0)], b"abcd", 1);
-    expect_writes(&rt, &[Answer::Bytes(0)], b"", 0);
-    expect_writes(&rt, &[OTHER], b"", 1);
-    expect_writes(&rt, &[INTERRUPTED], b"abcd", 1);
-    expect_writes(&rt, &[Answer::Bytes(0), Answer::Bytes(1), OTHER], b"a", 2);
-}
-
-#[test]
-fn flushes_are_passed_on(rt: HostRuntime) {
+fn reads_writes_and_flushes_are_counted_and_passed_on(rt: HostRuntime) {
+    for (answers, failures, taken) in &READS {
+        expect_reads(&rt, *answers, *failures, *taken);
+    }
+    for (answers, bytes, failures) in &WRITES {
+        expect_writes(&rt, *answers, *bytes, *failures);
+    }
     let answers = [Answer::Bytes(0), OTHER, INTERRUPTED];
     let mut writer = Counted::new(Scripted { answers: &answers });
     for answer in &answers {
@@ -202,18 +212,20 @@ fn expect_write_all(
     assert_eq!(rt; writer.into_inner().answers.len(), unasked, "{answers:?}");
 }
 
-#[test]
-fn all_is_written_up_to_the_first_failure(rt: HostRuntime) {
-    let (one, all) = (Answer::Bytes(1), Answer::Bytes(4));
-    expect_write_all(&rt, &[one, one, Answer::Bytes(2), all], Ok(()), 1);
-    expect_write_all(&rt, &[all, OTHER], Ok(()), 1);
-    expect_write_all(&rt, &[one, OTHER, all], Err(WriteFailed), 1);
-    expect_write_all(&rt, &[INTERRUPTED, all], Err(WriteFailed), 1);
-    expect_write_all(&rt, &[one, Answer::Bytes(0), all], Err(WriteFailed), 1);
-}
+/// Answers of a writer, whether all is written, and how many answers are left unasked.
+static WHOLE: [(&[Answer], Result<(), WriteFailed>, usize); 5] = [
+    (&[ONE, ONE, Answer::Bytes(2), ALL], Ok(()), 1),
+    (&[ALL, OTHER], Ok(()), 1),
+    (&[ONE, OTHER, ALL], Err(WriteFailed), 1),
+    (&[INTERRUPTED, ALL], Err(WriteFailed), 1),
+    (&[ONE, Answer::Bytes(0), ALL], Err(WriteFailed), 1),
+];
 
 #[test]
-fn a_flush_fails_with_the_writer(rt: HostRuntime) {
+fn all_is_written_up_to_the_first_failure_also_of_a_flush(rt: HostRuntime) {
+    for (answers, want, unasked) in &WHOLE {
+        expect_write_all(&rt, *answers, *want, *unasked);
+    }
     let answers = [Answer::Bytes(0), OTHER];
     let mut writer = Counted::new(Scripted { answers: &answers });
     assert_eq!(rt; flush(&mut writer), Ok(()));

@@ -2,15 +2,11 @@
 
 mod building;
 
+use crate::samples::{US, UTC_FILE, files_of};
 use std::alloc::Global;
 use std::test::Fail;
 use zic_bulk::*;
-use zic_source::{Fault, Kind, Place, Stop, read_source};
-
-/// The file of `Zone Etc/UTC 0 - UTC`, with the parts of RFC 9636: two headers, an empty first
-/// block, one local time type, its designation and the footer.
-const UTC_FILE: &[u8; 111] =
-    b"TZif2\0\0\0\0\0\0\0\0\0\0\0\0\0\0\0\0\0\0\0\0\0\0\0\0\0\0\0\0\0\0\0\0\0\0\x01\0\0\0\x01\0\0\0\0\0\0\0TZif2\0\0\0\0\0\0\0\0\0\0\0\0\0\0\0\0\0\0\0\0\0\0\0\0\0\0\0\0\0\0\0\0\0\0\x01\0\0\0\x04\0\0\0\0\0\0UTC\0\nUTC0\n";
+use zic_source::{Kind, Place, Stop};
 
 /// The file of a zone with the US rules from 2007 on and a standard time of -5:00. Its second block
 /// has six transitions, their types, two local time types and their designations.
@@ -24,19 +20,6 @@ TZif2\0\0\0\0\0\0\0\0\0\0\0\0\0\0\0\
 \x01\0\x01\0\x01\0\xff\xff\xb9\xb0\0\0\xff\xff\xc7\xc0\x01\x04EST\0EDT\0\
 \nEST5EDT,M3.2.0,M11.1.0\n";
 
-/// The rules of the United States from 2007 on.
-const US: &str =
-    "Rule US 2007 max - Mar Sun>=8 2:00 1:00 D\nRule US 2007 max - Nov Sun>=1 2:00 0 S\n";
-
-fn files_of(alloc: Global, texts: &[&str]) -> Result<Files, Stop> {
-    let mut copies = Vec::new(alloc);
-    for text in texts {
-        copies.push(Vec::from_slice(alloc, text.as_bytes())?)?;
-    }
-    let source = read_source(alloc, &copies)?;
-    compile(alloc, &source)
-}
-
 /// Returns the names and the sizes in bytes of the files, in order.
 fn listed(alloc: Global, files: &Files) -> Result<String, Fail> {
     let mut lines = String::new(alloc);
@@ -49,35 +32,32 @@ fn listed(alloc: Global, files: &Files) -> Result<String, Fail> {
     Ok(lines)
 }
 
+/// Texts, and the names and sizes of their files.
+static FILES: [(&[&str], &str); 4] = [
+    (&[], ""),
+    (&[US, "Zone Z/NY -5:00 US E%sT"], "Z/NY 193\n"),
+    (
+        &["Link Etc/UTC A", "Zone Etc/UTC 0 - UTC"],
+        "A 111\nEtc/UTC 111\n",
+    ),
+    (
+        &[
+            "Zone A -3 - %z\nLink A B\nLink D E",
+            "Link A C\nZone D 5:30 - %z",
+        ],
+        "A 113\nB 113\nE 121\nC 113\nD 121\n",
+    ),
+];
+
 #[test]
 fn files_stand_in_the_order_of_texts_and_lines(rt: HostRuntime) -> Result<(), Fail> {
     let alloc = rt.alloc();
-    let rows: [(&[&str], &str); 4] = [
-        (&[], ""),
-        (&[US, "Zone Z/NY -5:00 US E%sT"], "Z/NY 193\n"),
-        (
-            &["Link Etc/UTC A", "Zone Etc/UTC 0 - UTC"],
-            "A 111\nEtc/UTC 111\n",
-        ),
-        (
-            &[
-                "Zone A -3 - %z\nLink A B\nLink D E",
-                "Link A C\nZone D 5:30 - %z",
-            ],
-            "A 113\nB 113\nE 121\nC 113\nD 121\n",
-        ),
-    ];
-    for (texts, want) in rows {
-        let files = files_of(alloc, texts).ok().ok_or("no files")?;
+    for (texts, want) in &FILES {
+        let files = files_of(alloc, *texts).ok().ok_or("no files")?;
         let lines = listed(alloc, &files)?;
-        assert_eq!(rt; lines.as_str(), want, "of {texts:?}");
+        assert_eq!(rt; lines.as_str(), *want, "of {texts:?}");
     }
-    Ok(())
-}
-
-#[test]
-fn a_link_has_the_octets_at_the_end_of_its_chain(rt: HostRuntime) -> Result<(), Fail> {
-    let alloc = rt.alloc();
+    // A link has the bytes of the zone at the end of its chain.
     let text = "Link B C\nLink A B\nLink Etc/UTC A\nZone Etc/UTC 0 - UTC";
     let files = files_of(alloc, &[text]).ok().ok_or("no files")?;
     let lines = listed(alloc, &files)?;
@@ -112,55 +92,60 @@ fn a_file_is_found_by_its_whole_name(rt: HostRuntime) -> Result<(), Fail> {
     Ok(())
 }
 
+/// Texts, and the text, the line and the kind of their first fault.
+static FAULTS: [(&[&str], u64, u64, Kind); 8] = [
+    (
+        &["Zone Z/E 0 - AAA 2000", "0 - BBB"],
+        1,
+        1,
+        Kind::NoContinuation,
+    ),
+    (&["Zone A 0 - UTC", "-6:00 - CST"], 2, 1, Kind::Keyword),
+    (
+        &["Zone A 0 - UTC", "Zone A 0 - UTC"],
+        2,
+        1,
+        Kind::DuplicateName,
+    ),
+    (&["Link X Y", "Zone /A 0 - UTC"], 2, 1, Kind::Name),
+    (
+        &["", "Zone Z/P 1:00 1:00 XXX"],
+        2,
+        1,
+        Kind::PermanentDaylight,
+    ),
+    (
+        &["Zone A 0 - UTC\nZone Z/4 1:00 1:00 XXX\nLink A B\nZone Z/8 0 - AB"],
+        1,
+        2,
+        Kind::PermanentDaylight,
+    ),
+    (
+        &[
+            "Link Z/4 B\nZone A 0 - UTC\nZone Z/8 0 - AB",
+            "Zone Z/4 1:00 1:00 XXX",
+        ],
+        1,
+        3,
+        Kind::BadAbbreviation,
+    ),
+    (
+        &["Zone Z/O 24:00 1:00 ABC\nZone Z/8 0 - AB"],
+        1,
+        1,
+        Kind::OffsetRange,
+    ),
+];
+
 #[test]
 fn the_fault_is_that_of_the_first_zone(rt: HostRuntime) -> Result<(), Fail> {
-    let rows: [(&[&str], u64, u64, Kind); 8] = [
-        (
-            &["Zone Z/E 0 - AAA 2000", "0 - BBB"],
-            1,
-            1,
-            Kind::NoContinuation,
-        ),
-        (&["Zone A 0 - UTC", "-6:00 - CST"], 2, 1, Kind::Keyword),
-        (
-            &["Zone A 0 - UTC", "Zone A 0 - UTC"],
-            2,
-            1,
-            Kind::DuplicateName,
-        ),
-        (&["Link X Y", "Zone /A 0 - UTC"], 2, 1, Kind::Name),
-        (
-            &["", "Zone Z/P 1:00 1:00 XXX"],
-            2,
-            1,
-            Kind::PermanentDaylight,
-        ),
-        (
-            &["Zone A 0 - UTC\nZone Z/4 1:00 1:00 XXX\nLink A B\nZone Z/8 0 - AB"],
-            1,
-            2,
-            Kind::PermanentDaylight,
-        ),
-        (
-            &[
-                "Link Z/4 B\nZone A 0 - UTC\nZone Z/8 0 - AB",
-                "Zone Z/4 1:00 1:00 XXX",
-            ],
-            1,
-            3,
-            Kind::BadAbbreviation,
-        ),
-        (
-            &["Zone Z/O 24:00 1:00 ABC\nZone Z/8 0 - AB"],
-            1,
-            1,
-            Kind::OffsetRange,
-        ),
-    ];
-    for (texts, text, line, kind) in rows {
-        let stop = files_of(rt.alloc(), texts).err().ok_or("files")?;
-        let place = Place { text, line };
-        assert_eq!(rt; stop, Stop::Fault(Fault { place, kind }), "of {texts:?}");
+    for (texts, text, line, kind) in &FAULTS {
+        let stop = files_of(rt.alloc(), *texts).err().ok_or("files")?;
+        let place = Place {
+            text: *text,
+            line: *line,
+        };
+        assert_eq!(rt; stop, Stop::at(place, *kind), "of {texts:?}");
     }
     Ok(())
 }

@@ -22,4 +22,6 @@ mod pieces;
 #[cfg(test)]
 mod rows;
 #[cfg(test)]
+mod samples;
+#[cfg(test)]
 mod splits;

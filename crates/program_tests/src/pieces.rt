@@ -4,6 +4,7 @@ ghost use Rattle.std.specs.Prelude.{◌≡◌, ◌<◌, ◌≤◌, IfOk};
 ghost use Rattle.zic_pieces.specs.Core.{first as first_pass};
 ghost use Rattle.zic_pieces.specs.Passes.{IsOf};
 
+use crate::samples::{Hold, wait_for};
 use std::alloc::{AllocError, Global};
 use std::process::Abort;
 use std::sync::Wait;
@@ -316,37 +317,6 @@ fn every_piece_up_to_the_least_fault_is_entered_once(rt: HostRuntime) {
     }
 }
 
-/// How long a piece waits for another, in turns.
-const MAX_TURNS: u64 = 1_000_000;
-
-/// Waits until the flag is up, and says whether it was in time.
-fn wait_for(flag: &AtomicU64) -> bool {
-    for _ in 0..MAX_TURNS {
-        if flag.load(Ordering::SeqCst) == 1 {
-            return true;
-        }
-        thread::yield_now();
-    }
-    false
-}
-
-/// Holds piece 0 until piece 1 has entered.
-#[derive(Drop)]
-struct Hold {
-    one_entered: AtomicU64,
-    late: AtomicU64,
-}
-
-impl Gate for Hold {
-    fn enter(&self, i: u64) {
-        if i == 1 {
-            self.one_entered.store(1, Ordering::SeqCst);
-        } else if !wait_for(&self.one_entered) {
-            self.late.store(1, Ordering::SeqCst);
-        }
-    }
-}
-
 #[test]
 fn two_workers_are_at_the_gate_at_once(rt: HostRuntime) {
     let task = Squares {
@@ -355,16 +325,11 @@ fn two_workers_are_at_the_gate_at_once(rt: HostRuntime) {
         memory: NONE,
     };
     for _ in 0..100 {
-        let gate = Hold {
-            one_entered: AtomicU64::new(0),
-            late: AtomicU64::new(0),
-        };
+        let gate = Hold::new();
         let Ok(values) = run(&rt, rt.alloc(), &task, 2, &gate) else {
             panic!(rt; "two pieces")
         };
-        assert!(rt;
-            values.as_slice() == [0, 1].as_slice() && gate.late.load(Ordering::SeqCst) == 0
-        );
+        assert!(rt; values.as_slice() == [0, 1].as_slice() && !gate.is_late());
     }
 }
 

@@ -95,43 +95,36 @@ fn long_columns_are_cut(rt: HostRuntime) -> Result<(), Fail> {
     Ok(())
 }
 
-#[test]
-fn lines_end_at_a_return_a_feed_or_both(rt: HostRuntime) -> Result<(), Fail> {
-    let rows: [(&[u8], usize); 12] = [
-        (b"", 0),
-        (b"a,0\n", 1),
-        (b"a,0\r\n", 1),
-        (b"a,0\r", 1),
-        (b"a,0", 1),
-        (b"a,0\r\n\r\n", 1),
-        (b"\n\ra,0\n", 1),
-        (b"\n\n\n", 0),
-        (b"a,0\rb,1\nc,2", 3),
-        (b",\n,", 2),
-        (b"a\na,b,c\na,b,c,d\n,,\n", 4),
-        (b" \n", 1),
-    ];
-    for (bytes, want) in rows {
-        assert_eq!(rt; count_same(&rt, rt.alloc(), bytes, 2)?, want, "{bytes:?}");
-    }
-    Ok(())
-}
+/// Columns, and the number of their records: lines end at a return, a feed or both, and double
+/// quotes keep commas and line ends.
+static COLUMNS: [(&[u8], usize); 21] = [
+    (b"", 0),
+    (b"a,0\n", 1),
+    (b"a,0\r\n", 1),
+    (b"a,0\r", 1),
+    (b"a,0", 1),
+    (b"a,0\r\n\r\n", 1),
+    (b"\n\ra,0\n", 1),
+    (b"\n\n\n", 0),
+    (b"a,0\rb,1\nc,2", 3),
+    (b",\n,", 2),
+    (b"a\na,b,c\na,b,c,d\n,,\n", 4),
+    (b" \n", 1),
+    (b"\"a\",\"0\"\n", 1),
+    (b"\"a\nb\",0\nc,1\n", 2),
+    (b"\"a,b\",0\n", 1),
+    (b"a\"b,0\nc,\"1\n", 2),
+    (b"\"a\"b,0\n\"\"\"\",1\n", 2),
+    (b"\"a\r\nb\",0\r\nc,1\r\n", 2),
+    (b"\"a", 1),
+    (b"\"\"", 1),
+    (b"\"a\"\r\"b\"", 2),
+];
 
 #[test]
-fn double_quotes_keep_commas_and_line_ends(rt: HostRuntime) -> Result<(), Fail> {
-    let rows: [(&[u8], usize); 9] = [
-        (b"\"a\",\"0\"\n", 1),
-        (b"\"a\nb\",0\nc,1\n", 2),
-        (b"\"a,b\",0\n", 1),
-        (b"a\"b,0\nc,\"1\n", 2),
-        (b"\"a\"b,0\n\"\"\"\",1\n", 2),
-        (b"\"a\r\nb\",0\r\nc,1\r\n", 2),
-        (b"\"a", 1),
-        (b"\"\"", 1),
-        (b"\"a\"\r\"b\"", 2),
-    ];
-    for (bytes, want) in rows {
-        assert_eq!(rt; count_same(&rt, rt.alloc(), bytes, 2)?, want, "{bytes:?}");
+fn lines_end_at_a_return_a_feed_or_both_but_within_quotes(rt: HostRuntime) -> Result<(), Fail> {
+    for (bytes, want) in &COLUMNS {
+        assert_eq!(rt; count_same(&rt, rt.alloc(), *bytes, 2)?, *want, "{bytes:?}");
     }
     Ok(())
 }

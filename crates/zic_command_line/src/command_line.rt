@@ -150,132 +150,146 @@ fn unmatched(alloc: Global, e: &Error) -> Result<Request, NoRequest> {
 }
 
 /// Returns all commands, with what help tells of them.
+///
+/// Here and below, each part is made where it is added: a check takes longer, the more values wait
+/// at a `?` to be used.
 fn commands<'a>(alloc: Global) -> Result<Command<'a>, AllocError> {
-    Command::new(alloc, "pzic")
-        .bin_name("pzic")?
-        .version(VERSION)
-        .about("Compiles time zone source text, as zic(8) reads it, to TZif files (RFC 9636)")
-        .after_help(
-            "Example:\n  pzic build ~/zoneinfo /usr/share/zoneinfo/tzdata.zi\n  TZDIR=~/zoneinfo TZ=Europe/Dublin date",
-        )
-        .subcommand_required(true)
-        .disable_help_subcommand(true)
-        .subcommand(with_explain(alloc, check_command(alloc)?)?)?
-        .subcommand(with_explain(alloc, build_command(alloc)?)?)?
-        .subcommand(with_explain(alloc, convert_command(alloc)?)?)?
-        .subcommand(with_explain(alloc, show_command(alloc)?)?)?
-        .subcommand(with_explain(alloc, dump_command(alloc)?)?)?
-        .subcommand(explain_command(alloc)?)
+    let program = with_failing(alloc, program(alloc)?, check_command(alloc))?;
+    let program = with_failing(alloc, program, build_command(alloc))?;
+    let program = with_failing(alloc, program, convert_command(alloc))?;
+    let program = with_failing(alloc, program, show_command(alloc))?;
+    let program = with_failing(alloc, program, dump_command(alloc))?;
+    program.subcommand(explain_command(alloc)?)
+}
+
+/// Returns the program without its commands.
+fn program<'a>(alloc: Global) -> Result<Command<'a>, AllocError> {
+    Ok(
+        Command::new(alloc, "pzic")
+            .bin_name("pzic")?
+            .version(VERSION)
+            .about("Compiles time zone source text, as zic(8) reads it, to TZif files (RFC 9636)")
+            .after_help(
+                "Example:\n  pzic build ~/zoneinfo /usr/share/zoneinfo/tzdata.zi\n  TZDIR=~/zoneinfo TZ=Europe/Dublin date",
+            )
+            .subcommand_required(true)
+            .disable_help_subcommand(true),
+    )
+}
+
+/// Returns the program with a command whose failures can be explained.
+fn with_failing<'a>(
+    alloc: Global,
+    program: Command<'a>,
+    command: Result<Command<'a>, AllocError>,
+) -> Result<Command<'a>, AllocError> {
+    let help = "Shows where a fault is, and what is expected";
+    let command = command?.arg(flag(alloc, "explain", help))?;
+    program.subcommand(command)
 }
 
 fn check_command<'a>(alloc: Global) -> Result<Command<'a>, AllocError> {
-    let source = Arg::new(alloc, "SOURCE").required(true).help(
-        "A file of Rule, Zone and Link lines, or - for standard input",
-    );
     let command = Command::new(alloc, "check")
         .about("Compiles a source and lists its files: NAME BYTES FOOTER")
         .after_help("Example:\n  echo 'Zone Etc/UTC 0 - UTC' | pzic check -")
-        .arg(source)?;
+        .arg(required(
+            alloc,
+            "SOURCE",
+            "A file of Rule, Zone and Link lines, or - for standard input",
+        ))?;
     with_plan(alloc, command)
 }
 
 fn build_command<'a>(alloc: Global) -> Result<Command<'a>, AllocError> {
-    let folder = Arg::new(alloc, "DIR")
-        .required(true)
-        .help("The folder for the files; it is made if need be");
-    let sources = Arg::new(alloc, "SOURCE")
-        .required(true)
-        .num_args(1..)
-        .help("Files of Rule, Zone and Link lines; one may be -");
     let command = Command::new(alloc, "build")
         .about("Compiles sources together and writes their files, as zic -d DIR does")
         .after_help("Example:\n  pzic build ~/zoneinfo /usr/share/zoneinfo/tzdata.zi acme.zi")
-        .arg(folder)?
-        .arg(sources)?
+        .arg(required(
+            alloc,
+            "DIR",
+            "The folder for the files; it is made if need be",
+        ))?
+        .arg(required(
+            alloc,
+            "SOURCE",
+            "Files of Rule, Zone and Link lines; one may be -",
+        )
+        .num_args(1..))?
         .arg(links_option(alloc))?;
     with_plan(alloc, command)
 }
 
 fn convert_command<'a>(alloc: Global) -> Result<Command<'a>, AllocError> {
-    let source = Arg::new(alloc, "SOURCE")
-        .required(true)
-        .help("A file of Rule, Zone and Link lines");
-    let row_piece = option(alloc, "row-piece", "1024", 1, MAX_OF_PIECE as i64).help(
-        "Rows a thread takes at once, 1 to 65536",
-    );
-    let max_rows = option(alloc, "max-rows", "100000000", 0, MAX_ROWS as i64).help(
-        "The most rows, up to 100000000",
-    );
-    let max_bytes = option(alloc, "max-bytes", "4294967296", 0, MAX_BYTES as i64).help(
-        "The most bytes, up to 4294967296",
-    );
-    let header = Arg::new(alloc, "header")
-        .long("header")
-        .action(ArgAction::SetTrue)
-        .help("Takes the first record for a header, and writes one");
-    let progress = Arg::new(alloc, "progress")
-        .long("progress")
-        .action(ArgAction::SetTrue)
-        .help("Tells on standard error how many rows are written");
     let command = Command::new(alloc, "convert")
         .about("Converts lines NAME,SECONDS of standard input to local time")
         .after_help(
             "Each row is NAME,SECONDS,LOCAL TIME,OFFSET,DAYLIGHT,ABBREVIATION.\n\nExample:\n  echo Europe/Dublin,0 | pzic convert /usr/share/zoneinfo/tzdata.zi",
         )
-        .arg(source)?;
-    with_plan(alloc, command)?
-        .arg(row_piece)?
-        .arg(max_rows)?
-        .arg(max_bytes)?
-        .arg(header)?
-        .arg(progress)
+        .arg(required(alloc, "SOURCE", "A file of Rule, Zone and Link lines"))?;
+    with_column(alloc, with_plan(alloc, command)?)?
+        .arg(flag(
+            alloc,
+            "header",
+            "Takes the first record for a header, and writes one",
+        ))?
+        .arg(flag(
+            alloc,
+            "progress",
+            "Tells on standard error how many rows are written",
+        ))
 }
 
 fn show_command<'a>(alloc: Global) -> Result<Command<'a>, AllocError> {
-    let file = Arg::new(alloc, "FILE")
-        .required(true)
-        .help("A TZif file of version 2 or 3");
-    let instant = Arg::new(alloc, "INSTANT")
-        .required(true)
-        .help("Seconds from 1970-01-01T00:00:00 UT; after -- if below 0");
     Command::new(alloc, "show")
         .about("Prints the offset, daylight flag and abbreviation at an instant")
         .after_help("Example:\n  pzic show /usr/share/zoneinfo/Europe/Dublin -- -1")
-        .arg(file)?
-        .arg(instant)
+        .arg(required(alloc, "FILE", "A TZif file of version 2 or 3"))?
+        .arg(required(
+            alloc,
+            "INSTANT",
+            "Seconds from 1970-01-01T00:00:00 UT; after -- if below 0",
+        ))
 }
 
 fn dump_command<'a>(alloc: Global) -> Result<Command<'a>, AllocError> {
-    let file = Arg::new(alloc, "FILE")
-        .required(true)
-        .help("A TZif file of version 2 or 3");
-    let from = year(alloc, "from", "2").help("From the start of which year, 2 to 9999");
-    let to = year(alloc, "to", "2500").help("Up to the start of which year, 2 to 9999");
     Command::new(alloc, "dump")
         .about("Lists the changes of local time of a file, as zdump -i does")
         .after_help("Example:\n  pzic dump --from 2000 --to 2030 /usr/share/zoneinfo/Europe/Dublin")
-        .arg(file)?
-        .arg(from)?
-        .arg(to)
+        .arg(required(alloc, "FILE", "A TZif file of version 2 or 3"))?
+        .arg(year(alloc, "from", "2").help("From the start of which year, 2 to 9999"))?
+        .arg(year(alloc, "to", "2500").help("Up to the start of which year, 2 to 9999"))
 }
 
 fn explain_command<'a>(alloc: Global) -> Result<Command<'a>, AllocError> {
-    let name = Arg::new(alloc, "NAME").help("The name of an error; without it all are listed");
     Command::new(alloc, "explain")
         .about("Explains an error: what it means, examples and what to do")
         .after_help("Example:\n  pzic explain NoFooter")
-        .arg(name)
+        .arg(Arg::new(alloc, "NAME").help("The name of an error; without it all are listed"))
 }
 
 /// Returns the command with the options that say how work is shared.
 fn with_plan<'a>(alloc: Global, command: Command<'a>) -> Result<Command<'a>, AllocError> {
-    let workers = option(alloc, "workers", "4", 1, MAX_WORKERS as i64).help(
-        "Threads that work, 1 to 64",
-    );
-    let zone_piece = option(alloc, "zone-piece", "16", 1, MAX_OF_PIECE as i64).help(
-        "Zones a thread takes at once, 1 to 65536",
-    );
-    command.arg(workers)?.arg(zone_piece)
+    command
+        .arg(option(alloc, "workers", "4", 1, MAX_WORKERS as i64).help(
+            "Threads that work, 1 to 64",
+        ))?
+        .arg(option(alloc, "zone-piece", "16", 1, MAX_OF_PIECE as i64).help(
+            "Zones a thread takes at once, 1 to 65536",
+        ))
+}
+
+/// Returns the command with the options that say how a column is cut, and how long it may be.
+fn with_column<'a>(alloc: Global, command: Command<'a>) -> Result<Command<'a>, AllocError> {
+    command
+        .arg(option(alloc, "row-piece", "1024", 1, MAX_OF_PIECE as i64).help(
+            "Rows a thread takes at once, 1 to 65536",
+        ))?
+        .arg(option(alloc, "max-rows", "100000000", 0, MAX_ROWS as i64).help(
+            "The most rows, up to 100000000",
+        ))?
+        .arg(option(alloc, "max-bytes", "4294967296", 0, MAX_BYTES as i64).help(
+            "The most bytes, up to 4294967296",
+        ))
 }
 
 /// Returns the option that says what the names of Link lines are made as.
@@ -289,13 +303,17 @@ fn links_option<'a>(alloc: Global) -> Arg<'a> {
         .help("What a link is: copy, hard or symlink")
 }
 
-/// Returns the command with the option that explains a failure.
-fn with_explain<'a>(alloc: Global, command: Command<'a>) -> Result<Command<'a>, AllocError> {
-    let explain = Arg::new(alloc, "explain")
-        .long("explain")
+/// Returns a word that must be given.
+fn required<'a>(alloc: Global, name: &'a str, help: &'a str) -> Arg<'a> {
+    Arg::new(alloc, name).required(true).help(help)
+}
+
+/// Returns an option without a value.
+fn flag<'a>(alloc: Global, name: &'a str, help: &'a str) -> Arg<'a> {
+    Arg::new(alloc, name)
+        .long(name)
         .action(ArgAction::SetTrue)
-        .help("Shows where a fault is, and what is expected");
-    command.arg(explain)
+        .help(help)
 }
 
 /// Returns an option that is a number in a range, with its default.

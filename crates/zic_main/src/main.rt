@@ -60,17 +60,17 @@ fn answer<
     let mut output = Counted::new(io::writer(rt));
     match request {
         Request::Check { source, plan } => {
-            *texts = zic_commands::read_sources(alloc, rt, &mut input, &[source])?;
-            zic_commands::check(rt, alloc, &plan, texts, &mut output)?
+            *texts = sources(rt, &mut input, &[source])?;
+            zic_commands::check(rt, alloc, &plan, texts, &mut output)
         }
         Request::Build {
             folder,
-            sources,
+            sources: words,
             plan,
             links,
         } => {
-            *texts = zic_commands::read_sources(alloc, rt, &mut input, &sources)?;
-            build(rt, &plan, texts, folder.as_str(), links)?
+            *texts = sources(rt, &mut input, &words)?;
+            build(rt, &plan, texts, folder.as_str(), links)
         }
         Request::Convert {
             source,
@@ -78,20 +78,33 @@ fn answer<
             header,
             progress,
         } => {
-            *texts = zic_commands::read_sources(alloc, rt, &mut input, &[source])?;
-            convert(rt, &plan, texts, &mut input, header, told(progress, errors))?
+            *texts = sources(rt, &mut input, &[source])?;
+            convert(rt, &plan, texts, &mut input, header, told(progress, errors))
         }
         Request::Show { file, instant } => {
-            let bytes = zic_commands::read_file(alloc, rt, file.as_str())?;
-            zic_commands::show(alloc, &bytes, instant, &mut output)?
+            let bytes = bytes_of(rt, file.as_str())?;
+            zic_commands::show(alloc, &bytes, instant, &mut output)
         }
         Request::Dump { file, years } => {
-            let bytes = zic_commands::read_file(alloc, rt, file.as_str())?;
-            zic_commands::dump(alloc, file.as_str(), &bytes, &years, &mut output)?
+            let bytes = bytes_of(rt, file.as_str())?;
+            zic_commands::dump(alloc, file.as_str(), &bytes, &years, &mut output)
         }
-        Request::Explain { text } | Request::Version { text } => tell(text.as_str(), &mut output)?,
+        Request::Explain { text } | Request::Version { text } => tell(text.as_str(), &mut output),
     }
-    Ok(())
+}
+
+/// Returns the texts of the sources that the words name.
+fn sources<R: Files + AllocGlobal, I: Read>(
+    rt: &R,
+    input: &mut Counted<I>,
+    words: &[String],
+) -> Result<Vec<Vec<u8>>, Failure> {
+    zic_commands::read_sources(rt.alloc(), rt, input, words)
+}
+
+/// Returns the bytes of a file.
+fn bytes_of<R: Files + AllocGlobal>(rt: &R, file: &str) -> Result<Vec<u8>, Failure> {
+    zic_commands::read_file(rt.alloc(), rt, file)
 }
 
 /// Compiles the texts, and writes their files into a folder.
@@ -149,12 +162,24 @@ fn convert<R: Print + Clock + AllocGlobal + Threads + Wait + Sync, I: Read, E: W
     told: Told<E>,
 ) -> Result<(), Failure> {
     let mut output = Counted::new(Progress::new(io::writer(rt), rt, told, header));
-    let converted = if header {
-        zic_commands::convert_with_header(rt, rt.alloc(), plan, texts, input, &mut output)
-    } else {
-        zic_commands::convert(rt, rt.alloc(), plan, texts, input, &mut output)
-    };
+    let converted = convert_to(rt, plan, texts, header, input, &mut output);
     output.into_inner().finish();
     converted?;
     Ok(())
+}
+
+/// Converts the input, which may begin with a header, by the files of the texts.
+fn convert_to<R: AllocGlobal + Threads + Wait + Sync, I: Read, W: Write>(
+    rt: &R,
+    plan: &Plan,
+    texts: &[Vec<u8>],
+    header: bool,
+    input: &mut Counted<I>,
+    output: &mut Counted<W>,
+) -> Result<u64, Failure> {
+    if header {
+        zic_commands::convert_with_header(rt, rt.alloc(), plan, texts, input, output)
+    } else {
+        zic_commands::convert(rt, rt.alloc(), plan, texts, input, output)
+    }
 }

@@ -6,16 +6,12 @@ use zic_base::*;
 use zic_tzif::Reason;
 
 #[test]
-fn numbers_of_kinds(rt: HostRuntime) {
+fn kinds_and_places(rt: HostRuntime) {
     assert_eq!(rt; Kind::NotAscii.number(), 1);
     assert_eq!(rt; Kind::PermanentDaylight.number(), 30);
     assert_eq!(rt; Kind::TooManyChars.number(), 34);
     assert_eq!(rt; Reason::Short.number(), 1);
     assert_eq!(rt; Reason::TooLarge.number(), 14);
-}
-
-#[test]
-fn places_in_order(rt: HostRuntime) {
     let first = Place { text: 1, line: 9 };
     let second = Place { text: 2, line: 3 };
     assert!(rt; first.is_before(second) && !second.is_before(first) && !first.is_before(first));
@@ -40,13 +36,9 @@ fn texts_inline_and_not(rt: HostRuntime) -> Result<(), Fail> {
 }
 
 #[test]
-fn abbreviation_bytes(rt: HostRuntime) {
+fn bytes_and_digits(rt: HostRuntime) {
     assert!(rt; are_abbreviation_bytes(b"CEST+02-Z"));
     assert!(rt; !are_abbreviation_bytes(b"C_T") && !is_abbreviation_byte(b' '));
-}
-
-#[test]
-fn digits(rt: HostRuntime) {
     assert_eq!(rt; two_digits(7), *b"07");
     assert_eq!(rt; clock_text(7_199), *b"01:59:59");
     assert_eq!(rt; offset_text(-18_000), *b"-05:00:00");

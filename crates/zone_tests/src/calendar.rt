@@ -47,7 +47,7 @@ fn dates_agree_with_python(rt: HostRuntime) {
 }
 
 #[test]
-fn forms_name_days(rt: HostRuntime) {
+fn forms_name_days_and_civil_time_has_both_ends(rt: HostRuntime) {
     assert_eq!(rt; day_of(1970, 1, On::Day(1)), 0);
     assert_eq!(rt; weekday(0), 4);
     let march = day_of(2007, 3, On::After { weekday: 0, day: 8 });
@@ -61,10 +61,6 @@ fn forms_name_days(rt: HostRuntime) {
     };
     assert_eq!(rt; day_of(2007, 2, last), 13569);
     assert_eq!(rt; (is_leap_year(2000), is_leap_year(1900)), (true, false));
-}
-
-#[test]
-fn civil_has_both_ends(rt: HostRuntime) {
     let first = Civil {
         year: 1,
         month: 1,

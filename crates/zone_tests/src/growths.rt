@@ -4,15 +4,15 @@
 
 ghost use Rattle.std.specs.Prelude.{◌≡◌, ◌⊎◌};
 
-use crate::samples::{NEW_YORK, NEW_YORK_SOURCE, new_york};
+use crate::samples::{
+    NEW_YORK, NEW_YORK_SOURCE, new_york, parse_footer, read_file, read_texts, table_of,
+    timeline_of, written,
+};
 use std::alloc::Global;
 use std::process::Abort;
 use zic_base::{Kind, Place, Stop};
-use zic_footer::{ParseStop, make, parse, print};
-use zic_rules::timeline;
-use zic_source::read_source;
-use zic_table::table;
-use zic_tzif::{ReadStop, read, write};
+use zic_footer::{ParseStop, print};
+use zic_tzif::ReadStop;
 
 /// A rule for each form of AT.
 const RULES: &[u8] = b"Rule A 2004 only - Feb 29 0:00:32.13 1 D
@@ -30,16 +30,13 @@ const TIMES: [i32; 8] = [32, 32, 34, 0, 86_400, -9000, 936_000, 1_080_000];
 
 /// Reads rules, and then a rule with a fault after them.
 fn rules_are_read(rt: &impl Abort, alloc: Global) -> Result<(), Stop> {
-    let texts = [
-        Vec::from_slice(alloc, RULES)?,
-        Vec::from_slice(alloc, b"Rule A 2004 only - Feb 29 300:00:01 1 D")?,
-    ];
-    let source = read_source(alloc, &texts[..1])?;
+    let source = read_texts(alloc, &[RULES])?;
     assert!(rt; source.rules() == TIMES.len());
     for (number, seconds) in TIMES.iter().enumerate() {
         assert!(rt; source.rule(number).moment.at.seconds == *seconds);
     }
-    let stop = read_source(alloc, &texts).err();
+    let fault: &[u8] = b"Rule A 2004 only - Feb 29 300:00:01 1 D";
+    let stop = read_texts(alloc, &[RULES, fault]).err();
     if stop == Some(Stop::Memory) {
         return Err(Stop::Memory);
     }
@@ -50,19 +47,18 @@ fn rules_are_read(rt: &impl Abort, alloc: Global) -> Result<(), Stop> {
 
 /// Makes the file of a zone call by call, and reads it.
 fn a_file_is_made(rt: &impl Abort, alloc: Global) -> Result<(), Stop> {
-    let texts = [Vec::from_slice(alloc, NEW_YORK_SOURCE)?];
-    let source = read_source(alloc, &texts)?;
-    assert!(rt; source.zones() == 1);
-    let place = Place { text: 1, line: 3 };
-    let found = timeline(alloc, &source, 0)?;
+    let source = read_texts(alloc, &[NEW_YORK_SOURCE])?;
+    let Some(found) = timeline_of(alloc, &source) else {
+        panic!(rt; "one zone")
+    };
+    let found = found?;
     assert!(rt; found.end() == 1_262_304_000 && found.len() == 6);
-    let footer = make(alloc, place, &found)?;
+    let (footer, table) = table_of(alloc, Place { text: 1, line: 3 }, &found)?;
     let text = print(alloc, &footer)?;
     assert!(rt; text.as_slice() == b"EST5EDT,M3.2.0,M11.1.0".as_slice());
-    let table = table(alloc, place, &found, &footer)?;
-    let octets = write(alloc, &table)?;
+    let octets = written(alloc, &table)?;
     assert!(rt; octets.as_slice() == NEW_YORK.as_slice());
-    match read(alloc, &octets) {
+    match read_file(alloc, &octets) {
         Ok(zone) => assert!(rt; zone.at(1_173_596_400) == new_york(true)),
         Err(ReadStop::Memory) => return Err(Stop::Memory),
         Err(ReadStop::Bad(_)) => panic!(rt; "a fault"),
@@ -74,7 +70,7 @@ fn a_file_is_made(rt: &impl Abort, alloc: Global) -> Result<(), Stop> {
 fn is_footer(alloc: Global, text: &[u8], version: u8) -> Result<bool, Stop>
     requires { (version ≡ 2) ⊎ (version ≡ 3) }
 {
-    match parse(alloc, text, version) {
+    match parse_footer(alloc, text, version) {
         Ok(_) => Ok(true),
         Err(ParseStop::BadFooter) => Ok(false),
         Err(ParseStop::Memory) => Err(Stop::Memory),

@@ -2,23 +2,13 @@
 
 ghost use Rattle.std.specs.Prelude.{◌≤◌};
 
+use crate::samples::source_of;
 use std::alloc::Global;
 use std::test::Fail;
-use zic_base::{Fault, Kind, Stop};
+use zic_base::{Fault, Kind, Place, Stop};
 use zic_calendar::On;
 use zic_occurrences::*;
-use zic_source::{ClockForm, ClockTime, Moment, Rules, Source, read_source};
-
-/// Returns the source that a text makes.
-fn source(alloc: Global, text: &[u8]) -> Result<Source, Fail> {
-    let mut texts = Vec::new(alloc);
-    texts.push(Vec::from_slice(alloc, text)?)?;
-    match read_source(alloc, &texts) {
-        Ok(source) => Ok(source),
-        Err(Stop::Fault(_)) => Err(Fail::from("a fault")),
-        Err(Stop::Memory) => Err(Fail::from("out of memory")),
-    }
-}
+use zic_source::{ClockForm, ClockTime, Moment, Rules};
 
 /// Returns the occurrences of the set that the first line of the first zone names, or the fault.
 fn listed(
@@ -28,7 +18,7 @@ fn listed(
 ) -> Result<Result<Vec<TimedOccurrence>, Fault>, Fail>
     requires { before ≤ 9999 }
 {
-    let source = source(alloc, text)?;
+    let source = source_of(alloc, &[text])?;
     if source.zones() == 0 || source.lines(0) == 0 {
         return Err(Fail::from("a zone"));
     }
@@ -54,134 +44,138 @@ fn first_six(alloc: Global, text: &[u8]) -> Result<[i64; 6], Fail> {
     }
 }
 
+/// Zones after their rules, and the instants of their first six occurrences.
+static FIRST: [(&[u8], [i64; 6]); 4] = [
+    (
+        b"Rule US 2007 max - Mar Sun>=8 2:00 1:00 D\nRule US 2007 max - Nov Sun>=1 2:00 0 S\nZone A -5:00 US E%sT",
+        [
+            1_173_596_400,
+            1_194_156_000,
+            1_205_046_000,
+            1_225_605_600,
+            1_236_495_600,
+            1_257_055_200,
+        ],
+    ),
+    (
+        b"Rule I 1996 max - Oct lastSun 1:00u -1:00 -\nRule I 1996 max - Mar lastSun 1:00u 0 -\nZone A 1:00 I IST/GMT",
+        [
+            828_234_000,
+            846_378_000,
+            859_683_600,
+            877_827_600,
+            891_133_200,
+            909_277_200,
+        ],
+    ),
+    (
+        b"Rule E 1996 max - Mar lastSun 2:00s 1:00 S\nRule E 1996 max - Oct lastSun 2:00s 0 -\nZone A 1:00 E CE%sT",
+        [
+            828_234_000,
+            846_378_000,
+            859_683_600,
+            877_827_600,
+            891_133_200,
+            909_277_200,
+        ],
+    ),
+    (
+        b"Rule B 2000 max - Jan 1 -1:00 0 -\nZone A 0 B B%sT",
+        [
+            946_681_200,
+            978_303_600,
+            1_009_839_600,
+            1_041_375_600,
+            1_072_911_600,
+            1_104_534_000,
+        ],
+    ),
+];
+
 #[test]
 fn first_instants(rt: HostRuntime) -> Result<(), Fail> {
-    let rows: [(&[u8], [i64; 6]); 4] = [
-        (
-            b"Rule US 2007 max - Mar Sun>=8 2:00 1:00 D\nRule US 2007 max - Nov Sun>=1 2:00 0 S\nZone A -5:00 US E%sT",
-            [
-                1_173_596_400,
-                1_194_156_000,
-                1_205_046_000,
-                1_225_605_600,
-                1_236_495_600,
-                1_257_055_200,
-            ],
-        ),
-        (
-            b"Rule I 1996 max - Oct lastSun 1:00u -1:00 -\nRule I 1996 max - Mar lastSun 1:00u 0 -\nZone A 1:00 I IST/GMT",
-            [
-                828_234_000,
-                846_378_000,
-                859_683_600,
-                877_827_600,
-                891_133_200,
-                909_277_200,
-            ],
-        ),
-        (
-            b"Rule E 1996 max - Mar lastSun 2:00s 1:00 S\nRule E 1996 max - Oct lastSun 2:00s 0 -\nZone A 1:00 E CE%sT",
-            [
-                828_234_000,
-                846_378_000,
-                859_683_600,
-                877_827_600,
-                891_133_200,
-                909_277_200,
-            ],
-        ),
-        (
-            b"Rule B 2000 max - Jan 1 -1:00 0 -\nZone A 0 B B%sT",
-            [
-                946_681_200,
-                978_303_600,
-                1_009_839_600,
-                1_041_375_600,
-                1_072_911_600,
-                1_104_534_000,
-            ],
-        ),
-    ];
-    for (text, want) in &rows {
+    for (text, want) in &FIRST {
         assert_eq!(rt; first_six(rt.alloc(), *text)?, *want, "{text:?}");
     }
     Ok(())
 }
 
-/// Returns whether the fault is `RulesOutOfOrder` at a line of the first text.
-fn is_disorder(fault: Fault, line: u64) -> bool {
-    fault.kind == Kind::RulesOutOfOrder && fault.place.text == 1 && fault.place.line == line
-}
+/// Zones after rules that are out of order, and the line of the fault.
+static OUT_OF_ORDER: [(&[u8], u64); 9] = [
+    // Two occurrences with one nominal second, for the first time on 2009-03-01.
+    (
+        b"Rule B 2000 max - Mar 1 0:00 1:00 D\nRule B 2000 max - Mar Sun>=1 0:00 0 S\nZone A 0 B B%sT",
+        3,
+    ),
+    // Two occurrences at one instant, in each year.
+    (
+        b"Rule B 2000 max - Mar 1 0:00 1:00 D\nRule B 2000 max - Mar 1 1:00 0 S\nZone A 0 B B%sT",
+        3,
+    ),
+    // The second occurrence comes an hour before the first, in each year.
+    (
+        b"Rule B 2000 max - Mar 1 0:00 2:00 D\nRule B 2000 max - Mar 1 1:00 0 S\nZone A 0 B B%sT",
+        3,
+    ),
+    // Out of order for the first time in 2124, when 29 February is a Tuesday.
+    (
+        b"Rule C 2000 2094 - Jun 1 0:00 0 -\nRule C 2094 max - Feb 28 24:00 0 -\nRule C 2094 max - Feb lastTue 0:00 1:00 D\nZone A 0 C C%sT",
+        4,
+    ),
+    // Out of order for the first time in 2303, because of the rule from 2300 on.
+    (
+        b"Rule E 2000 max - Mar 1 0:00 0 -\nRule E 2300 max - Mar Sun>=1 0:00 1:00 D\nZone A 0 E E%sT",
+        3,
+    ),
+    // The third rule, by the wall clock, comes half a day before the second, in each year.
+    (
+        b"Rule R 2000 max - Dec 31 282:00u 24:00d -\nRule R 2000 max - Jan 12 0:00u 0 -\nRule R 2000 max - Dec 31 300:00 0 -\nZone A 24:00 R R%sT",
+        4,
+    ),
+    // Two months apart: at one nominal second for the first time in 2029, when 4 February is a Sunday.
+    (
+        b"Rule G 2019 max - Jan Sun>=31 300:00u 0 -\nRule G 2019 max - Mar 1 -300:00u 1:00 D\nZone A 0 G G%sT",
+        3,
+    ),
+    // Rules far apart, and one that meets the second in the last year named.
+    (
+        b"Rule F 2000 max - Mar 1 0:00 1:00 D\nRule F 2000 max - Oct 1 0:00 0 S\nRule F 2005 only - Oct 1 0:00 0 S\nZone A 0 F F%sT",
+        4,
+    ),
+    // Rules far apart, and one of the last year named at the instant of the first in the year after.
+    (
+        b"Rule F 2000 max - Jan 12 12:00 0 -\nRule F 2000 max - Jul 1 0:00 1:00 -\nRule F 2005 only - Dec 31 299:00 2:00 -\nZone A 0 F F%sT",
+        4,
+    ),
+];
+
+/// Zones after rules that are in order.
+static IN_ORDER: [&[u8]; 6] = [
+    // Two occurrences, one second apart.
+    b"Rule B 2000 max - Mar 1 0:00 1:00 D\nRule B 2000 max - Mar 1 1:00:01 0 S\nZone A 0 B B%sT",
+    b"Rule C 2000 2094 - Jun 1 0:00 0 -\nRule C 2094 max - Feb 28 24:00 0 -\nRule C 2094 2123 - Feb lastTue 0:00 1:00 D\nZone A 0 C C%sT",
+    b"Rule E 2000 max - Mar 1 0:00 0 -\nRule E 2300 2301 - Mar Sun>=1 0:00 1:00 D\nZone A 0 E E%sT",
+    // Occurrences of one year fall between those of the next year.
+    b"Rule R 2000 max - Jan 1 0:00 0 -\nRule R 2000 2005 - Dec 31 300:00 1:00 -\nZone A 0 R R%sT",
+    b"Rule R 2000 max - Dec 31 282:00u 24:00d -\nRule R 2000 max - Jan 12 0:00u 0 -\nRule R 2000 max - Dec 31 300:00 0 -\nZone A 0 R R%sT",
+    b"Rule R 2000 max - Dec 31 282:00u 24:00d -\nRule R 2000 max - Jan 12 0:00u 0 -\nRule R 2000 max - Dec 31 300:00 0 -\nZone A -24:00 R R%sT",
+];
 
 #[test]
-fn out_of_order(rt: HostRuntime) -> Result<(), Fail> {
-    let rows: [(&[u8], u64); 9] = [
-        // Two occurrences with one nominal second, for the first time on 2009-03-01.
-        (
-            b"Rule B 2000 max - Mar 1 0:00 1:00 D\nRule B 2000 max - Mar Sun>=1 0:00 0 S\nZone A 0 B B%sT",
-            3,
-        ),
-        // Two occurrences at one instant, in each year.
-        (
-            b"Rule B 2000 max - Mar 1 0:00 1:00 D\nRule B 2000 max - Mar 1 1:00 0 S\nZone A 0 B B%sT",
-            3,
-        ),
-        // The second occurrence comes an hour before the first, in each year.
-        (
-            b"Rule B 2000 max - Mar 1 0:00 2:00 D\nRule B 2000 max - Mar 1 1:00 0 S\nZone A 0 B B%sT",
-            3,
-        ),
-        // Out of order for the first time in 2124, when 29 February is a Tuesday.
-        (
-            b"Rule C 2000 2094 - Jun 1 0:00 0 -\nRule C 2094 max - Feb 28 24:00 0 -\nRule C 2094 max - Feb lastTue 0:00 1:00 D\nZone A 0 C C%sT",
-            4,
-        ),
-        // Out of order for the first time in 2303, because of the rule from 2300 on.
-        (
-            b"Rule E 2000 max - Mar 1 0:00 0 -\nRule E 2300 max - Mar Sun>=1 0:00 1:00 D\nZone A 0 E E%sT",
-            3,
-        ),
-        // The third rule, by the wall clock, comes half a day before the second, in each year.
-        (
-            b"Rule R 2000 max - Dec 31 282:00u 24:00d -\nRule R 2000 max - Jan 12 0:00u 0 -\nRule R 2000 max - Dec 31 300:00 0 -\nZone A 24:00 R R%sT",
-            4,
-        ),
-        // Two months apart: at one nominal second for the first time in 2029, when 4 February is a Sunday.
-        (
-            b"Rule G 2019 max - Jan Sun>=31 300:00u 0 -\nRule G 2019 max - Mar 1 -300:00u 1:00 D\nZone A 0 G G%sT",
-            3,
-        ),
-        // Rules far apart, and one that meets the second in the last year named.
-        (
-            b"Rule F 2000 max - Mar 1 0:00 1:00 D\nRule F 2000 max - Oct 1 0:00 0 S\nRule F 2005 only - Oct 1 0:00 0 S\nZone A 0 F F%sT",
-            4,
-        ),
-        // Rules far apart, and one of the last year named at the instant of the first in the year after.
-        (
-            b"Rule F 2000 max - Jan 12 12:00 0 -\nRule F 2000 max - Jul 1 0:00 1:00 -\nRule F 2005 only - Dec 31 299:00 2:00 -\nZone A 0 F F%sT",
-            4,
-        ),
-    ];
-    for (text, line) in &rows {
-        let fault = listed(rt.alloc(), *text, 1)?.err().ok_or("a fault")?;
-        assert!(rt; is_disorder(fault, *line), "{text:?}");
+fn orders(rt: HostRuntime) -> Result<(), Fail> {
+    for (text, line) in &OUT_OF_ORDER {
+        let place = Place {
+            text: 1,
+            line: *line,
+        };
+        let want = Fault {
+            place,
+            kind: Kind::RulesOutOfOrder,
+        };
+        let fault = listed(rt.alloc(), *text, 1)?.err();
+        assert!(rt; fault == Some(want), "{text:?}");
     }
-    Ok(())
-}
-
-#[test]
-fn in_order(rt: HostRuntime) -> Result<(), Fail> {
-    let rows: [&[u8]; 6] = [
-        // Two occurrences, one second apart.
-        b"Rule B 2000 max - Mar 1 0:00 1:00 D\nRule B 2000 max - Mar 1 1:00:01 0 S\nZone A 0 B B%sT",
-        b"Rule C 2000 2094 - Jun 1 0:00 0 -\nRule C 2094 max - Feb 28 24:00 0 -\nRule C 2094 2123 - Feb lastTue 0:00 1:00 D\nZone A 0 C C%sT",
-        b"Rule E 2000 max - Mar 1 0:00 0 -\nRule E 2300 2301 - Mar Sun>=1 0:00 1:00 D\nZone A 0 E E%sT",
-        // Occurrences of one year fall between those of the next year.
-        b"Rule R 2000 max - Jan 1 0:00 0 -\nRule R 2000 2005 - Dec 31 300:00 1:00 -\nZone A 0 R R%sT",
-        b"Rule R 2000 max - Dec 31 282:00u 24:00d -\nRule R 2000 max - Jan 12 0:00u 0 -\nRule R 2000 max - Dec 31 300:00 0 -\nZone A 0 R R%sT",
-        b"Rule R 2000 max - Dec 31 282:00u 24:00d -\nRule R 2000 max - Jan 12 0:00u 0 -\nRule R 2000 max - Dec 31 300:00 0 -\nZone A -24:00 R R%sT",
-    ];
-    for text in &rows {
+    for text in &IN_ORDER {
         assert!(rt; listed(rt.alloc(), *text, 1)?.is_ok(), "{text:?}");
     }
     Ok(())
@@ -235,7 +229,7 @@ fn seconds_of_moments(rt: HostRuntime) -> Result<(), Fail> {
 
 /// Returns the last year that the rules of the first zone's set name.
 fn last_named(alloc: Global, text: &[u8]) -> Result<u16, Fail> {
-    let source = source(alloc, text)?;
+    let source = source_of(alloc, &[text])?;
     if source.zones() == 0 || source.lines(0) == 0 {
         return Err(Fail::from("a zone"));
     }
@@ -245,23 +239,25 @@ fn last_named(alloc: Global, text: &[u8]) -> Result<u16, Fail> {
     }
 }
 
+/// Zones after their rules, and the last year that their set names.
+static LAST_NAMED: [(&[u8], u16); 3] = [
+    (
+        b"Rule A 1999 max - Jan 1 0 0 -\nRule B 2001 2030 - Jan 1 0 0 -\nZone A 0 A A%sT",
+        1999,
+    ),
+    (
+        b"Rule B 1999 2030 - Jan 1 0 0 -\nRule B 2020 max - Feb 1 0 0 -\nZone A 0 B A%sT",
+        2030,
+    ),
+    (
+        b"Rule B 1999 2010 - Jan 1 0 0 -\nRule B 9000 max - Feb 1 0 0 -\nZone A 0 B A%sT",
+        9000,
+    ),
+];
+
 #[test]
 fn last_named_years(rt: HostRuntime) -> Result<(), Fail> {
-    let rows: [(&[u8], u16); 3] = [
-        (
-            b"Rule A 1999 max - Jan 1 0 0 -\nRule B 2001 2030 - Jan 1 0 0 -\nZone A 0 A A%sT",
-            1999,
-        ),
-        (
-            b"Rule B 1999 2030 - Jan 1 0 0 -\nRule B 2020 max - Feb 1 0 0 -\nZone A 0 B A%sT",
-            2030,
-        ),
-        (
-            b"Rule B 1999 2010 - Jan 1 0 0 -\nRule B 9000 max - Feb 1 0 0 -\nZone A 0 B A%sT",
-            9000,
-        ),
-    ];
-    for (text, year) in &rows {
+    for (text, year) in &LAST_NAMED {
         assert_eq!(rt; last_named(rt.alloc(), *text)?, *year, "{text:?}");
     }
     Ok(())

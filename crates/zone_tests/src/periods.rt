@@ -1,27 +1,18 @@
 //! Periods, compared with expected values.
 
+use crate::samples::zone_source;
 use std::alloc::Global;
 use std::test::Fail;
 use zic_base::{Kind, Place, Stop};
 use zic_rules::*;
-use zic_source::{Source, read_source};
+use zic_source::Source;
 
 const UNITED_STATES: &[u8] =
     b"Rule US 2007 max - Mar Sun>=8 2:00 1:00 D\nRule US 2007 max - Nov Sun>=1 2:00 0 S\n";
 
-/// Reads a source text.
-fn read(alloc: Global, parts: &[&[u8]]) -> Result<Source, Fail> {
-    let mut text = Vec::new(alloc);
-    for part in parts {
-        text.extend_from_slice(part)?;
-    }
-    let mut texts = Vec::new(alloc);
-    texts.push(text)?;
-    match read_source(alloc, &texts) {
-        Ok(source) => Ok(source),
-        Err(Stop::Fault(_)) => Err(Fail::from("a fault")),
-        Err(Stop::Memory) => Err(Fail::from("out of memory")),
-    }
+/// Returns the periods of a zone.
+fn periods_of(alloc: Global, zone: Zone<'_>) -> Result<Periods, Stop> {
+    periods(alloc, zone)
 }
 
 /// The first periods of a zone, and its explicit end.
@@ -95,13 +86,13 @@ const ROWS: [Row; 6] = [
 #[test]
 fn zones(rt: HostRuntime) -> Result<(), Fail> {
     for row in &ROWS {
-        let source = read(rt.alloc(), &[row.rules, row.zone])?;
+        let source = zone_source(rt.alloc(), row.rules, row.zone)?;
         assert_eq!(rt; source.zones(), 1);
         let zone = Zone {
             source: &source,
             number: 0,
         };
-        let Ok(found) = periods(rt.alloc(), zone) else {
+        let Ok(found) = periods_of(rt.alloc(), zone) else {
             return Err(Fail::from("periods"));
         };
         assert!(rt; row.first.len() <= found.list.len());
@@ -127,7 +118,7 @@ fn faults(rt: HostRuntime) -> Result<(), Fail> {
         (OUT_OF_ORDER, FALLING_OUT_OF_ORDER, Kind::RulesOutOfOrder, 3),
     ];
     for (rules, zone, kind, line) in rows {
-        let source = read(rt.alloc(), &[rules, zone])?;
+        let source = zone_source(rt.alloc(), rules, zone)?;
         assert_eq!(rt; source.zones(), 1);
         let place = Place { text: 1, line };
         let zone = Zone {
@@ -138,7 +129,7 @@ fn faults(rt: HostRuntime) -> Result<(), Fail> {
             (zone.place(), zone.line(0).place, zone.lines()),
             (place, place, 3)
         );
-        let stop = periods(rt.alloc(), zone).err();
+        let stop = periods_of(rt.alloc(), zone).err();
         assert_eq!(rt; stop, Some(Stop::at(place, kind)));
     }
     Ok(())

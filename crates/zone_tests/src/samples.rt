@@ -1,7 +1,88 @@
-//! Files that the tests read or make.
+//! Sources and files of the tests, and the calls that many tests make, each in a function of its
+//! own: a check of a test takes in the contract of each function that it calls.
 
-use zic_base::State;
-use zic_tzif::Answer;
+ghost use Rattle.std.specs.Prelude.{◌≡◌, ◌⊎◌};
+
+use std::alloc::{AllocError, Global};
+use std::test::Fail;
+use zic_base::{Fault, Place, State, Stop};
+use zic_footer::{Footer, ParseStop, make, parse};
+use zic_rules::{Timeline, timeline};
+use zic_source::{Source, read_source};
+use zic_table::{Table, table};
+use zic_tzif::{Answer, ReadStop, Zone, read, write};
+
+/// Reads texts.
+pub fn read_texts(alloc: Global, texts: &[&[u8]]) -> Result<Source, Stop> {
+    let mut copies = Vec::new(alloc);
+    for text in texts {
+        copies.push(Vec::from_slice(alloc, text)?)?;
+    }
+    read_source(alloc, &copies)
+}
+
+/// Returns the source that these texts are, or their first fault.
+pub fn source_or_fault(alloc: Global, texts: &[&[u8]]) -> Result<Result<Source, Fault>, Fail> {
+    match read_texts(alloc, texts) {
+        Ok(source) => Ok(Ok(source)),
+        Err(Stop::Fault(fault)) => Ok(Err(fault)),
+        Err(Stop::Memory) => Err(Fail::from("out of memory")),
+    }
+}
+
+/// Returns the source that these texts are.
+pub fn source_of(alloc: Global, texts: &[&[u8]]) -> Result<Source, Fail> {
+    Ok(source_or_fault(alloc, texts)?.ok().ok_or("a source")?)
+}
+
+/// Returns the source of rules and of a zone after them.
+pub fn zone_source(alloc: Global, rules: &[u8], zone: &[u8]) -> Result<Source, Fail> {
+    let mut text = Vec::from_slice(alloc, rules)?;
+    text.extend_from_slice(zone)?;
+    source_of(alloc, &[&text])
+}
+
+/// Returns the timeline of the only zone of a source, or why it has none, or `None` where the
+/// source has other than one zone.
+pub fn timeline_of<'a>(alloc: Global, source: &'a Source) -> Option<Result<Timeline<'a>, Stop>> {
+    if source.zones() != 1 {
+        return None;
+    }
+    Some(timeline(alloc, source, 0))
+}
+
+/// Returns the footer of a zone at this place, or why it has none.
+pub fn footer_of(alloc: Global, place: Place, found: &Timeline<'_>) -> Result<Footer, Stop> {
+    make(alloc, place, found)
+}
+
+/// Returns the footer and the table of a zone at this place, or why it has none.
+pub fn table_of(
+    alloc: Global,
+    place: Place,
+    found: &Timeline<'_>,
+) -> Result<(Footer, Table), Stop> {
+    let footer = make(alloc, place, found)?;
+    let table = table(alloc, place, found, &footer)?;
+    Ok((footer, table))
+}
+
+/// Returns the bytes of a table's file.
+pub fn written(alloc: Global, table: &Table) -> Result<Vec<u8>, AllocError> {
+    write(alloc, table)
+}
+
+/// Reads a file.
+pub fn read_file(alloc: Global, octets: &[u8]) -> Result<Zone, ReadStop> {
+    read(alloc, octets)
+}
+
+/// Parses a footer of a version.
+pub fn parse_footer(alloc: Global, text: &[u8], version: u8) -> Result<Footer, ParseStop>
+    requires { (version ≡ 2) ⊎ (version ≡ 3) }
+{
+    parse(alloc, text, version)
+}
 
 /// The file of `Zone Etc/UTC 0 - UTC`.
 pub const UTC: &[u8; 111] = b"TZif2\0\0\0\0\0\0\0\0\0\0\0\0\0\0\0\

@@ -5,6 +5,7 @@ mod states;
 
 ghost use Rattle.std.specs.Prelude.{◌≡◌, ◌⊎◌};
 
+use crate::samples::parse_footer;
 use std::process::Abort;
 use std::test::Fail;
 use zic_posix::*;
@@ -17,7 +18,7 @@ fn check_printed(rt: &(impl Abort + AllocGlobal), version: u8, rows: &[Row]) -> 
     requires { (version ≡ 2) ⊎ (version ≡ 3) }
 {
     for (text, want, needed) in rows {
-        let footer = parse(rt.alloc(), text.as_bytes(), version)?;
+        let footer = parse_footer(rt.alloc(), text.as_bytes(), version)?;
         let printed = print(rt.alloc(), &footer)?;
         assert!(rt; printed.as_slice() == want.as_bytes(), "{text}");
         assert!(rt; footer.version() == *needed, "{text}");
@@ -30,7 +31,7 @@ fn check_refused(rt: &(impl Abort + AllocGlobal), version: u8, texts: &[&str])
     requires { (version ≡ 2) ⊎ (version ≡ 3) }
 {
     for text in texts {
-        let refused = parse(rt.alloc(), text.as_bytes(), version).err();
+        let refused = parse_footer(rt.alloc(), text.as_bytes(), version).err();
         assert!(rt; refused == Some(ParseStop::BadFooter), "{text:?}");
     }
 }
@@ -51,12 +52,6 @@ static STANDARD: [Row; 14] = [
     ("UTC-0", "UTC0", 2),
     ("<ABCDEFGHIJKLMNOPQRST>5", "ABCDEFGHIJKLMNOPQRST5", 2),
 ];
-
-#[test]
-fn prints_standard_time_for_ever(rt: HostRuntime) -> Result<(), Fail> {
-    check_printed(&rt, 2, &STANDARD)?;
-    check_printed(&rt, 3, &STANDARD)
-}
 
 static DAYLIGHT: [Row; 14] = [
     ("EST5EDT,M3.2.0,M11.1.0", "EST5EDT,M3.2.0,M11.1.0", 2),
@@ -107,12 +102,6 @@ static DAYLIGHT: [Row; 14] = [
     ),
 ];
 
-#[test]
-fn prints_daylight_parts(rt: HostRuntime) -> Result<(), Fail> {
-    check_printed(&rt, 2, &DAYLIGHT)?;
-    check_printed(&rt, 3, &DAYLIGHT)
-}
-
 static WIDE: [Row; 8] = [
     (
         "IST-2IDT,M3.4.4/26,M10.5.0",
@@ -143,14 +132,6 @@ static WIDE: [Row; 8] = [
         3,
     ),
 ];
-
-#[test]
-fn takes_wider_times_in_version_3_only(rt: HostRuntime) -> Result<(), Fail> {
-    for (text, _, _) in &WIDE {
-        check_refused(&rt, 2, &[*text]);
-    }
-    check_printed(&rt, 3, &WIDE)
-}
 
 static OTHER: [&str; 48] = [
     "",
@@ -203,23 +184,28 @@ static OTHER: [&str; 48] = [
     "EST5EDT,M3.2.0/+-2,M11.1.0",
 ];
 
+/// Times beyond 24 hours and signed times are those of version 3 only.
 #[test]
-fn refuses_other_texts(rt: HostRuntime) {
+fn texts_are_printed_or_refused(rt: HostRuntime) -> Result<(), Fail> {
+    for rows in [STANDARD.as_slice(), &DAYLIGHT] {
+        check_printed(&rt, 2, rows)?;
+        check_printed(&rt, 3, rows)?;
+    }
+    check_printed(&rt, 3, &WIDE)?;
+    for (text, _, _) in &WIDE {
+        check_refused(&rt, 2, &[*text]);
+    }
     check_refused(&rt, 2, &OTHER);
     check_refused(&rt, 3, &OTHER);
-}
-
-#[test]
-fn tells_the_standard_part(rt: HostRuntime) -> Result<(), Fail> {
-    let footer = parse(rt.alloc(), b"<+0530>-5:30", 2)?;
-    assert!(rt; footer.std.octets() == b"+0530".as_slice());
-    assert_eq!(rt; footer.offset, 19800);
-    assert!(rt; footer.dst.is_none());
     Ok(())
 }
 
 #[test]
-fn tells_the_daylight_part(rt: HostRuntime) -> Result<(), Fail> {
+fn tells_its_parts(rt: HostRuntime) -> Result<(), Fail> {
+    let footer = parse_footer(rt.alloc(), b"<+0530>-5:30", 2)?;
+    assert!(rt; footer.std.octets() == b"+0530".as_slice());
+    assert_eq!(rt; footer.offset, 19800);
+    assert!(rt; footer.dst.is_none());
     let start = Edge {
         day: DayRule::M {
             month: 10,
@@ -232,7 +218,7 @@ fn tells_the_daylight_part(rt: HostRuntime) -> Result<(), Fail> {
         day: DayRule::J(60),
         time: 3600,
     };
-    let footer = parse(rt.alloc(), b"IST-1GMT0,M10.5.0,J60/1", 2)?;
+    let footer = parse_footer(rt.alloc(), b"IST-1GMT0,M10.5.0,J60/1", 2)?;
     assert_eq!(rt; footer.offset, 3600);
     let dst = footer.dst.as_ref().expect(&rt, "a daylight part");
     assert!(rt; dst.name.octets() == b"GMT".as_slice());

@@ -3,47 +3,22 @@
 mod limits;
 mod rows;
 
-use crate::samples::{NEW_YORK, NEW_YORK_SOURCE, UTC};
+use crate::samples::{NEW_YORK, NEW_YORK_SOURCE, UTC, table_of, timeline_of, written, zone_source};
 use std::alloc::Global;
 use std::test::Fail;
 use zic_base::{Place, Stop};
-use zic_footer::make;
-use zic_rules::timeline;
-use zic_source::{Source, read_source};
 use zic_table::*;
-use zic_tzif::write;
 
 /// The place of the faults of the only zone.
 const PLACE: Place = Place { text: 1, line: 3 };
 
-/// Reads a source text.
-fn read(alloc: Global, parts: &[&[u8]]) -> Result<Source, Fail> {
-    let mut text = Vec::new(alloc);
-    for part in parts {
-        text.extend_from_slice(part)?;
+/// Returns the table of a zone after these rules, or why it has none.
+fn made(alloc: Global, rules: &[u8], zone: &[u8]) -> Result<Result<Table, Stop>, Fail> {
+    let source = zone_source(alloc, rules, zone)?;
+    match timeline_of(alloc, &source).ok_or("one zone")? {
+        Ok(found) => Ok(table_of(alloc, PLACE, &found).map(|(_, table)| table)),
+        Err(_) => Err(Fail::from("no timeline")),
     }
-    let mut texts = Vec::new(alloc);
-    texts.push(text)?;
-    match read_source(alloc, &texts) {
-        Ok(source) => Ok(source),
-        Err(Stop::Fault(_)) => Err(Fail::from("a fault")),
-        Err(Stop::Memory) => Err(Fail::from("out of memory")),
-    }
-}
-
-/// Returns the answer of `table` for the only zone of a source.
-fn made(alloc: Global, parts: &[&[u8]]) -> Result<Result<Table, Stop>, Fail> {
-    let source = read(alloc, parts)?;
-    if source.zones() != 1 {
-        return Err(Fail::from("zones"));
-    }
-    let Ok(found) = timeline(alloc, &source, 0) else {
-        return Err(Fail::from("no timeline"));
-    };
-    let Ok(footer) = make(alloc, PLACE, &found) else {
-        return Err(Fail::from("no footer"));
-    };
-    Ok(table(alloc, PLACE, &found, &footer))
 }
 
 #[test]
@@ -53,10 +28,10 @@ fn tables_are_written(rt: HostRuntime) -> Result<(), Fail> {
         (NEW_YORK_SOURCE, NEW_YORK),
     ];
     for (source, file) in rows {
-        let Ok(found) = made(rt.alloc(), &[source])? else {
+        let Ok(found) = made(rt.alloc(), b"", source)? else {
             return Err(Fail::from("no table"));
         };
-        let octets = write(rt.alloc(), &found)?;
+        let octets = written(rt.alloc(), &found)?;
         assert_eq!(rt; octets.as_slice(), file);
     }
     Ok(())

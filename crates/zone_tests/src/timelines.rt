@@ -4,11 +4,11 @@ mod changes;
 mod faults;
 mod tails;
 
+use crate::samples::{timeline_of, zone_source};
 use std::alloc::Global;
 use std::test::Fail;
 use zic_base::{State, Stop};
 use zic_rules::*;
-use zic_source::{Source, read_source};
 
 const NO_RULES: &[u8] = b"";
 
@@ -23,21 +23,6 @@ const EIRE: &[u8] =
 /// Rules that end.
 const MENOMINEE: &[u8] =
     b"Rule US 1967 1973 - Apr lastSun 2:00 1:00 D\nRule US 1967 2006 - Oct lastSun 2:00 0 S\n";
-
-/// Reads a source text.
-fn read(alloc: Global, parts: &[&[u8]]) -> Result<Source, Fail> {
-    let mut text = Vec::new(alloc);
-    for part in parts {
-        text.extend_from_slice(part)?;
-    }
-    let mut texts = Vec::new(alloc);
-    texts.push(text)?;
-    match read_source(alloc, &texts) {
-        Ok(source) => Ok(source),
-        Err(Stop::Fault(_)) => Err(Fail::from("a fault")),
-        Err(Stop::Memory) => Err(Fail::from("out of memory")),
-    }
-}
 
 /// Returns the change with a number, or `None` if there is none.
 fn change_at<'a>(found: &'a Timeline<'_>, number: usize) -> Option<(i64, State<'a>)> {

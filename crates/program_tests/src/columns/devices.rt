@@ -1,16 +1,15 @@
 //! Readers and writers that fail, and workers that wait for each other at the gate.
 
 use super::{THREE_ROWS, UTC, converted, files_of};
+use crate::samples::Hold;
 use std::alloc::Global;
 use std::io::{self, ErrorKind, Read, Write};
 use std::process::Abort;
 use std::sync::Wait;
-use std::sync::atomic::{AtomicU64, Ordering};
 use std::test::Fail;
-use std::thread;
 use std::thread::Threads;
 use zic_bulk::{Files, Plan, RunStop};
-use zic_pieces::{Gate, Open};
+use zic_pieces::Open;
 
 const THREE: &[u8; 30] = b"Etc/UTC,0\nEtc/UTC,0\nEtc/UTC,0\n";
 
@@ -271,50 +270,16 @@ fn a_column_of_the_greatest_length(rt: HostRuntime) -> Result<(), Fail> {
     Ok(())
 }
 
-/// The maximum number of turns for which piece 0 waits for piece 1.
-const MAX_TURNS: u64 = 1_000_000;
-
-/// Holds piece 0 until piece 1 has entered.
-#[derive(Drop)]
-struct Hold {
-    one_entered: AtomicU64,
-    late: AtomicU64,
-}
-
-impl Gate for Hold {
-    fn enter(&self, i: u64) {
-        if i == 1 {
-            self.one_entered.store(1, Ordering::SeqCst);
-        } else if !has_entered(&self.one_entered) {
-            self.late.store(1, Ordering::SeqCst);
-        }
-    }
-}
-
-/// Waits until the flag is set. Returns `false` if that takes too long.
-fn has_entered(flag: &AtomicU64) -> bool {
-    for _ in 0..MAX_TURNS {
-        if flag.load(Ordering::SeqCst) == 1 {
-            return true;
-        }
-        thread::yield_now();
-    }
-    false
-}
-
 #[test]
 fn two_workers_are_at_the_gate_at_once(rt: HostRuntime) -> Result<(), Fail> {
     let alloc = rt.alloc();
     let files = files_of(alloc, UTC)?;
-    let gate = Hold {
-        one_entered: AtomicU64::new(0),
-        late: AtomicU64::new(0),
-    };
+    let gate = Hold::new();
     let plan = Plan::new(2, 1, 1, 100, 1000).ok_or("no plan")?;
     let column = b"Etc/UTC,0\nEtc/UTC,0\n".as_slice();
     let made = converted(&rt, alloc, &files, (&plan, &gate), column, Vec::new(alloc));
     assert_eq!(rt; made.answer, Ok(2));
     assert_eq!(rt; made.writer.into_inner().as_slice(), &THREE_ROWS[..92]);
-    assert!(rt; gate.late.load(Ordering::SeqCst) == 0);
+    assert!(rt; !gate.is_late());
     Ok(())
 }

@@ -3,9 +3,12 @@
 use super::{THREE_ROWS, UTC, converted, files_of};
 use std::alloc::Global;
 use std::io::{self, Read, Write};
+use std::process::Abort;
+use std::sync::Wait;
 use std::sync::atomic::{AtomicU64, Ordering};
 use std::test::Fail;
-use zic_bulk::{Plan, RowKind, RunStop};
+use std::thread::Threads;
+use zic_bulk::{Files, Plan, RowKind, RunStop};
 use zic_pieces::Open;
 
 /// The number of rows of a column: more than fit into one read.
@@ -34,78 +37,64 @@ fn rows_of(alloc: Global, count: usize) -> Result<Vec<u8>, Fail> {
 /// Pairs of a number of workers and a number of records in a piece.
 const PLANS: [(u64, u64); 3] = [(1, 100), (2, 3), (8, 100)];
 
-#[test]
-fn quotes_anywhere_change_no_row(rt: HostRuntime) -> Result<(), Fail> {
-    let alloc = rt.alloc();
-    let files = files_of(alloc, UTC)?;
-    let text = rows_of(alloc, ROWS)?;
-    let lines: [&[u8]; 3] = [LINE, b"\"Etc/UTC\",\"0\"\n", b"Etc/UTC,\"0\"\r\n\r\n"];
-    for line in lines {
-        for index in [0, 6_554] {
-            let column = column_with(alloc, index, line)?;
-            for (workers, row_piece) in PLANS {
-                let plan = Plan::new(workers, 1, row_piece, 10_000, 1_000_000).ok_or("no plan")?;
-                let writer = Vec::new(alloc);
-                let made = converted(
-                    &rt,
-                    alloc,
-                    &files,
-                    (&plan, &Open),
-                    column.as_slice(),
-                    writer,
-                );
-                assert_eq!(rt;
-                    made.answer,
-                    Ok(ROWS as u64),
-                    "{line:?} at {index} by {workers}"
-                );
-                let written = made.writer.into_inner();
-                assert!(rt;
-                    written == text,
-                    "{line:?} at {index} by {workers} and {row_piece}"
-                );
-            }
-        }
+/// A line, the rows that it stands in place of, one at a time, and the fault that it is, if any.
+static LINES: [(&[u8], &[usize], Option<RowKind>); 6] = [
+    (LINE, &[0, 6_554], None),
+    (b"\"Etc/UTC\",\"0\"\n", &[0, 6_554], None),
+    (b"Etc/UTC,\"0\"\r\n\r\n", &[0, 6_554], None),
+    (
+        b"Etc/UTC,x\n",
+        &[0, 4_000, 6_999],
+        Some(RowKind::RowInstant),
+    ),
+    (
+        b"\"No/Where\",0\nEtc/UTC\n",
+        &[0, 4_000, 6_999],
+        Some(RowKind::RowZone),
+    ),
+    (
+        b"\"Etc/UTC\n\",0\n",
+        &[0, 4_000, 6_999],
+        Some(RowKind::RowZone),
+    ),
+];
+
+/// Checks the answer and the rows for a column, with each plan.
+fn expect_rows<R: Threads + Wait + Sync + Abort>(
+    rt: &R,
+    alloc: Global,
+    files: &Files,
+    column: &[u8],
+    (want, text): (Result<u64, RunStop>, &[u8]),
+) -> Result<(), Fail> {
+    for (workers, row_piece) in PLANS {
+        let plan = Plan::new(workers, 1, row_piece, 10_000, 1_000_000).ok_or("no plan")?;
+        let made = converted(rt, alloc, files, (&plan, &Open), column, Vec::new(alloc));
+        assert_eq!(rt; made.answer, want, "by {workers} and {row_piece}");
+        let written = made.writer.into_inner();
+        assert!(rt; written.as_slice() == text, "by {workers} and {row_piece}");
     }
     Ok(())
 }
 
 #[test]
-fn a_fault_anywhere_ends_the_rows(rt: HostRuntime) -> Result<(), Fail> {
+fn quotes_anywhere_change_no_row_and_a_fault_anywhere_ends_them(
+    rt: HostRuntime,
+) -> Result<(), Fail> {
     let alloc = rt.alloc();
     let files = files_of(alloc, UTC)?;
-    let lines: [(&[u8], RowKind); 3] = [
-        (b"Etc/UTC,x\n", RowKind::RowInstant),
-        (b"\"No/Where\",0\nEtc/UTC\n", RowKind::RowZone),
-        (b"\"Etc/UTC\n\",0\n", RowKind::RowZone),
-    ];
-    for (line, kind) in lines {
-        for index in [0, 4_000, ROWS.saturating_sub(1)] {
-            let column = column_with(alloc, index, line)?;
-            let text = rows_of(alloc, index)?;
-            for (workers, row_piece) in PLANS {
-                let plan = Plan::new(workers, 1, row_piece, 10_000, 1_000_000).ok_or("no plan")?;
-                let writer = Vec::new(alloc);
-                let made = converted(
-                    &rt,
-                    alloc,
-                    &files,
-                    (&plan, &Open),
-                    column.as_slice(),
-                    writer,
-                );
-                let row = (index as u64).wrapping_add(1);
-                assert_eq!(rt;
-                    made.answer,
-                    Err(RunStop::Row { row, kind }),
-                    "by {workers}"
-                );
-                let written = made.writer.into_inner();
-                assert!(rt;
-                    written == text,
-                    "{line:?} at {index} by {workers} and {row_piece}"
-                );
-            }
+    for (line, indexes, fault) in &LINES {
+        for index in *indexes {
+            let column = column_with(alloc, *index, *line)?;
+            let (want, count) = match fault {
+                None => (Ok(ROWS as u64), ROWS),
+                Some(kind) => {
+                    let row = (*index as u64).wrapping_add(1);
+                    (Err(RunStop::Row { row, kind: *kind }), *index)
+                }
+            };
+            let text = rows_of(alloc, count)?;
+            expect_rows(&rt, alloc, &files, &column, (want, &text))?;
         }
     }
     Ok(())

@@ -1,6 +1,7 @@
 //! `convert` and its progress reports, compared with expected output.
 
-use super::{Broken, US, told};
+use super::{Broken, told};
+use crate::samples::US;
 use std::alloc::Global;
 use std::cell::Cell;
 use std::io::{self, Read, Write};
@@ -14,6 +15,35 @@ use zic_counted::Counted;
 
 const UTC: &str = "Zone Etc/UTC 0 - UTC";
 
+/// Calls `convert` with two workers and pieces of one.
+fn convert_by_two<T: Threads + Wait + Sync, R: Read, W: Write>(
+    rt: &T,
+    alloc: Global,
+    source: &str,
+    column: &mut Counted<R>,
+    (max_rows, max_bytes): (u64, u64),
+    writer: &mut Counted<W>,
+) -> Result<Result<u64, Failure>, Fail> {
+    let plan = Plan::new(2, 1, 1, max_rows, max_bytes).ok_or("no plan")?;
+    let texts = [Vec::from_slice(alloc, source.as_bytes())?];
+    Ok(convert(rt, alloc, &plan, &texts, column, writer))
+}
+
+/// Returns what was written, followed by the number of rows, or by the text and status of the
+/// failure.
+fn answer_text(
+    alloc: Global,
+    written: Vec<u8>,
+    answer: Result<u64, Failure>,
+) -> Result<String, Fail> {
+    let mut text = String::from_utf8(written).ok().ok_or("no text")?;
+    match answer {
+        Ok(rows) => write!(text, "{rows} rows")?,
+        Err(failure) => text.push_str(told(alloc, failure)?.as_str())?,
+    }
+    Ok(text)
+}
+
 /// Returns the output of `convert`, followed by the number of rows that it returns, or by the text
 /// and status of its failure.
 fn converted<T: Threads + Wait + Sync, R: Read>(
@@ -21,20 +51,11 @@ fn converted<T: Threads + Wait + Sync, R: Read>(
     alloc: Global,
     source: &str,
     column: &mut Counted<R>,
-    (max_rows, max_bytes): (u64, u64),
+    bounds: (u64, u64),
 ) -> Result<String, Fail> {
-    let plan = Plan::new(2, 1, 1, max_rows, max_bytes).ok_or("no plan")?;
     let mut writer = Counted::new(Vec::new(alloc));
-    let texts = [Vec::from_slice(alloc, source.as_bytes())?];
-    let answer = convert(rt, alloc, &plan, &texts, column, &mut writer);
-    let mut text = String::from_utf8(writer.into_inner())
-        .ok()
-        .ok_or("no text")?;
-    match answer {
-        Ok(rows) => write!(text, "{rows} rows")?,
-        Err(failure) => text.push_str(told(alloc, failure)?.as_str())?,
-    }
-    Ok(text)
+    let answer = convert_by_two(rt, alloc, source, column, bounds, &mut writer)?;
+    answer_text(alloc, writer.into_inner(), answer)
 }
 
 #[test]
@@ -87,14 +108,7 @@ fn converted_below<T: Threads + Wait + Sync>(
     let mut writer = Counted::new(Vec::new(alloc));
     let texts = [Vec::from_slice(alloc, source.as_bytes())?];
     let answer = convert_with_header(rt, alloc, &plan, &texts, &mut reader, &mut writer);
-    let mut text = String::from_utf8(writer.into_inner())
-        .ok()
-        .ok_or("no text")?;
-    match answer {
-        Ok(rows) => write!(text, "{rows} rows")?,
-        Err(failure) => text.push_str(told(alloc, failure)?.as_str())?,
-    }
-    Ok(text)
+    answer_text(alloc, writer.into_inner(), answer)
 }
 
 #[test]
@@ -143,11 +157,9 @@ fn convert_reads_the_column_once_the_source_has_files(rt: HostRuntime) -> Result
 #[test]
 fn convert_tells_that_rows_are_not_written(rt: HostRuntime) -> Result<(), Fail> {
     let alloc = rt.alloc();
-    let plan = Plan::new(2, 1, 1, 9, 100).ok_or("no plan")?;
-    let texts = [Vec::from_slice(alloc, UTC.as_bytes())?];
     let mut column = Counted::new(b"Etc/UTC,0".as_slice());
     let mut broken = Counted::new(Broken);
-    let answer = convert(&rt, alloc, &plan, &texts, &mut column, &mut broken);
+    let answer = convert_by_two(&rt, alloc, UTC, &mut column, (9, 100), &mut broken)?;
     let unwritten = told(alloc, answer.err().ok_or("it was written")?)?;
     assert_eq!(rt; unwritten.as_str(), "cannot write rows, status 3");
     assert_eq!(rt; broken.failures(), 1, "of the writer");
@@ -206,10 +218,13 @@ fn progress_is_told_twice_a_second_or_at_the_end(rt: HostRuntime) -> Result<(), 
 }
 
 #[test]
-fn progress_counts_no_header(rt: HostRuntime) -> Result<(), Fail> {
+fn progress_counts_no_header_and_is_told_where_rows_are_asked_for(
+    rt: HostRuntime,
+) -> Result<(), Fail> {
+    let alloc = rt.alloc();
     let clock = Quarters(Cell::new(1000));
-    let mut rows: Vec<u8> = Vec::new(rt.alloc());
-    let mut told: Vec<u8> = Vec::new(rt.alloc());
+    let mut rows: Vec<u8> = Vec::new(alloc);
+    let mut told: Vec<u8> = Vec::new(alloc);
     let mut progress = Progress::new(&mut rows, &clock, Told::Once(&mut told), true);
     progress.write_all(b"zone,instant\na,1\nb,2\n")?;
     progress.finish();
@@ -217,13 +232,14 @@ fn progress_counts_no_header(rt: HostRuntime) -> Result<(), Fail> {
         str::from_utf8(&told).ok(),
         Some("2 rows, 8 rows a second\n")
     );
-    Ok(())
-}
-
-#[test]
-fn progress_tells_nothing_before_the_first_write(rt: HostRuntime) -> Result<(), Fail> {
-    let alloc = rt.alloc();
-    let clock = Quarters(Cell::new(0));
+    let mut rows: Vec<u8> = Vec::new(alloc);
+    let told: Told<&mut Vec<u8>> = Told::Never;
+    let mut progress = Progress::new(&mut rows, &clock, told, false);
+    progress.write_all(b"a,1\n")?;
+    progress.flush()?;
+    progress.finish();
+    assert_eq!(rt; rows.as_slice(), b"a,1\n".as_slice());
+    // Nothing is told before the first write.
     let mut told: Vec<u8> = Vec::new(alloc);
     let mut unused = Progress::new(Broken, &clock, Told::Anew(&mut told), false);
     unused.finish();
@@ -231,18 +247,5 @@ fn progress_tells_nothing_before_the_first_write(rt: HostRuntime) -> Result<(), 
     assert!(rt; broken.write(b"a,1\n").is_err());
     broken.finish();
     assert!(rt; told.is_empty());
-    Ok(())
-}
-
-#[test]
-fn progress_is_told_nowhere_where_nobody_asks(rt: HostRuntime) -> Result<(), Fail> {
-    let clock = Quarters(Cell::new(0));
-    let mut rows: Vec<u8> = Vec::new(rt.alloc());
-    let told: Told<&mut Vec<u8>> = Told::Never;
-    let mut progress = Progress::new(&mut rows, &clock, told, false);
-    progress.write_all(b"a,1\n")?;
-    progress.flush()?;
-    progress.finish();
-    assert_eq!(rt; rows.as_slice(), b"a,1\n".as_slice());
     Ok(())
 }

@@ -1,6 +1,7 @@
 //! `build`, and the files that the commands open, over a file system that records its calls.
 
-use super::{UTC_FILE, plan, told};
+use super::{plan, told};
+use crate::samples::UTC_FILE;
 use std::alloc::{Allocator, Global};
 use std::cell::RefCell;
 use std::fs::{Files, Metadata, OpenFile, OpenOptions};
@@ -332,122 +333,119 @@ fn build_words<T: Threads + Wait + Sync>(
     })
 }
 
-#[test]
-fn a_file_is_written_whole_before_it_has_its_name(rt: HostRuntime) -> Result<(), Fail> {
-    let rows = [
-        (
-            "",
-            "folder D/Etc\ncreate D/Etc/~pzic7\nwrite 111\nflush \nrename D/Etc/~pzic7\nto D/Etc/UTC\n",
-        ),
-        (
-            "folder D/Etc",
-            "folder D/Etc\ncannot write D/Etc/UTC, status 3",
-        ),
-        (
-            "create D/Etc/~pzic7",
-            "folder D/Etc\ncreate D/Etc/~pzic7\ncannot write D/Etc/UTC, status 3",
-        ),
-        (
-            "write 111",
-            "folder D/Etc\ncreate D/Etc/~pzic7\nwrite 111\nremove D/Etc/~pzic7\ncannot write D/Etc/UTC, status 3",
-        ),
-        (
-            "flush ",
-            "folder D/Etc\ncreate D/Etc/~pzic7\nwrite 111\nflush \nremove D/Etc/~pzic7\ncannot write D/Etc/UTC, status 3",
-        ),
-        (
-            "rename D/Etc/~pzic7",
-            "folder D/Etc\ncreate D/Etc/~pzic7\nwrite 111\nflush \nrename D/Etc/~pzic7\nremove D/Etc/~pzic7\ncannot write D/Etc/UTC, status 3",
-        ),
-    ];
-    for (fails, want) in rows {
-        let fails = (fails, ErrorKind::Other, b"".as_slice());
-        let got = built(&rt, rt.alloc(), "D", "-", "Zone Etc/UTC 0 - UTC", fails)?;
-        assert_eq!(rt; got.as_str(), want, "where {:?} fails", fails.0);
-    }
-    Ok(())
-}
+/// A source, and the calls that building it makes where one of them fails, followed by the text and
+/// status of the failure, if that ends the command.
+type OneSource = (
+    &'static str,
+    (&'static str, ErrorKind, &'static [u8]),
+    &'static str,
+);
 
-#[test]
-fn a_folder_is_entered_once_and_other_runs_may_be_in_it(rt: HostRuntime) -> Result<(), Fail> {
-    let rows: [(&str, ErrorKind, &[u8], &str); 4] = [
-        (
-            "",
-            ErrorKind::Other,
-            b".\0..\0UTC\0",
-            "list D/\ncreate D/~pzic7\nwrite 111\nflush \nrename D/~pzic7\nto D/A\n\
+/// A file is written whole before it has its name. A folder is entered once, and other runs may be
+/// in it.
+static ONE_SOURCE: [OneSource; 10] = [
+    (
+        "Zone Etc/UTC 0 - UTC",
+        ("", ErrorKind::Other, b""),
+        "folder D/Etc\ncreate D/Etc/~pzic7\nwrite 111\nflush \nrename D/Etc/~pzic7\nto D/Etc/UTC\n",
+    ),
+    (
+        "Zone Etc/UTC 0 - UTC",
+        ("folder D/Etc", ErrorKind::Other, b""),
+        "folder D/Etc\ncannot write D/Etc/UTC, status 3",
+    ),
+    (
+        "Zone Etc/UTC 0 - UTC",
+        ("create D/Etc/~pzic7", ErrorKind::Other, b""),
+        "folder D/Etc\ncreate D/Etc/~pzic7\ncannot write D/Etc/UTC, status 3",
+    ),
+    (
+        "Zone Etc/UTC 0 - UTC",
+        ("write 111", ErrorKind::Other, b""),
+        "folder D/Etc\ncreate D/Etc/~pzic7\nwrite 111\nremove D/Etc/~pzic7\ncannot write D/Etc/UTC, status 3",
+    ),
+    (
+        "Zone Etc/UTC 0 - UTC",
+        ("flush ", ErrorKind::Other, b""),
+        "folder D/Etc\ncreate D/Etc/~pzic7\nwrite 111\nflush \nremove D/Etc/~pzic7\ncannot write D/Etc/UTC, status 3",
+    ),
+    (
+        "Zone Etc/UTC 0 - UTC",
+        ("rename D/Etc/~pzic7", ErrorKind::Other, b""),
+        "folder D/Etc\ncreate D/Etc/~pzic7\nwrite 111\nflush \nrename D/Etc/~pzic7\nremove D/Etc/~pzic7\ncannot write D/Etc/UTC, status 3",
+    ),
+    (
+        TWO,
+        ("", ErrorKind::Other, b".\0..\0UTC\0"),
+        "list D/\ncreate D/~pzic7\nwrite 111\nflush \nrename D/~pzic7\nto D/A\n\
 create D/~pzic7\nwrite 111\nflush \nrename D/~pzic7\nto D/B\n",
-        ),
-        // what runs left behind, and other names; one can't be removed
+    ),
+    // what runs left behind, and other names; one can't be removed
+    (
+        TWO,
         (
             "remove D/~pzic12",
             ErrorKind::PermissionDenied,
             b"~pzic\0~pzic12\0~pzic1x\0x~pzic1\0~pzi\0\xff\0~pzic7\0",
-            "list D/\nremove D/~pzic\nremove D/~pzic12\nremove D/~pzic7\n\
+        ),
+        "list D/\nremove D/~pzic\nremove D/~pzic12\nremove D/~pzic7\n\
 create D/~pzic7\nwrite 111\nflush \nrename D/~pzic7\nto D/A\n\
 create D/~pzic7\nwrite 111\nflush \nrename D/~pzic7\nto D/B\n",
-        ),
-        // another run has a file of the same name
-        (
-            "create D/~pzic7",
-            ErrorKind::AlreadyExists,
-            b"A\0",
-            "list D/\ncreate D/~pzic7\ncreate D/~pzic8\nwrite 111\nflush \nrename D/~pzic8\nto D/A\n\
+    ),
+    // another run has a file of the same name
+    (
+        TWO,
+        ("create D/~pzic7", ErrorKind::AlreadyExists, b"A\0"),
+        "list D/\ncreate D/~pzic7\ncreate D/~pzic8\nwrite 111\nflush \nrename D/~pzic8\nto D/A\n\
 create D/~pzic8\nwrite 111\nflush \nrename D/~pzic8\nto D/B\n",
-        ),
-        // another run removed the file
-        (
-            "rename D/~pzic7",
-            ErrorKind::NotFound,
-            b"A\0",
-            "list D/\ncreate D/~pzic7\nwrite 111\nflush \nrename D/~pzic7\n\
+    ),
+    // another run removed the file
+    (
+        TWO,
+        ("rename D/~pzic7", ErrorKind::NotFound, b"A\0"),
+        "list D/\ncreate D/~pzic7\nwrite 111\nflush \nrename D/~pzic7\n\
 create D/~pzic7\nwrite 111\nflush \nrename D/~pzic7\nto D/A\n\
 create D/~pzic7\nwrite 111\nflush \nrename D/~pzic7\nto D/B\n",
-        ),
-    ];
-    for (fails, kind, names, want) in rows {
-        let source = "Zone A 0 - UTC\nZone B 0 - UTC";
-        let got = built(&rt, rt.alloc(), "D", "-", source, (fails, kind, names))?;
-        assert_eq!(rt; got.as_str(), want, "where {fails:?} fails");
-    }
-    Ok(())
-}
+    ),
+];
+
+const TWO: &str = "Zone A 0 - UTC\nZone B 0 - UTC";
+
+/// The folder and the words for sources, what `-` stands for, the call that fails, and the calls.
+/// Sources are read from left to right before anything is made; an empty word is no path.
+static WORDS: [(&str, &str, &str, &str, &str); 7] = [
+    ("D", "a b", "", "", "open a\nopen b\n"),
+    ("D", "a b", "", "open a", "open a\ncannot read a, status 3"),
+    (
+        "D",
+        "a b",
+        "",
+        "open b",
+        "open a\nopen b\ncannot read b, status 3",
+    ),
+    (
+        "D",
+        "a -",
+        "Zone A 0 - UTC\n-6:00 - CST",
+        "",
+        "open a\ntext 2 line 2: Keyword, status 1",
+    ),
+    ("D", "-", "Zone A 0 -", "", "line 1: FieldCount, status 1"),
+    ("D", "-", "# No zone.", "folder D", ""),
+    ("", "-", "Zone A 0 - UTC", "", "cannot write /A, status 3"),
+];
 
 #[test]
-fn sources_are_read_from_left_to_right_before_anything_is_made(
-    rt: HostRuntime,
-) -> Result<(), Fail> {
-    let rows = [
-        ("a b", "", "", "open a\nopen b\n"),
-        ("a b", "", "open a", "open a\ncannot read a, status 3"),
-        (
-            "a b",
-            "",
-            "open b",
-            "open a\nopen b\ncannot read b, status 3",
-        ),
-        (
-            "a -",
-            "Zone A 0 - UTC\n-6:00 - CST",
-            "",
-            "open a\ntext 2 line 2: Keyword, status 1",
-        ),
-        ("-", "Zone A 0 -", "", "line 1: FieldCount, status 1"),
-        ("-", "# No zone.", "folder D", ""),
-    ];
-    for (words, input, fails, want) in rows {
-        let fails = (fails, ErrorKind::Other, b"".as_slice());
-        let got = built(&rt, rt.alloc(), "D", words, input, fails)?;
-        assert_eq!(rt; got.as_str(), want, "of {words:?}");
+fn sources_are_read_and_files_written_whole(rt: HostRuntime) -> Result<(), Fail> {
+    for (source, fails, want) in &ONE_SOURCE {
+        let got = built(&rt, rt.alloc(), "D", "-", *source, *fails)?;
+        assert_eq!(rt; got.as_str(), *want, "where {:?} fails", fails.0);
     }
-    Ok(())
-}
-
-#[test]
-fn an_empty_word_is_no_path(rt: HostRuntime) -> Result<(), Fail> {
-    let fails = ("", ErrorKind::Other, b"".as_slice());
-    let got = built(&rt, rt.alloc(), "", "-", "Zone A 0 - UTC", fails)?;
-    assert_eq!(rt; got.as_str(), "cannot write /A, status 3");
+    for (folder, words, input, fails, want) in &WORDS {
+        let fails = (*fails, ErrorKind::Other, b"".as_slice());
+        let got = built(&rt, rt.alloc(), *folder, *words, *input, fails)?;
+        assert_eq!(rt; got.as_str(), *want, "of {words:?}");
+    }
     Ok(())
 }
 

@@ -2,7 +2,8 @@
 
 ghost use Rattle.std.specs.Prelude.{map, string_bytes, Some};
 
-use super::{UTC_FILE, plan, told};
+use super::{plan, told};
+use crate::samples::UTC_FILE;
 use std::alloc::Global;
 use std::sync::Wait;
 use std::test::Fail;
@@ -94,30 +95,21 @@ fn placed<T: Threads + Wait + Sync>(
 }
 
 #[test]
-fn files_are_placed_in_the_order_of_the_source(rt: HostRuntime) -> Result<(), Fail> {
-    let (files, told) = placed(&rt, rt.alloc(), "")?;
-    let want = [
+fn files_are_placed_in_order_up_to_one_that_is_refused(rt: HostRuntime) -> Result<(), Fail> {
+    let all = [
         ("D/Etc/UTC", UTC_FILE),
         ("D/East", EST_FILE),
         ("D/Z/EST", EST_FILE),
     ];
-    assert_eq!(rt; told.as_str(), "");
-    assert_eq!(rt; files.len(), want.len());
-    for (file, (path, bytes)) in files.iter().zip(want) {
-        assert_eq!(rt; file.path.as_str(), path);
-        assert_eq!(rt; &file.bytes[..], bytes.as_slice(), "at {path:?}");
-    }
-    Ok(())
-}
-
-#[test]
-fn a_refused_file_ends_the_command_and_is_named(rt: HostRuntime) -> Result<(), Fail> {
-    let (files, told) = placed(&rt, rt.alloc(), "D/East")?;
-    assert_eq!(rt; told.as_str(), "cannot write D/East, status 3");
-    assert_eq!(rt; files.len(), 1);
-    for file in &files {
-        assert_eq!(rt; file.path.as_str(), "D/Etc/UTC");
-        assert_eq!(rt; &file.bytes[..], UTC_FILE.as_slice());
+    let rows = [("", 3, ""), ("D/East", 1, "cannot write D/East, status 3")];
+    for (refuses, count, want) in rows {
+        let (files, told) = placed(&rt, rt.alloc(), refuses)?;
+        assert_eq!(rt; told.as_str(), want);
+        assert_eq!(rt; files.len(), count, "where {refuses:?} is refused");
+        for (file, (path, bytes)) in files.iter().zip(all) {
+            assert_eq!(rt; file.path.as_str(), path);
+            assert_eq!(rt; &file.bytes[..], bytes.as_slice(), "at {path:?}");
+        }
     }
     Ok(())
 }

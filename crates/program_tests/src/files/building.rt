@@ -1,11 +1,11 @@
 //! Files built by several workers, compared with values from other programs.
 
-use super::{NEW_YORK_FILE, US, UTC_FILE, listed};
+use super::{NEW_YORK_FILE, listed};
+use crate::samples::{Hold, US, UTC_FILE};
 use std::alloc::Global;
 use std::sync::Wait;
 use std::sync::atomic::{AtomicU64, Ordering};
 use std::test::Fail;
-use std::thread;
 use std::thread::Threads;
 use zic_bulk::*;
 use zic_pieces::{Gate, Open};
@@ -57,25 +57,28 @@ fn built<R: Threads + Wait + Sync, G: Gate + Sync>(
     Ok(build(rt, alloc, &copies, &plan, gate))
 }
 
+/// The numbers of a plan, and whether they are within their limits.
+static LIMITS: [([u64; 5], bool); 10] = [
+    ([64, 65_536, 65_536, 100_000_000, 4_294_967_296], true),
+    ([1, 1, 1, 0, 0], true),
+    ([0, 1, 1, 0, 0], false),
+    ([65, 1, 1, 0, 0], false),
+    ([1, 0, 1, 0, 0], false),
+    ([1, 65_537, 1, 0, 0], false),
+    ([1, 1, 0, 0, 0], false),
+    ([1, 1, 65_537, 0, 0], false),
+    ([1, 1, 1, 100_000_001, 0], false),
+    ([1, 1, 1, 0, 4_294_967_297], false),
+];
+
 #[test]
 fn plans_are_within_their_limits(rt: HostRuntime) {
-    let rows = [
-        ([64, 65_536, 65_536, 100_000_000, 4_294_967_296], true),
-        ([1, 1, 1, 0, 0], true),
-        ([0, 1, 1, 0, 0], false),
-        ([65, 1, 1, 0, 0], false),
-        ([1, 0, 1, 0, 0], false),
-        ([1, 65_537, 1, 0, 0], false),
-        ([1, 1, 0, 0, 0], false),
-        ([1, 1, 65_537, 0, 0], false),
-        ([1, 1, 1, 100_000_001, 0], false),
-        ([1, 1, 1, 0, 4_294_967_297], false),
-    ];
-    for ([workers, zones, row_piece, max_rows, max_bytes], want) in rows {
+    for (numbers, want) in &LIMITS {
+        let [workers, zones, row_piece, max_rows, max_bytes] = *numbers;
         let plan = Plan::new(workers, zones, row_piece, max_rows, max_bytes);
         assert_eq!(rt;
             plan.is_some(),
-            want,
+            *want,
             "of {workers} {zones} {row_piece} {max_rows} {max_bytes}"
         );
     }
@@ -199,49 +202,15 @@ fn no_piece_after_the_fault_is_begun(rt: HostRuntime) -> Result<(), Fail> {
     Ok(())
 }
 
-/// The maximum number of turns for which piece 0 waits for piece 1.
-const MAX_TURNS: u64 = 1_000_000;
-
-/// Holds piece 0 until piece 1 has entered.
-#[derive(Drop)]
-struct Hold {
-    one_entered: AtomicU64,
-    late: AtomicU64,
-}
-
-impl Gate for Hold {
-    fn enter(&self, i: u64) {
-        if i == 1 {
-            self.one_entered.store(1, Ordering::SeqCst);
-        } else if !has_entered(&self.one_entered) {
-            self.late.store(1, Ordering::SeqCst);
-        }
-    }
-}
-
-/// Waits until the flag is set. Returns `false` if that takes too long.
-fn has_entered(flag: &AtomicU64) -> bool {
-    for _ in 0..MAX_TURNS {
-        if flag.load(Ordering::SeqCst) == 1 {
-            return true;
-        }
-        thread::yield_now();
-    }
-    false
-}
-
 #[test]
 fn two_workers_are_at_the_gate_at_once(rt: HostRuntime) -> Result<(), Fail> {
-    let gate = Hold {
-        one_entered: AtomicU64::new(0),
-        late: AtomicU64::new(0),
-    };
+    let gate = Hold::new();
     let texts = ["Zone A -3 - %z\nZone Etc/UTC 0 - UTC"];
     let files = built(&rt, rt.alloc(), &texts, (2, 1), &gate)?
         .ok()
         .ok_or("no files")?;
     let lines = listed(rt.alloc(), &files)?;
     assert_eq!(rt; lines.as_str(), "A 113\nEtc/UTC 111\n");
-    assert!(rt; gate.late.load(Ordering::SeqCst) == 0);
+    assert!(rt; !gate.is_late());
     Ok(())
 }

@@ -1,10 +1,9 @@
-//! Files, and bytes that are not a file.
+//! Bytes that are not a file.
 
-use crate::samples::{NEW_YORK, NEW_YORK_TWICE, UTC, new_york};
+use super::{with_footer, without_footer};
+use crate::samples::{NEW_YORK, NEW_YORK_TWICE, UTC, read_file};
 use std::alloc::Global;
-use std::process::Abort;
 use std::test::*;
-use zic_base::State;
 use zic_tzif::*;
 
 /// An index, a byte to put there, and the reason why the bytes are then refused.
@@ -61,28 +60,7 @@ const REASONS: [u32; 15] = [
 
 /// Returns the reason why bytes are not a file.
 fn stop_of(alloc: Global, octets: &[u8]) -> Option<ReadStop> {
-    read(alloc, octets).err()
-}
-
-/// Checks the answers of a file at some instants.
-fn assert_answers(rt: &impl Abort, zone: &Zone, rows: &[(i64, Answer<'_>)]) {
-    for (t, want) in rows {
-        assert_eq!(rt; zone.at(*t), *want, "at {t}");
-    }
-}
-
-#[test]
-fn plain_file(rt: HostRuntime) -> Result<(), Fail> {
-    let zone = read(rt.alloc(), UTC)?;
-    let state = State {
-        offset: 0,
-        daylight: false,
-        name: b"UTC",
-    };
-    assert_answers(&rt, &zone, &[(-1, Answer::Known(state))]);
-    assert_eq!(rt; zone.footer_text(), b"UTC0".as_slice());
-    assert_eq!(rt; zone.version(), 2);
-    Ok(())
+    read_file(alloc, octets).err()
 }
 
 #[test]
@@ -113,21 +91,31 @@ fn faults(rt: HostRuntime) -> Result<(), Fail> {
         Some(ReadStop::Bad(Reason::Short)),
         "many transitions"
     );
+    let mut octets = *NEW_YORK_TWICE;
+    octets[219] = 2;
+    let stop = stop_of(rt.alloc(), &octets);
+    assert_eq!(rt; stop, Some(ReadStop::Bad(Reason::Indicators)));
     Ok(())
 }
 
 #[test]
-fn other_lengths(rt: HostRuntime) -> Result<(), Fail> {
+fn other_lengths_and_footers(rt: HostRuntime) -> Result<(), Fail> {
     for file in [UTC.as_slice(), NEW_YORK.as_slice()] {
         for length in 0..file.len() {
             let stop = stop_of(rt.alloc(), &file[..length]);
             assert_eq!(rt; stop, Some(ReadStop::Bad(Reason::Short)), "{length} octets");
         }
-        let mut longer = file.to_vec(rt.alloc())?;
-        longer.push(b'\n')?;
+        let longer = with_footer(rt.alloc(), file, b"")?;
         let stop = stop_of(rt.alloc(), &longer);
         assert_eq!(rt; stop, Some(ReadStop::Bad(Reason::TrailingBytes)));
     }
+    // A daylight name without edges.
+    for file in [&UTC[..106], &NEW_YORK[..170]] {
+        let stop = stop_of(rt.alloc(), &with_footer(rt.alloc(), file, b"EST5EDT")?);
+        assert_eq!(rt; stop, Some(ReadStop::Bad(Reason::Footer)));
+    }
+    let stop = stop_of(rt.alloc(), &without_footer()[..108]);
+    assert_eq!(rt; stop, Some(ReadStop::Bad(Reason::TrailingBytes)));
     Ok(())
 }
 
@@ -154,76 +142,6 @@ fn limits(rt: HostRuntime) -> Result<(), Fail> {
     Ok(())
 }
 
-#[test]
-fn no_footer(rt: HostRuntime) -> Result<(), Fail> {
-    let mut octets = *UTC;
-    octets[4] = b'3';
-    octets[55] = b'3';
-    // The designation `TC`, the offset -1, the daylight flag, and an empty footer.
-    octets[95..101].copy_from_slice(&[0xff, 0xff, 0xff, 0xff, 1, 1]);
-    octets[106] = b'\n';
-    let zone = read(rt.alloc(), &octets[..107])?;
-    let state = State {
-        offset: -1,
-        daylight: true,
-        name: b"TC",
-    };
-    assert_answers(&rt, &zone, &[(i64::MAX, Answer::Known(state))]);
-    assert_eq!(rt; zone.footer_text(), b"".as_slice());
-    assert_eq!(rt; zone.version(), 3);
-    let stop = stop_of(rt.alloc(), &octets[..108]);
-    assert_eq!(rt; stop, Some(ReadStop::Bad(Reason::TrailingBytes)));
-    Ok(())
-}
-
-#[test]
-fn filled_first_block_and_indicators(rt: HostRuntime) -> Result<(), Fail> {
-    let zone = read(rt.alloc(), NEW_YORK_TWICE)?;
-    let rows = [
-        (1173596399, new_york(false)),
-        (1173596400, new_york(true)),
-        (1257055200, new_york(false)),
-        (13796377200, new_york(true)),
-    ];
-    assert_answers(&rt, &zone, &rows);
-    let mut octets = *NEW_YORK_TWICE;
-    octets[219] = 2;
-    let stop = stop_of(rt.alloc(), &octets);
-    assert_eq!(rt; stop, Some(ReadStop::Bad(Reason::Indicators)));
-    Ok(())
-}
-
-#[test]
-fn reserved_octets(rt: HostRuntime) -> Result<(), Fail> {
-    let mut octets = *NEW_YORK;
-    octets[10] = 7;
-    let zone = read(rt.alloc(), &octets)?;
-    assert_answers(&rt, &zone, &[(1173596400, new_york(true))]);
-    Ok(())
-}
-
-/// Returns these bytes and, after them, a footer's text and its newline.
-fn with_footer(alloc: Global, octets: &[u8], text: &[u8]) -> Result<Vec<u8>, Fail> {
-    let mut file = octets.to_vec(alloc)?;
-    file.extend_from_slice(text)?;
-    file.push(b'\n')?;
-    Ok(file)
-}
-
-#[test]
-fn other_footers(rt: HostRuntime) -> Result<(), Fail> {
-    let octets = with_footer(rt.alloc(), &UTC[..106], b"EST5EDT,M3.2.0,M11.1.0")?;
-    let zone = read(rt.alloc(), &octets)?;
-    let rows = [(1173596399, new_york(false)), (1173596400, new_york(true))];
-    assert_answers(&rt, &zone, &rows);
-    // A daylight name without edges.
-    for file in [&UTC[..106], &NEW_YORK[..170]] {
-        let stop = stop_of(rt.alloc(), &with_footer(rt.alloc(), file, b"EST5EDT")?);
-        assert_eq!(rt; stop, Some(ReadStop::Bad(Reason::Footer)));
-    }
-    Ok(())
-}
-
 /// Returns the number of a reason, or 0 for a file.
 fn number_of(answer: Result<Zone, ReadStop>) -> usize {
     match answer {
@@ -239,7 +157,7 @@ fn each_octet(rt: HostRuntime) -> Result<(), Fail> {
     for change in 0..193 * 256 {
         let mut octets = *NEW_YORK;
         octets[change / 256] = (change % 256) as u8;
-        let number = number_of(read(rt.alloc(), &octets));
+        let number = number_of(read_file(rt.alloc(), &octets));
         assert!(rt; number < 15);
         numbers[number] = numbers[number].wrapping_add(1);
     }

@@ -1,8 +1,10 @@
 //! Spans of instants at which a file gives the same answer.
 
-use crate::samples::{NEW_YORK, UTC, new_york};
+use super::with_footer;
+use crate::samples::{NEW_YORK, UTC, new_york, read_file};
 use std::process::Abort;
 use std::test::*;
+use zic_base::State;
 use zic_tzif::*;
 
 /// The index of the first byte of the footer's text in `NEW_YORK`.
@@ -32,78 +34,68 @@ const BY_FOOTER: [Row; 4] = [
     (i64::MAX, 9223372036852322400, i64::MAX, false),
 ];
 
-/// Checks the spans of `NEW_YORK`.
-fn assert_spans(rt: &(impl Abort + AllocGlobal), rows: &[Row]) -> Result<(), Fail> {
-    let zone = read(rt.alloc(), NEW_YORK)?;
+/// Spans of the same file without a footer; from the last transition on local time is left open.
+const WITHOUT_FOOTER: [Row; 1] = [(1257055199, 1236495600, 1257055199, true)];
+
+/// Spans of the same file with its last transition an hour after the footer's edge.
+const LATER: [Row; 2] = [
+    (1257058799, 1236495600, 1257058799, true),
+    (1257058800, 1257058800, 1268549999, false),
+];
+
+/// Checks the span of a file at an instant.
+fn assert_span(rt: &impl Abort, zone: &Zone, t: i64, (first, last): (i64, i64), want: Answer<'_>) {
+    let span = zone.span(t);
+    let instants = Instants { first, last };
+    assert_eq!(rt; span.instants, instants, "{t}");
+    assert_eq!(rt; span.answer, want, "{t}");
+}
+
+/// Checks spans of a file whose answers are those of New York.
+fn assert_spans(rt: &(impl Abort + AllocGlobal), octets: &[u8], rows: &[Row]) -> Result<(), Fail> {
+    let zone = read_file(rt.alloc(), octets)?;
     for (t, first, last, daylight) in rows {
-        let span = zone.span(*t);
-        let instants = Instants {
-            first: *first,
-            last: *last,
-        };
-        assert_eq!(rt; span.instants, instants, "{t}");
-        assert_eq!(rt; span.answer, new_york(*daylight), "{t}");
+        assert_span(rt, &zone, *t, (*first, *last), new_york(*daylight));
     }
     Ok(())
 }
 
 #[test]
-fn between_transitions(rt: HostRuntime) -> Result<(), Fail> {
-    assert_spans(&rt, &BY_TRANSITIONS)
-}
-
-#[test]
-fn between_edges_of_the_footer(rt: HostRuntime) -> Result<(), Fail> {
-    assert_spans(&rt, &BY_FOOTER)
-}
-
-#[test]
-fn without_changes(rt: HostRuntime) -> Result<(), Fail> {
-    let zone = read(rt.alloc(), UTC)?;
-    let all = Instants {
-        first: i64::MIN,
-        last: i64::MAX,
-    };
-    assert_eq!(rt; zone.span(0).instants, all);
-    Ok(())
-}
-
-#[test]
-fn without_a_footer(rt: HostRuntime) -> Result<(), Fail> {
-    let mut octets = NEW_YORK[..FOOTER].to_vec(rt.alloc())?;
-    octets.push(b'\n')?;
-    let zone = read(rt.alloc(), &octets)?;
-    let span = zone.span(1257055200);
-    let instants = Instants {
-        first: 1257055200,
-        last: i64::MAX,
-    };
-    assert_eq!(rt; span.answer, Answer::Unspecified);
-    assert_eq!(rt; span.instants, instants);
-    assert_eq!(rt; zone.span(1257055199).answer, new_york(true));
-    Ok(())
-}
-
-// Here the last transition comes an hour after the footer's edge.
-#[test]
-fn from_the_last_transition(rt: HostRuntime) -> Result<(), Fail> {
-    let mut octets = NEW_YORK.to_vec(rt.alloc())?;
+fn spans_of_new_york(rt: HostRuntime) -> Result<(), Fail> {
+    assert_spans(&rt, NEW_YORK, &BY_TRANSITIONS)?;
+    assert_spans(&rt, NEW_YORK, &BY_FOOTER)?;
+    let mut octets = *NEW_YORK;
     octets[LAST_TIME + 6] = 0x31;
     octets[LAST_TIME + 7] = 0xf0;
-    let zone = read(rt.alloc(), &octets)?;
-    let instants = Instants {
-        first: 1257058800,
-        last: 1268549999,
+    assert_spans(&rt, &octets, &LATER)
+}
+
+#[test]
+fn spans_without_end(rt: HostRuntime) -> Result<(), Fail> {
+    let octets = with_footer(rt.alloc(), &NEW_YORK[..FOOTER], b"")?;
+    assert_spans(&rt, &octets, &WITHOUT_FOOTER)?;
+    let zone = read_file(rt.alloc(), &octets)?;
+    assert_span(
+        &rt,
+        &zone,
+        1257055200,
+        (1257055200, i64::MAX),
+        Answer::Unspecified,
+    );
+    let zone = read_file(rt.alloc(), UTC)?;
+    let state = State {
+        offset: 0,
+        daylight: false,
+        name: b"UTC",
     };
-    assert_eq!(rt; zone.span(1257058800).instants, instants);
-    assert_eq!(rt; zone.span(1257058799).instants.last, 1257058799);
+    assert_span(&rt, &zone, 0, (i64::MIN, i64::MAX), Answer::Known(state));
     Ok(())
 }
 
 // The types come first, and then the footer's standard time and daylight saving time.
 #[test]
 fn states_by_number(rt: HostRuntime) -> Result<(), Fail> {
-    let zone = read(rt.alloc(), NEW_YORK)?;
+    let zone = read_file(rt.alloc(), NEW_YORK)?;
     let count = zone.state_count();
     assert_eq!(rt; count, 4);
     for number in 0..count {

@@ -1,7 +1,7 @@
 //! Lines, by the examples of zic(8) and of the tz database.
 
+use super::{format_text, text_of};
 use std::alloc::Global;
-use std::process::Abort;
 use std::test::Fail;
 use zic_lines::*;
 
@@ -14,15 +14,6 @@ fn read(alloc: Global, awaited: bool, line: &[u8]) -> Result<Option<Entry>, Stop
         return Ok(None);
     }
     Ok(Some(line_entry(alloc, awaited, PLACE, &fields)?))
-}
-
-/// Returns bytes as text.
-fn text_of(alloc: Global, octets: &[u8]) -> Result<String, Fail> {
-    Ok(
-        String::from_utf8(Vec::from_slice(alloc, octets)?)
-            .ok()
-            .ok_or("text")?,
-    )
 }
 
 fn rule_text(alloc: Global, rule: &Rule) -> Result<String, Fail> {
@@ -41,18 +32,6 @@ fn rules_text(alloc: Global, rules: &Rules) -> Result<String, Fail> {
         Rules::Amount(saving) => Ok(format!(in alloc; "{saving:?}")?),
         Rules::Set(name) => text_of(alloc, name.octets()),
     }
-}
-
-fn format_text(alloc: Global, format: &Format) -> Result<String, Fail> {
-    let (word, before, after) = match format {
-        Format::Plain(text) => return text_of(alloc, text.octets()),
-        Format::Letter(before, after) => ("%s", before, after),
-        Format::Offset(before, after) => ("%z", before, after),
-        Format::Pair(standard, daylight) => ("/", standard, daylight),
-    };
-    let before = text_of(alloc, before.octets())?;
-    let after = text_of(alloc, after.octets())?;
-    Ok(format!(in alloc; "[{before}]{word}[{after}]")?)
 }
 
 /// Returns a Zone or continuation line as text, without a Zone line's name.
@@ -99,20 +78,8 @@ fn line_text(alloc: Global, awaited: bool, line: &[u8]) -> Result<String, Fail> 
     }
 }
 
-fn assert_line(
-    rt: &impl Abort,
-    alloc: Global,
-    awaited: bool,
-    line: &[u8],
-    want: &str,
-) -> Result<(), Fail> {
-    let got = line_text(alloc, awaited, line)?;
-    assert_eq!(rt; got.as_str(), want, "{line:?}");
-    Ok(())
-}
-
 /// Lines where no continuation line is awaited.
-const LINES: &[(&[u8], &str)] = &[
+static LINES: [(&[u8], &str); 10] = [
     (
         b"Rule US 1967 2006 - Oct lastSun 2:00s 0 S # as zic(8) has it",
         "rule 1:7 US 1967 Some(2006) Moment { month: 10, on: Last(0), at: ClockTime { seconds: 7200, form: Standard } } Saving { seconds: 0, daylight: false } S",
@@ -134,16 +101,8 @@ const LINES: &[(&[u8], &str)] = &[
     (b"Rule A 2000 only x Nox 1 0 0 -", "Reserved"),
 ];
 
-#[test]
-fn lines(rt: HostRuntime) -> Result<(), Fail> {
-    for (line, want) in LINES {
-        assert_line(&rt, rt.alloc(), false, *line, *want)?;
-    }
-    Ok(())
-}
-
 /// Lines where a continuation line is awaited.
-const CONTINUATIONS: &[(&[u8], &str)] = &[
+static CONTINUATIONS: [(&[u8], &str); 3] = [
     (b"-5:00 US E%sT", "continuation 1:7 -18000 US [E]%s[T] None"),
     (
         b"0 - UTC 2000 Mar 1 2:00",
@@ -153,9 +112,14 @@ const CONTINUATIONS: &[(&[u8], &str)] = &[
 ];
 
 #[test]
-fn continuation_lines(rt: HostRuntime) -> Result<(), Fail> {
-    for (line, want) in CONTINUATIONS {
-        assert_line(&rt, rt.alloc(), true, *line, *want)?;
+fn lines_and_continuation_lines(rt: HostRuntime) -> Result<(), Fail> {
+    for (line, want) in &LINES {
+        let got = line_text(rt.alloc(), false, *line)?;
+        assert_eq!(rt; got.as_str(), *want, "{line:?}");
+    }
+    for (line, want) in &CONTINUATIONS {
+        let got = line_text(rt.alloc(), true, *line)?;
+        assert_eq!(rt; got.as_str(), *want, "{line:?}");
     }
     Ok(())
 }
@@ -163,7 +127,11 @@ fn continuation_lines(rt: HostRuntime) -> Result<(), Fail> {
 #[test]
 fn most_bytes(rt: HostRuntime) -> Result<(), Fail> {
     let mut line = vec![in rt.alloc(); b' '; 2048]?;
-    assert_line(&rt, rt.alloc(), false, &line, "nothing")?;
+    assert_eq!(rt; line_text(rt.alloc(), false, &line)?.as_str(), "nothing");
     line.push(b' ')?;
-    assert_line(&rt, rt.alloc(), false, &line, "LineTooLong")
+    assert_eq!(rt;
+        line_text(rt.alloc(), false, &line)?.as_str(),
+        "LineTooLong"
+    );
+    Ok(())
 }

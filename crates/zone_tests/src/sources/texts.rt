@@ -7,32 +7,16 @@ mod rules;
 mod sample;
 mod zones;
 
+use super::{format_text, text_of};
+use crate::samples::{source_of, source_or_fault};
 use std::alloc::Global;
 use std::process::Abort;
 use std::test::Fail;
 use zic_source::*;
 
-/// Reads these texts, if there is memory for it.
-fn read(alloc: Global, texts: &[&[u8]]) -> Result<Result<Source, Fault>, Fail> {
-    let mut copies = Vec::new(alloc);
-    for text in texts {
-        copies.push(Vec::from_slice(alloc, text)?)?;
-    }
-    match read_source(alloc, &copies) {
-        Ok(source) => Ok(Ok(source)),
-        Err(Stop::Fault(fault)) => Ok(Err(fault)),
-        Err(Stop::Memory) => Err(Fail::from("out of memory")),
-    }
-}
-
-/// Returns the source that these texts are.
-fn source(alloc: Global, texts: &[&[u8]]) -> Result<Source, Fail> {
-    Ok(read(alloc, texts)?.ok().ok_or("a source")?)
-}
-
 /// Returns the first fault of these texts, if they are no source.
 fn fault(alloc: Global, texts: &[&[u8]]) -> Result<Option<Fault>, Fail> {
-    Ok(read(alloc, texts)?.err())
+    Ok(source_or_fault(alloc, texts)?.err())
 }
 
 fn fault_at(text: u64, line: u64, kind: Kind) -> Option<Fault> {
@@ -59,18 +43,9 @@ fn assert_faults(rt: &impl Abort, alloc: Global, rows: &[(&[u8], u64, Kind)]) ->
     Ok(())
 }
 
-/// Returns bytes as text.
-fn text_of(alloc: Global, octets: &[u8]) -> Result<String, Fail> {
-    Ok(
-        String::from_utf8(Vec::from_slice(alloc, octets)?)
-            .ok()
-            .ok_or("text")?,
-    )
-}
-
 /// Returns the one zone's offset and its FORMAT without `%` and `/`.
 fn first_line(alloc: Global, text: &[u8]) -> Result<(i32, Vec<u8>), Fail> {
-    let source = source(alloc, &[text])?;
+    let source = source_of(alloc, &[text])?;
     if source.zones() == 0 {
         return Err(Fail::from("a zone"));
     }
@@ -128,11 +103,6 @@ const FAULTS: &[(&[u8], u64, Kind)] = &[
     (b"Zone A 0 - UTC\nZone /A 0 - UTC", 2, Kind::Name),
 ];
 
-#[test]
-fn faults(rt: HostRuntime) -> Result<(), Fail> {
-    assert_faults(&rt, rt.alloc(), FAULTS)
-}
-
 const RULE_FAULTS: &[(&[u8], u64, Kind)] = &[
     (b"Rule A 2000 max - Jan 1 0 0", 1, Kind::FieldCount),
     (b"Rule -A 2000 max - Jan 1 0 0 -", 1, Kind::Name),
@@ -168,8 +138,11 @@ const RULE_FAULTS: &[(&[u8], u64, Kind)] = &[
 ];
 
 #[test]
-fn rule_faults(rt: HostRuntime) -> Result<(), Fail> {
-    assert_faults(&rt, rt.alloc(), RULE_FAULTS)
+fn faults(rt: HostRuntime) -> Result<(), Fail> {
+    assert_faults(&rt, rt.alloc(), FAULTS)?;
+    assert_faults(&rt, rt.alloc(), RULE_FAULTS)?;
+    assert_faults(&rt, rt.alloc(), links::CHAIN_FAULTS)?;
+    assert_faults(&rt, rt.alloc(), links::LINE_FAULTS)
 }
 
 /// A set has at most 1,000 Rule lines, over all texts.
@@ -207,19 +180,6 @@ const PAIRS: &[([&[u8]; 2], u64, Kind)] = &[
     ([b"Zone A 0 Q UTC", b"Link X Y"], 1, Kind::UnknownRules),
 ];
 
-#[test]
-fn pairs_of_texts(rt: HostRuntime) -> Result<(), Fail> {
-    for (texts, text, kind) in PAIRS {
-        assert_answer(&rt, rt.alloc(), texts, fault_at(*text, 1, *kind))?;
-    }
-    Ok(())
-}
-
-/// Returns the number of zones of these texts.
-fn zone_count(alloc: Global, texts: &[&[u8]]) -> Result<usize, Fail> {
-    Ok(source(alloc, texts)?.zones())
-}
-
 const EMPTY: &[(&[&[u8]], usize)] = &[
     (&[], 0),
     (&[b""], 0),
@@ -227,15 +187,19 @@ const EMPTY: &[(&[&[u8]], usize)] = &[
 ];
 
 #[test]
-fn empty_texts(rt: HostRuntime) -> Result<(), Fail> {
+fn several_and_empty_texts(rt: HostRuntime) -> Result<(), Fail> {
+    for (texts, text, kind) in PAIRS {
+        assert_answer(&rt, rt.alloc(), texts, fault_at(*text, 1, *kind))?;
+    }
     for (texts, count) in EMPTY {
-        assert_eq!(rt; zone_count(rt.alloc(), *texts)?, *count, "{texts:?}");
+        assert_eq!(rt; source_of(rt.alloc(), *texts)?.zones(), *count, "{texts:?}");
     }
     Ok(())
 }
 
+/// A line of 2,048 bytes is read, also one that is no comment, and one byte more is too long.
 #[test]
-fn comments(rt: HostRuntime) -> Result<(), Fail> {
+fn long_lines(rt: HostRuntime) -> Result<(), Fail> {
     let alloc = rt.alloc();
     let mut line = vec![in alloc; b'#'; 2047]?;
     line.push(0x80)?;
@@ -243,13 +207,7 @@ fn comments(rt: HostRuntime) -> Result<(), Fail> {
     line.push(b'\n')?;
     assert_answer(&rt, alloc, &[&line], None)?;
     let line = vec![in alloc; b'#'; 2049]?;
-    assert_answer(&rt, alloc, &[&line], fault_at(1, 1, Kind::LineTooLong))
-}
-
-/// A line of 2,048 bytes that is no comment is read, and one byte more is too long.
-#[test]
-fn long_lines(rt: HostRuntime) -> Result<(), Fail> {
-    let alloc = rt.alloc();
+    assert_answer(&rt, alloc, &[&line], fault_at(1, 1, Kind::LineTooLong))?;
     let mut line = Vec::from_slice(alloc, b"Zone A 0 - UTC")?;
     line.resize(2048, b' ')?;
     assert_answer(&rt, alloc, &[&line], None)?;
@@ -276,14 +234,15 @@ fn twenty_texts(rt: HostRuntime) -> Result<(), Fail> {
         }
         texts.push(text)?;
     }
-    match read_source(alloc, &texts) {
-        Ok(source) => {
-            assert_eq!(rt; source.rules(), 20);
-            assert_eq!(rt; source.zones(), 20);
-            assert_eq!(rt; source.links(), 20);
-        }
-        Err(_) => return Err(Fail::from("a source")),
+    let mut slices = Vec::new(alloc);
+    for text in &texts {
+        slices.push(text.as_slice())?;
     }
+    let source = source_of(alloc, &slices)?;
+    assert_eq!(rt;
+        (source.rules(), source.zones(), source.links()),
+        (20, 20, 20)
+    );
     Ok(())
 }
 

@@ -23,7 +23,7 @@ const OCCURRENCES: [TimedOccurrence; 3] = [
 ];
 
 #[test]
-fn rules_at_instants(rt: HostRuntime) -> Result<(), Fail> {
+fn rules_at_instants_and_before_limits(rt: HostRuntime) -> Result<(), Fail> {
     let rows = [
         (i64::MIN, None),
         (1_173_596_399, None),
@@ -40,18 +40,13 @@ fn rules_at_instants(rt: HostRuntime) -> Result<(), Fail> {
     for (t, rule) in rows {
         assert_eq!(rt; rule_at(&OCCURRENCES, t), rule, "at {t}");
     }
-    Ok(())
-}
-
-#[test]
-fn before_limits(rt: HostRuntime) -> Result<(), Fail> {
-    let rows = [
+    let limits = [
         (1_173_596_400, 0),
         (1_173_596_401, 1),
         (1_205_046_000, 2),
         (1_205_046_001, 3),
     ];
-    for (limit, count) in rows {
+    for (limit, count) in limits {
         assert_eq!(rt; before(&OCCURRENCES, limit).len(), count, "before {limit}");
     }
     Ok(())

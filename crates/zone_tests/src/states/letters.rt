@@ -1,20 +1,8 @@
 //! Observances, and the letter before all occurrences.
 
-use std::alloc::Global;
+use crate::samples::source_of;
 use std::test::Fail;
-use zic_source::{Source, Stop, read_source};
 use zic_states::observance_by;
-
-/// Returns the source that a text makes.
-fn read(alloc: Global, text: &[u8]) -> Result<Source, Fail> {
-    let mut texts = Vec::new(alloc);
-    texts.push(Vec::from_slice(alloc, text)?)?;
-    match read_source(alloc, &texts) {
-        Ok(source) => Ok(source),
-        Err(Stop::Fault(_)) => Err(Fail::from("no source")),
-        Err(Stop::Memory) => Err(Fail::from("out of memory")),
-    }
-}
 
 #[test]
 fn before_all_occurrences(rt: HostRuntime) -> Result<(), Fail> {
@@ -46,7 +34,7 @@ Zone Z 0 A A%sA",
         (b"Zone Z 1:00 0 CET", None),
     ];
     for (text, letter) in rows {
-        let source = read(rt.alloc(), text)?;
+        let source = source_of(rt.alloc(), &[text])?;
         if source.zones() == 0 {
             return Err(Fail::from("a zone"));
         }

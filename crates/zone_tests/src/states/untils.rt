@@ -4,12 +4,12 @@ ghost use Rattle.std.specs.Prelude.{IfOk};
 ghost use Rattle.zic_source.specs.Sound.{IsSoundLine};
 ghost use Rattle.zic_states.specs.Occurrences.{AreOccurrencesFor};
 
+use crate::samples::source_of;
 use std::alloc::Global;
 use std::test::Fail;
-use zic_base::Stop;
 use zic_lines::{Rules, ZoneLine};
 use zic_occurrences::{TimedOccurrence, occurrences};
-use zic_source::{Source, read_source};
+use zic_source::Source;
 use zic_states::*;
 
 /// The first rules of America/New_York that are still in force.
@@ -44,13 +44,7 @@ fn read(alloc: Global, line: &[u8]) -> Result<Source, Fail> {
     let mut text = Vec::from_slice(alloc, RULES)?;
     text.extend_from_slice(line)?;
     text.extend_from_slice(b"\n-5:00 US E%sT\n")?;
-    let mut texts = Vec::new(alloc);
-    texts.push(text)?;
-    match read_source(alloc, &texts) {
-        Ok(source) => Ok(source),
-        Err(Stop::Fault(_)) => Err(Fail::from("a fault")),
-        Err(Stop::Memory) => Err(Fail::from("out of memory")),
-    }
+    source_of(alloc, &[&text])
 }
 
 #[test]

@@ -48,7 +48,7 @@ fn months(alloc: Global, last: u16) -> Result<Vec<u8>, Fail> {
 /// Returns the numbers of transitions, types and bytes of designations in the table of a source's
 /// only zone, or the reason why it has none.
 fn counts(alloc: Global, text: &[u8]) -> Result<Result<(usize, usize, usize), Stop>, Fail> {
-    match made(alloc, &[text])? {
+    match made(alloc, b"", text)? {
         Ok(table) => Ok(Ok((
             table.changes().len(),
             table.types().len(),
@@ -59,28 +59,16 @@ fn counts(alloc: Global, text: &[u8]) -> Result<Result<(usize, usize, usize), St
 }
 
 #[test]
-fn types(rt: HostRuntime) -> Result<(), Fail> {
+fn types_names_and_transitions(rt: HostRuntime) -> Result<(), Fail> {
     let alloc = rt.alloc();
     let most = counts(alloc, &offsets(alloc, 255)?)?;
     assert_eq!(rt; most, Ok((255, 256, 4)), "256 types");
     let more = counts(alloc, &offsets(alloc, 256)?)?;
     assert_eq!(rt; more, Err(Stop::at(PLACE, Kind::TooManyTypes)), "257 types");
-    Ok(())
-}
-
-#[test]
-fn octets(rt: HostRuntime) -> Result<(), Fail> {
-    let alloc = rt.alloc();
     let most = counts(alloc, &names(alloc, 63)?)?;
     assert_eq!(rt; most, Ok((63, 64, 256)), "64 names");
     let more = counts(alloc, &names(alloc, 64)?)?;
     assert_eq!(rt; more, Err(Stop::at(PLACE, Kind::TooManyChars)), "65 names");
-    Ok(())
-}
-
-#[test]
-fn transitions(rt: HostRuntime) -> Result<(), Fail> {
-    let alloc = rt.alloc();
     let most = counts(alloc, &months(alloc, 8333)?)?;
     assert_eq!(rt; most, Ok((99_996, 2, 4)), "99,996 changes");
     let more = counts(alloc, &months(alloc, 9000)?)?;

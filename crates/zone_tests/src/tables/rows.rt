@@ -97,7 +97,7 @@ fn told_types(alloc: Global, types: &[LocalType]) -> Result<Vec<(i32, bool, u8)>
 fn tables(rt: HostRuntime) -> Result<(), Fail> {
     let alloc = rt.alloc();
     for (i, row) in ROWS.iter().enumerate() {
-        let Ok(table) = made(alloc, &[row.rules, row.zone])? else {
+        let Ok(table) = made(alloc, row.rules, row.zone)? else {
             return Err(Fail::from("no table"));
         };
         let changes = told_changes(alloc, table.changes())?;

@@ -272,9 +272,8 @@ const ROWS: [Row; 19] = [
 #[test]
 fn zones(rt: HostRuntime) -> Result<(), Fail> {
     for row in &ROWS {
-        let source = read(rt.alloc(), &[row.rules, row.zone])?;
-        assert_eq!(rt; source.zones(), 1);
-        let Ok(found) = timeline(rt.alloc(), &source, 0) else {
+        let source = zone_source(rt.alloc(), row.rules, row.zone)?;
+        let Ok(found) = timeline_of(rt.alloc(), &source).ok_or("one zone")? else {
             return Err(Fail::from("timeline"));
         };
         assert_eq!(rt; found.end(), row.end, "{:?}", row.zone);

@@ -98,13 +98,12 @@ const ROWS: [Row; 12] = [
 #[test]
 fn faults(rt: HostRuntime) -> Result<(), Fail> {
     for row in &ROWS {
-        let source = read(rt.alloc(), &[row.rules, row.zone])?;
-        assert_eq!(rt; source.zones(), 1);
+        let source = zone_source(rt.alloc(), row.rules, row.zone)?;
         let place = Place {
             text: 1,
             line: row.line,
         };
-        let stop = timeline(rt.alloc(), &source, 0).err();
+        let stop = timeline_of(rt.alloc(), &source).ok_or("one zone")?.err();
         assert_eq!(rt; stop, Some(Stop::at(place, row.kind)), "{:?}", row.zone);
     }
     Ok(())

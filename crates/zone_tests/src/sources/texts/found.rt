@@ -27,27 +27,6 @@ fn sets_text(alloc: Global, source: &Source, named: &Source) -> Result<String, F
     Ok(text)
 }
 
-#[test]
-fn sets_have_their_rules(rt: HostRuntime) -> Result<(), Fail> {
-    let alloc = rt.alloc();
-    let found = source(alloc, &[TEXT])?;
-    let sets = sets_text(alloc, &found, &found)?;
-    assert_eq!(rt;
-        sets.as_str(),
-        "[0, 2, 4] [1, 3] [0, 2, 4] [1, 3] [0, 2, 4] "
-    );
-    Ok(())
-}
-
-#[test]
-fn unknown_sets_have_no_rules(rt: HostRuntime) -> Result<(), Fail> {
-    let alloc = rt.alloc();
-    let other = source(alloc, &[b"Rule C 2000 only - Jan 1 0 0 -"])?;
-    let sets = sets_text(alloc, &source(alloc, &[TEXT])?, &other)?;
-    assert_eq!(rt; sets.as_str(), "[] ");
-    Ok(())
-}
-
 /// Returns the number of the zone at the end of each link.
 fn link_zones_text(alloc: Global, source: &Source) -> Result<String, Fail> {
     let mut text = String::new(alloc);
@@ -59,9 +38,19 @@ fn link_zones_text(alloc: Global, source: &Source) -> Result<String, Fail> {
 }
 
 #[test]
-fn links_have_their_zones(rt: HostRuntime) -> Result<(), Fail> {
+fn sets_have_their_rules_and_links_their_zones(rt: HostRuntime) -> Result<(), Fail> {
     let alloc = rt.alloc();
-    let zones = link_zones_text(alloc, &source(alloc, &[TEXT])?)?;
+    let found = source_of(alloc, &[TEXT])?;
+    let sets = sets_text(alloc, &found, &found)?;
+    assert_eq!(rt;
+        sets.as_str(),
+        "[0, 2, 4] [1, 3] [0, 2, 4] [1, 3] [0, 2, 4] "
+    );
+    // A set that the source doesn't have.
+    let other = source_of(alloc, &[b"Rule C 2000 only - Jan 1 0 0 -"])?;
+    let sets = sets_text(alloc, &found, &other)?;
+    assert_eq!(rt; sets.as_str(), "[] ");
+    let zones = link_zones_text(alloc, &found)?;
     assert_eq!(rt; zones.as_str(), "1 1 0 0 ");
     Ok(())
 }

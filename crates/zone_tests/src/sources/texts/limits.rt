@@ -29,12 +29,17 @@ fn too_many(text: u64, line: u64) -> Option<Fault> {
 }
 
 #[test]
-fn rules_are_counted(rt: HostRuntime) -> Result<(), Fail> {
+fn rules_and_lines_of_zones_are_counted(rt: HostRuntime) -> Result<(), Fail> {
     let alloc = rt.alloc();
     let rules = numbered(alloc, 5000, "Rule A", " 2000 max - Jan 1 0 0 -")?;
     assert_long(&rt, alloc, &[&rules, &rules], None)?;
     let more: &[u8] = b"Zone A 0 - UTC\nRule B 2000 max - Jan 1 0 0 -";
-    assert_long(&rt, alloc, &[&rules, &rules, more], too_many(3, 2))
+    assert_long(&rt, alloc, &[&rules, &rules, more], too_many(3, 2))?;
+    let mut zone = Vec::from_slice(alloc, b"Zone A 0 - A 1\n")?;
+    zone.extend_from_slice(&numbered(alloc, 9998, "0 - A", " 1")?)?;
+    zone.extend_from_slice(b"0 - A\n")?;
+    assert_long(&rt, alloc, &[&zone], None)?;
+    assert_long(&rt, alloc, &[&zone, b"Zone B 0 - UTC"], too_many(2, 1))
 }
 
 #[test]
@@ -58,16 +63,6 @@ fn names_are_counted(rt: HostRuntime) -> Result<(), Fail> {
         &[&zones, &links, b"Zone C 0 - UTC"],
         too_many(3, 1),
     )
-}
-
-#[test]
-fn zone_lines_are_counted(rt: HostRuntime) -> Result<(), Fail> {
-    let alloc = rt.alloc();
-    let mut zone = Vec::from_slice(alloc, b"Zone A 0 - A 1\n")?;
-    zone.extend_from_slice(&numbered(alloc, 9998, "0 - A", " 1")?)?;
-    zone.extend_from_slice(b"0 - A\n")?;
-    assert_long(&rt, alloc, &[&zone], None)?;
-    assert_long(&rt, alloc, &[&zone, b"Zone B 0 - UTC"], too_many(2, 1))
 }
 
 /// Returns links of one chain, each before the link to which it leads.

@@ -7,15 +7,7 @@ const CHAINS: &[&[u8]] = &[
     b"Zone A 0 - UTC\nL A B\nlink B C",
 ];
 
-#[test]
-fn chains_end_at_zones(rt: HostRuntime) -> Result<(), Fail> {
-    for text in CHAINS {
-        assert_answer(&rt, rt.alloc(), &[*text], None)?;
-    }
-    Ok(())
-}
-
-const CHAIN_FAULTS: &[(&[u8], u64, Kind)] = &[
+pub const CHAIN_FAULTS: &[(&[u8], u64, Kind)] = &[
     (b"Link A B\nLink B A", 1, Kind::LinkCycle),
     (b"Link X Y", 1, Kind::UnknownTarget),
     (b"Link A A", 1, Kind::LinkCycle),
@@ -35,14 +27,9 @@ const CHAIN_FAULTS: &[(&[u8], u64, Kind)] = &[
     (b"Link A B\nLink X A\nLink /A C", 3, Kind::Name),
 ];
 
-#[test]
-fn chains_have_faults(rt: HostRuntime) -> Result<(), Fail> {
-    assert_faults(&rt, rt.alloc(), CHAIN_FAULTS)
-}
-
 /// Returns the names of the one link of these texts.
 fn link_text(alloc: Global, texts: &[&[u8]]) -> Result<String, Fail> {
-    let source = source(alloc, texts)?;
+    let source = source_of(alloc, texts)?;
     if source.links() != 1 {
         return Err(Fail::from("one link"));
     }
@@ -54,21 +41,19 @@ fn link_text(alloc: Global, texts: &[&[u8]]) -> Result<String, Fail> {
 }
 
 #[test]
-fn links_say_their_fields(rt: HostRuntime) -> Result<(), Fail> {
+fn chains_end_at_zones_and_links_say_their_fields(rt: HostRuntime) -> Result<(), Fail> {
+    for text in CHAINS {
+        assert_answer(&rt, rt.alloc(), &[*text], None)?;
+    }
     let got = link_text(rt.alloc(), &[b"Link A B/C\n", b"Zone A 0 - UTC\n"])?;
     assert_eq!(rt; got.as_str(), "Place { text: 1, line: 1 } A B/C");
     Ok(())
 }
 
-const LINE_FAULTS: &[(&[u8], u64, Kind)] = &[
+pub const LINE_FAULTS: &[(&[u8], u64, Kind)] = &[
     (b"Link A", 1, Kind::FieldCount),
     (b"Link A B C", 1, Kind::FieldCount),
     (b"Link /A B", 1, Kind::Name),
     (b"Link A -", 1, Kind::Name),
     (b"Link A .", 1, Kind::Name),
 ];
-
-#[test]
-fn link_lines_have_faults(rt: HostRuntime) -> Result<(), Fail> {
-    assert_faults(&rt, rt.alloc(), LINE_FAULTS)
-}

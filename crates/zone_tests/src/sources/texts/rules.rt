@@ -5,7 +5,7 @@ use zic_calendar::On;
 
 /// Returns the moment of the one rule of this text.
 fn moment(alloc: Global, text: &[u8]) -> Result<Moment, Fail> {
-    let source = source(alloc, &[text])?;
+    let source = source_of(alloc, &[text])?;
     if source.rules() != 1 {
         return Err(Fail::from("one rule"));
     }
@@ -130,33 +130,9 @@ fn rules_have_moments(rt: HostRuntime) -> Result<(), Fail> {
     Ok(())
 }
 
-/// AT in seconds.
-const TIMES: &[(&[u8], i32)] = &[
-    (b"0:00:32.13", 32),
-    (b"0:00:32.5", 32),
-    (b"0:00:33.5", 34),
-    (b"-", 0),
-    (b"24:00", 86400),
-    (b"-2:30", -9000),
-    (b"260:00", 936_000),
-    (b"300:00:00.5", 1_080_000),
-];
-
-#[test]
-fn times(rt: HostRuntime) -> Result<(), Fail> {
-    let alloc = rt.alloc();
-    for (at, seconds) in TIMES {
-        let mut text = Vec::from_slice(alloc, b"Rule A 2004 only - Feb 29 ")?;
-        text.extend_from_slice(at)?;
-        text.extend_from_slice(b" 1 D")?;
-        assert_eq!(rt; moment(alloc, &text)?.at.seconds, *seconds, "{at:?}");
-    }
-    Ok(())
-}
-
 /// The set, the years, SAVE, its flag and the letter of the one rule of this text.
 fn saving_text(alloc: Global, text: &[u8]) -> Result<String, Fail> {
-    let source = source(alloc, &[text])?;
+    let source = source_of(alloc, &[text])?;
     if source.rules() != 1 {
         return Err(Fail::from("one rule"));
     }

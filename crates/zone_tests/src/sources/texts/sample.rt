@@ -65,31 +65,21 @@ z b31 1 - Z
 ";
 
 /// Returns the line of the first fault, or 0 for a source.
-fn answer(alloc: Global, text: Vec<u8>) -> Result<u64, Fail> {
-    match read_source(alloc, &[text]) {
-        Ok(_) => Ok(0),
-        Err(Stop::Fault(fault)) => Ok(fault.place.line),
-        Err(Stop::Memory) => Err(Fail::from("out of memory")),
+fn answer(alloc: Global, text: &[u8]) -> Result<u64, Fail> {
+    match fault(alloc, &[text])? {
+        Some(fault) => Ok(fault.place.line),
+        None => Ok(0),
     }
-}
-
-#[test]
-fn the_sample_is_a_source(rt: HostRuntime) -> Result<(), Fail> {
-    let alloc = rt.alloc();
-    assert_eq!(rt; SAMPLE.lines().count(), 60);
-    assert_eq!(rt;
-        answer(alloc, Vec::from_slice(alloc, SAMPLE.as_bytes())?)?,
-        0
-    );
-    Ok(())
 }
 
 #[test]
 fn each_front_of_the_sample_returns(rt: HostRuntime) -> Result<(), Fail> {
     let alloc = rt.alloc();
     let text = SAMPLE.as_bytes();
+    assert_eq!(rt; SAMPLE.lines().count(), 60);
+    assert_eq!(rt; answer(alloc, text)?, 0);
     for end in 0..=text.len() {
-        let line = answer(alloc, Vec::from_slice(alloc, &text[..end])?)?;
+        let line = answer(alloc, &text[..end])?;
         assert!(rt; line <= 60, "at {end}");
     }
     Ok(())
@@ -103,7 +93,7 @@ fn answers_at(alloc: Global, text: &[u8], place: usize) -> Result<u64, Fail> {
         if let Some(there) = changed.get_mut(place) {
             *there = byte;
         }
-        let line = answer(alloc, changed)?;
+        let line = answer(alloc, &changed)?;
         if line > greatest {
             greatest = line;
         }

@@ -16,18 +16,6 @@ fn rules_text(alloc: Global, rules: &Rules) -> Result<String, Fail> {
     }
 }
 
-fn format_text(alloc: Global, format: &Format) -> Result<String, Fail> {
-    let (word, before, after) = match format {
-        Format::Plain(text) => return text_of(alloc, text.octets()),
-        Format::Letter(before, after) => ("%s", before, after),
-        Format::Offset(before, after) => ("%z", before, after),
-        Format::Pair(standard, daylight) => ("/", standard, daylight),
-    };
-    let before = text_of(alloc, before.octets())?;
-    let after = text_of(alloc, after.octets())?;
-    Ok(format!(in alloc; "[{before}]{word}[{after}]")?)
-}
-
 fn until_text(alloc: Global, until: &Option<Until>) -> Result<String, Fail> {
     match until {
         None => Ok(String::from_str(alloc, "never")?),
@@ -48,10 +36,26 @@ fn line_text(alloc: Global, line: &ZoneLine) -> Result<String, Fail> {
     Ok(format!(in alloc; "{number}: {offset}, {rules}, {format}, {until}")?)
 }
 
-/// Returns the first line of this text's one zone as text, or the text's first fault.
+/// Returns the lines of a source's first zone as text.
+fn zone_text(alloc: Global, source: &Source) -> Result<String, Fail> {
+    let mut text = String::new(alloc);
+    if source.zones() == 0 {
+        return Ok(text);
+    }
+    for line in 0..source.lines(0) {
+        if line > 0 {
+            text.push_str("; ")?;
+        }
+        let line = line_text(alloc, source.line(0, line))?;
+        text.push_str(line.as_str())?;
+    }
+    Ok(text)
+}
+
+/// Returns the lines of this text's one zone as text, or the text's first fault.
 fn answer_text(alloc: Global, text: &[u8]) -> Result<String, Fail> {
-    match read(alloc, &[text])? {
-        Ok(source) if source.zones() == 1 => line_text(alloc, source.line(0, 0)),
+    match source_or_fault(alloc, &[text])? {
+        Ok(source) if source.zones() == 1 => zone_text(alloc, &source),
         Ok(_) => Err(Fail::from("one zone")),
         Err(fault) => {
             let (line, kind) = (fault.place.line, fault.kind);
@@ -74,31 +78,7 @@ const ZONES: &[(&str, &str)] = &[
     ("Zone A 0 0d /", "2: 0, 0 true, []/[], never"),
 ];
 
-#[test]
-fn lines_say_their_fields(rt: HostRuntime) -> Result<(), Fail> {
-    let alloc = rt.alloc();
-    for (zone, want) in ZONES {
-        let text = format!(in alloc; "Rule US 2007 max - Mar Sun>=8 2:00 1:00 D\n{zone}")?;
-        let got = answer_text(alloc, text.as_bytes())?;
-        assert_eq!(rt; got.as_str(), *want, "at {zone:?}");
-    }
-    Ok(())
-}
-
-/// The UNTIL of the first line of this text's one zone, whose second line is the text's fourth and
-/// has none.
-fn first_until(alloc: Global, text: &[u8]) -> Result<String, Fail> {
-    let source = source(alloc, &[text])?;
-    if source.zones() != 1 || source.lines(0) != 2 {
-        return Err(Fail::from("two lines"));
-    }
-    let second = source.line(0, 1);
-    if second.place != (Place { text: 1, line: 4 }) || second.until.is_some() {
-        return Err(Fail::from("line 4, with no UNTIL"));
-    }
-    until_text(alloc, &source.line(0, 0).until)
-}
-
+/// UNTIL of the first line of a zone of two lines.
 const UNTILS: &[(&str, &str)] = &[
     ("2000", "2000 1 Day(1) 0 Wall"),
     ("2000 Apr", "2000 4 Day(1) 0 Wall"),
@@ -118,12 +98,18 @@ const UNTILS: &[(&str, &str)] = &[
 ];
 
 #[test]
-fn untils_have_their_parts(rt: HostRuntime) -> Result<(), Fail> {
+fn lines_say_their_fields(rt: HostRuntime) -> Result<(), Fail> {
     let alloc = rt.alloc();
+    for (zone, want) in ZONES {
+        let text = format!(in alloc; "Rule US 2007 max - Mar Sun>=8 2:00 1:00 D\n{zone}")?;
+        let got = answer_text(alloc, text.as_bytes())?;
+        assert_eq!(rt; got.as_str(), *want, "at {zone:?}");
+    }
     for (until, want) in UNTILS {
         let text = format!(in alloc; "Zone A 0 - AAA {until}\n\n# next\n0 - BBB\n")?;
-        let got = first_until(alloc, text.as_bytes())?;
-        assert_eq!(rt; got.as_str(), *want, "at {until:?}");
+        let got = answer_text(alloc, text.as_bytes())?;
+        let want = format!(in alloc; "1: 0, standard, AAA, {want}; 4: 0, standard, BBB, never")?;
+        assert_eq!(rt; got.as_str(), want.as_str(), "at {until:?}");
     }
     Ok(())
 }
@@ -161,7 +147,7 @@ C 1 21600
 #[test]
 fn zones_keep_their_lines(rt: HostRuntime) -> Result<(), Fail> {
     let alloc = rt.alloc();
-    let got = offsets_text(alloc, &source(alloc, &TEXTS)?)?;
+    let got = offsets_text(alloc, &source_of(alloc, &TEXTS)?)?;
     assert_eq!(rt; got.as_str(), OFFSETS);
     Ok(())
 }
