@@ -3,6 +3,7 @@ pub mod Bytes
 pub mod Joining
 pub mod Faults
 pub mod Sounds
+pub mod Ready
 pub mod Caches
 pub mod SoFar
 pub mod Writings

@@ -3,6 +3,7 @@ pub mod Progress
 pub mod Row
 pub mod Query
 pub mod ZoneCache
+pub mod ReadyZone
 pub mod Pieces
 pub mod Written
 pub mod Halt

@@ -15,6 +15,7 @@ use crate::halt::Halt;
 use crate::output::flush;
 use crate::pieces::RowPieces;
 use crate::round::convert_round;
+use crate::row_files::RowFiles;
 use std::alloc::Global;
 use std::io::{Read, Write};
 use std::sync::Wait;
@@ -60,7 +61,7 @@ fn round_len(plan: &Plan) -> usize {
 ///
 /// # Errors
 ///
-/// `Unread` where the column can't be read on, or what ends a round.
+/// `Unread` where the column can't be read on, `Memory`, or what ends a round.
 fn convert_rounds<T: Threads + Wait + Sync, R: Read + Drop, W: Write, G: Gate + Sync>(
     setting: &Setting<'_, T, G>,
     mut column: Column<R>,
@@ -81,9 +82,10 @@ fn convert_rounds<T: Threads + Wait + Sync, R: Read + Drop, W: Write, G: Gate + 
     files_answer_once();
     let wanted = round_len(setting.plan);
     let size = setting.plan.row_piece() as usize;
+    let files = RowFiles::new(setting.alloc, setting.files)?;
     let mut count = 0;
     while column.turn(setting.alloc, wanted, size)? {
-        let pieces = RowPieces::new(setting.files, column.round(), count + 1, setting.plan);
+        let pieces = RowPieces::new(&files, column.round(), count + 1, setting.plan);
         count += convert_round(
             setting.rt,
             setting.alloc,

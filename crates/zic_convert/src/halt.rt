@@ -1,5 +1,6 @@
 //! Why a conversion ends early.
 
+use std::alloc::AllocError;
 use zic_plan::RunStop;
 
 /// The reason why a conversion ends early.
@@ -30,5 +31,17 @@ impl From<RunStop> for Halt {
 
     fn from(stop: RunStop) -> Halt {
         Halt::Stop(stop)
+    }
+}
+
+impl From<AllocError> for Halt {
+    ghost use Rattle.std.specs.Prelude.{◌≡◌};
+    ghost use Rattle.zic_convert.specs.declared.halt.Halt.TheVariants as halt;
+    ghost use Rattle.zic_plan.specs.declared.stop.RunStop.TheVariants as stop;
+
+    ghost from_gives = { λ _ e. e ≡ halt.Stop stop.Memory };
+
+    fn from(_e: AllocError) -> Halt {
+        Halt::Stop(RunStop::Memory)
     }
 }

@@ -8,8 +8,10 @@ pub mod laws;
 mod output;
 mod pieces;
 mod query;
+mod ready_zone;
 mod round;
 mod row;
+mod row_files;
 mod zone_cache;
 
 pub use conversion::{convert, convert_after_header};

@@ -7,10 +7,10 @@ ghost use Rattle.zic_plan.specs.declared.plan.TheConstants.{MAX_ROWS};
 ghost use Rattle.zic_convert.specs.code.Pieces.{ArePieces};
 
 use crate::row::{Rows, rows_of};
+use crate::row_files::RowFiles;
 use std::alloc::Global;
 use std::marker::Model;
 use zic_columns::Round;
-use zic_files::Files;
 use zic_pieces::{PieceStop, Task};
 use zic_plan::Plan;
 
@@ -23,8 +23,8 @@ const GREATEST_ROOM: usize = 4_194_304;
 /// The records of a round, in pieces that are each a range of its bytes, with the number of the
 /// first row. Clauses see the bytes of each piece.
 #[derive(Drop)]
-pub(crate) struct RowPieces<'a> {
-    files: &'a Files,
+pub(crate) struct RowPieces<'a, 's> {
+    files: &'a RowFiles<'s>,
     round: Round<'a>,
     first: u64,
     /// The greatest number that a row may have.
@@ -36,7 +36,7 @@ pub(crate) struct RowPieces<'a> {
     stops: bool,
 }
 
-impl<'a> Model for RowPieces<'a> {
+impl<'a, 's> Model for RowPieces<'a, 's> {
     ghost use Rattle.zic_convert.specs.code.Pieces.{Pieces, ArePieces};
 
     ghost Value = { Pieces };
@@ -60,10 +60,15 @@ impl<'a> Model for RowPieces<'a> {
     }) };
 }
 
-impl<'a> RowPieces<'a> {
+impl<'a, 's> RowPieces<'a, 's> {
     /// Returns the pieces of a round, cut as the plan says, as a task that stops at a fault. The
     /// first record is the row of this number.
-    pub(crate) fn new(files: &'a Files, round: Round<'a>, first: u64, plan: &Plan) -> RowPieces<'a>
+    pub(crate) fn new(
+        files: &'a RowFiles<'s>,
+        round: Round<'a>,
+        first: u64,
+        plan: &Plan,
+    ) -> RowPieces<'a, 's>
         requires first { first ≤ MAX_ROWS + 1 }
         requires few { length round ≤ MAX_ROUND_PIECES }
         requires cut { ArePiecesOf plan.now.row_piece round }
@@ -96,7 +101,7 @@ impl<'a> RowPieces<'a> {
     }
 
     /// Returns the pieces up to one that has a fault, as a task that doesn't stop there.
-    pub(crate) fn up_to(&self, i: u64) -> RowPieces<'_>
+    pub(crate) fn up_to(&self, i: u64) -> RowPieces<'_, 's>
         requires { i < length self.now.pieces }
         ensures { result ≡ record self.now {
           pieces = take (i + 1) self.now.pieces;
@@ -114,7 +119,7 @@ impl<'a> RowPieces<'a> {
     }
 }
 
-impl<'a> Task for RowPieces<'a> {
+impl<'a, 's> Task for RowPieces<'a, 's> {
     type Out = Rows;
 
     type Fault = ();

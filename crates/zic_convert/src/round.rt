@@ -24,7 +24,7 @@ use zic_plan::{Plan, RunStop};
 /// `Row` for the first fault, once the rows before it are written, or `WriteFailed`.
 fn write_round<W: Write>(
     writer: &mut Counted<W>,
-    pieces: &RowPieces<'_>,
+    pieces: &RowPieces<'_, '_>,
     rows: &[Rows],
 ) -> Result<u64, RunStop>
     requires { AreValues (IsOutcomeOf pieces.now) (length pieces.now.pieces) rows.now }
@@ -43,7 +43,7 @@ fn write_round<W: Write>(
 fn convert_again<T: Threads + Wait + Sync, W: Write, G: Gate + Sync>(
     rt: &T,
     alloc: Global,
-    pieces: &RowPieces<'_>,
+    pieces: &RowPieces<'_, '_>,
     writer: &mut Counted<W>,
     plan: &Plan,
     gate: &G,
@@ -72,7 +72,7 @@ fn convert_again<T: Threads + Wait + Sync, W: Write, G: Gate + Sync>(
 pub(crate) fn convert_round<T: Threads + Wait + Sync, W: Write, G: Gate + Sync>(
     rt: &T,
     alloc: Global,
-    pieces: &RowPieces<'_>,
+    pieces: &RowPieces<'_, '_>,
     writer: &mut Counted<W>,
     plan: &Plan,
     gate: &G,

@@ -3,11 +3,11 @@
 ghost use Rattle.std.specs.Prelude.{◌+◌, ◌^◌, ◌<◌, IfOk, length};
 ghost use Rattle.zic_convert.specs.code.Row.{AreRowsOf};
 
+use crate::row_files::RowFiles;
 use crate::zone_cache::ZoneCache;
 use std::alloc::{AllocError, Global};
 use std::marker::Model;
 use zic_columns::Records;
-use zic_files::Files;
 use zic_plan::RowKind;
 
 /// The rows of records up to the first that has a fault: their text, their number, and that fault.
@@ -29,9 +29,9 @@ impl Model for Rows {
 /// Returns the rows of records, by the files of a source. The first record is the row of this
 /// number, `most` is the greatest number that a row may have, and `room` the number of bytes for
 /// whose text memory is taken at once.
-pub(crate) fn rows_of<'a>(
+pub(crate) fn rows_of<'a, 's>(
     alloc: Global,
-    files: &'a Files,
+    files: &'a RowFiles<'s>,
     most: u64,
     first: u64,
     room: usize,

@@ -1,21 +1,22 @@
 //! Local time of one row after another.
 
-ghost use Rattle.std.specs.Prelude.{◌≡◌, ◌++◌, false, Some, OnOk, MatchOption, MatchResult};
+ghost use Rattle.std.specs.Prelude.{◌≡◌, ◌++◌, Some, OnOk, MatchResult};
 ghost use Rattle.zic_rows.specs.Row.{row_text};
 ghost use Rattle.zic_tzif.specs.Answer.{Answers};
-ghost use Rattle.zic_convert.specs.Rows.{fault_of, is_named};
-ghost use Rattle.zic_convert.specs.code.ZoneCache.{IsShown, IsZoneOf};
+ghost use Rattle.zic_convert.specs.Rows.{fault_of};
+ghost use Rattle.zic_convert.specs.code.ZoneCache.{IsShown};
 ghost use Rattle.zic_convert.specs.code.Query.{fields_in};
 
 use crate::query::{Query, row_instant};
+use crate::ready_zone::ReadyZone;
+use crate::row_files::RowFiles;
 use std::alloc::AllocError;
 use std::marker::Model;
 use zic_base::State;
 use zic_columns::Record;
-use zic_files::Files;
 use zic_plan::RowKind;
 use zic_rows::{RowWriter, is_plain};
-use zic_tzif::{Answer, Instants, Zone};
+use zic_tzif::{Answer, Instants};
 
 /// No instant.
 const NO_INSTANTS: Instants = Instants { first: 0, last: -1 };
@@ -23,17 +24,17 @@ const NO_INSTANTS: Instants = Instants { first: 0, last: -1 };
 /// The zone of the last row, by the files of a source: its name, the instants round the row's at
 /// which it says the same, and the text of what it says. Clauses see them.
 #[derive(Drop)]
-pub(crate) struct ZoneCache<'a> {
-    files: &'a Files,
+pub(crate) struct ZoneCache<'a, 's> {
+    files: &'a RowFiles<'s>,
     name: &'a [u8],
     /// Of the file of the name, where there is one.
-    zone: Option<&'a Zone>,
+    zone: Option<&'a ReadyZone<'s>>,
     /// At which the zone's answer is the writer's state.
     instants: Instants,
-    writer: RowWriter<'a>,
+    writer: RowWriter<'s>,
 }
 
-impl<'a> Model for ZoneCache<'a> {
+impl<'a, 's> Model for ZoneCache<'a, 's> {
     ghost use Rattle.std.specs.Option.{option_copied};
     ghost use Rattle.zic_convert.specs.code.ZoneCache.{Told, IsTold};
 
@@ -56,18 +57,9 @@ impl<'a> Model for ZoneCache<'a> {
     }) };
 }
 
-/// Returns the zone of the file of this name, or `None` where no file has it.
-fn zone_of<'a>(files: &'a Files, name: &[u8]) -> Option<&'a Zone>
-    ensures { MatchOption result (is_named files.now name.now ≡ false)
-        (λ zone. IsZoneOf files.now name.now zone.now) }
-{
-    let file = files.find(name)?;
-    Some(files.zone(file))
-}
-
-impl<'a> ZoneCache<'a> {
+impl<'a, 's> ZoneCache<'a, 's> {
     /// Returns a cache by these files.
-    pub(crate) fn new(files: &'a Files) -> ZoneCache<'a>
+    pub(crate) fn new(files: &'a RowFiles<'s>) -> ZoneCache<'a, 's>
         ensures { result.files ≡ files.now }
     {
         let state = State {
@@ -78,7 +70,7 @@ impl<'a> ZoneCache<'a> {
         ZoneCache {
             files,
             name: b"",
-            zone: zone_of(files, b""),
+            zone: files.find(b""),
             instants: NO_INSTANTS,
             writer: RowWriter::new(state),
         }
@@ -91,7 +83,7 @@ impl<'a> ZoneCache<'a> {
         ensures name { self.new.name ≡ name.now }
     {
         if self.name != name {
-            self.zone = zone_of(self.files, name);
+            self.zone = self.files.find(name);
             self.name = name;
             self.instants = NO_INSTANTS;
         }
@@ -99,15 +91,15 @@ impl<'a> ZoneCache<'a> {
 
     /// Turns to what the zone says at an instant, and to the instants at which it says the same.
     #[inline(never)]
-    fn renew(&mut self, zone: &'a Zone, instant: i64)
+    fn renew(&mut self, zone: &'a ReadyZone<'s>, instant: i64)
         requires { self.old.zone ≡ Some zone.now }
         ensures files { self.new.files ≡ self.old.files }
         ensures says { Answers zone.now instant (Some self.new.state) }
     {
-        let span = zone.span(instant);
+        let span = zone.zone().span(instant);
         match span.answer {
             Answer::Known(state) => {
-                self.writer.set_state(state);
+                zone.show(&mut self.writer, span.number, state);
                 self.instants = span.instants;
             }
             Answer::Unspecified => unreachable!(),
@@ -117,7 +109,7 @@ impl<'a> ZoneCache<'a> {
     /// Turns to what the zone says at an instant. The zone is asked only where the instants kept
     /// don't have this one.
     #[inline(always)]
-    fn ask(&mut self, zone: &'a Zone, instant: i64)
+    fn ask(&mut self, zone: &'a ReadyZone<'s>, instant: i64)
         requires { self.old.zone ≡ Some zone.now }
         ensures files { self.new.files ≡ self.old.files }
         ensures says { Answers zone.now instant (Some self.new.state) }

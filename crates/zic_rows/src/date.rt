@@ -3,8 +3,8 @@
 ghost use Rattle.std.specs.Prelude.{◌≡◌, ◌<◌, take, drop};
 ghost use Rattle.zic_rows.specs.code.Kept.{kept_date};
 
+use crate::digits::digit_pair;
 use crate::limit::{DAYS, DAYS_TO_1970, REST_ROOM};
-use zic_base::two_digits;
 use zic_calendar::civil;
 
 /// Writes the text of a day into the rest of a row.
@@ -26,9 +26,9 @@ fn date_text(day: u32) -> [u8; 12]
     let year = date.year as u32;
     let month = date.month as u32;
     let day = date.day as u32;
-    let [y, yy] = two_digits(year / 100);
-    let [yyy, yyyy] = two_digits(year % 100);
-    let [m, mm] = two_digits(month);
-    let [d, dd] = two_digits(day);
+    let [y, yy] = digit_pair(year / 100);
+    let [yyy, yyyy] = digit_pair(year % 100);
+    let [m, mm] = digit_pair(month);
+    let [d, dd] = digit_pair(day);
     [b',', y, yy, yyy, yyyy, b'-', m, mm, b'-', d, dd, b'T']
 }

@@ -3,6 +3,7 @@
 #![tactic(auto)]
 
 mod date;
+mod digits;
 mod instant;
 pub mod laws;
 mod limit;

@@ -8,10 +8,11 @@ ghost use Rattle.zic_rows.specs.Row.{state_text};
 ghost use Rattle.zic_rows.specs.code.Kept.{kept_date, IsRestOf};
 
 use crate::date::write_date;
+use crate::digits::time_text;
 use crate::limit::{DAY, DAYS, REST_ROOM};
 use crate::state_text::StateText;
 use std::alloc::AllocError;
-use zic_base::{State, clock_text};
+use zic_base::State;
 
 /// The rest of a row, kept for rows of one day and one state: a comma, the date and a `T`, eight
 /// bytes for the time of day, and the text of the state.
@@ -84,7 +85,7 @@ impl<'a> KeptRest<'a> {
     {
         let start = text.len();
         text.extend_from_slice(&self.octets)?;
-        text[start + 12..start + 20].copy_from_slice(&clock_text(second));
+        text[start + 12..start + 20].copy_from_slice(&time_text(second));
         text.truncate(start + 20 + self.len);
         Ok(())
     }

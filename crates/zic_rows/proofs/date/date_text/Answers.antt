@@ -9,4 +9,4 @@ returns c =
     let y = unsigned_abs (to_z w64 (of_z w64 date.year)) in
     let year : date.year ≡ pos y = omega (arith, ints, c.civil-date.ensures.year) in
     let octets = kept_date-octets c.args.day _ date y c.requires (omega (arith, ints)) c.civil-date.ensures.date c.civil-date.ensures.year year in
-    rw (c.two_digits.ensures, c.two_digits-2.ensures, c.two_digits-3.ensures, c.two_digits-4.ensures) (sym octets)
+    rw (c.digit_pair.ensures, c.digit_pair-2.ensures, c.digit_pair-3.ensures, c.digit_pair-4.ensures) (sym octets)

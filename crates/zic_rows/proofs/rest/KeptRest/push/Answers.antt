@@ -12,9 +12,9 @@ returns c =
     let start = c.len-start.result in
     let long : length s.octets ≡ 52 = search rules in
     let n : start ≡ length old = search rules in
-    let time : length c.clock_text.result ≡ 8 = ap length c.clock_text.ensures in
+    let time : length c.time_text.result ≡ 8 = ap length c.time_text.ensures in
     let room : c.extend_from_slice.new.self.len ≡ start + 52 = search rules in
     c.truncate.ensures.items
-    ∙ rest_written old s.octets c.deref_mut.result.now c.copy_from_slice.new.self _ c.clock_text.result _ _ start s.len c.extend_from_slice.new.self.len n long s.is_rest.date time s.is_rest.text s.is_rest.fits
+    ∙ rest_written old s.octets c.deref_mut.result.now c.copy_from_slice.new.self _ c.time_text.result _ _ start s.len c.extend_from_slice.new.self.len n long s.is_rest.date time s.is_rest.text s.is_rest.fits
     (c.deref_mut.ensures.value ∙ c.in_ok-extend_from_slice.ensures.items) c.copy_from_slice.ensures.after room
-    ∙ ap (λ (time : List ℕ). old ++ (kept_date s.day ++ (time ++ state_text (shown s.state)))) c.clock_text.ensures
+    ∙ ap (λ (time : List ℕ). old ++ (kept_date s.day ++ (time ++ state_text (shown s.state)))) c.time_text.ensures
