@@ -7,7 +7,7 @@ use Rattle.zic_base.proofs.Elements.{all_got, got}
 use Rattle.zic_base.proofs.Lists.{get_mapped, take_next}
 use Rattle.zic_base.proofs.Options.{if_at}
 use Rattle.zic_base.specs.State.{Shown}
-use Rattle.zic_content.specs.Content.{Content}
+use Rattle.zic_tzif.specs.Content.{Content}
 use Rattle.zic_tzif.specs.States.{IsStateOfNumber}
 use Rattle.zic_files.specs.File.{File}
 use Rattle.zic_files.specs.Sound.{AreSoundFiles, IsAlwaysKnown, IsSoundFile}

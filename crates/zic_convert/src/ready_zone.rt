@@ -21,7 +21,7 @@ pub(crate) struct ReadyZone<'a> {
 }
 
 impl<'a> Model for ReadyZone<'a> {
-    ghost use Rattle.zic_content.specs.Content.{Content};
+    ghost use Rattle.zic_tzif.specs.Content.{Content};
     ghost use Rattle.zic_convert.specs.code.ReadyZone.{AreTextsOf};
 
     ghost Value = { Content };

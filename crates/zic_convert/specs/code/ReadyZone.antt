@@ -1,7 +1,7 @@
 -- What is made ready of files before rows are made.
 use Rattle.std.specs.Prelude.{◌≡◌, ℕ, List, Option, Some, map, slice_get}
 use Rattle.zic_base.specs.State.{Shown}
-use Rattle.zic_content.specs.Content.{Content}
+use Rattle.zic_tzif.specs.Content.{Content}
 use Rattle.zic_tzif.specs.States.{IsStateOfNumber}
 use Rattle.zic_files.specs.File.{File}
 
