@@ -198,7 +198,9 @@ ask explain ColumnTooLong
 [ "$status" = 0 ] && [ ! -s ../err ] && [ "$(head -n 1 ../out)" = ColumnTooLong ] ||
     differ "pzic explain ColumnTooLong: status $status, '$(head -c 200 ../out)', '$(head -c 200 ../err)'"
 expect_usage frobnicate
+expect_usage $'\xff'
 expect_usage check
+expect_usage check $'\xff'
 expect_usage check --help
 expect_usage check - -
 expect_usage check plain plain
@@ -332,19 +334,30 @@ expect 1 "$row" "$zone"'
 Nearest name:
   Etc/UTC
 '"$expected" convert --explain plain
-printf 'zone,instant\nEtc/UTC,0\nEtc/UTC,1.5\n' >column
-{ read -r _; status=0; "$program" convert --explain plain >../out 2>../err || status=$?; } <column
-told 'pzic convert of the rest of a file' 1 "$row" 'row 2: RowInstant
---> standard input, row 2, field 2 (SECONDS)
-  Etc/UTC,1.5
-          ^^^
-
+seconds='
 Expected:
   Seconds since 1970-01-01T00:00:00 UT: 1 to 18 digits, with `-` before them
   for earlier instants, without `+`, spaces or a fraction.
 
 Usual cause:
   A date, a number with a fraction, or the two fields swapped.'
+fraction='row 2: RowInstant
+--> standard input, row 2, field 2 (SECONDS)
+  Etc/UTC,1.5
+          ^^^
+'"$seconds"
+printf 'zone,instant\nEtc/UTC,0\nEtc/UTC,1.5\n' >column
+{ read -r _; status=0; "$program" convert --explain plain >../out 2>../err || status=$?; } <column
+told 'pzic convert of the rest of a file' 1 "$row" "$fraction"
+# A header is no row, and a mark no part of the first record.
+expect 1 "zone,instant,local,offset,daylight,abbreviation
+$row" "$fraction" convert --explain --header plain
+printf '\xef\xbb\xbfEtc/UTC,+1\n' >column
+expect 1 '' 'row 1: RowInstant
+--> standard input, row 1, field 2 (SECONDS)
+  Etc/UTC,+1
+          ^^
+'"$seconds" convert --explain plain
 input=/dev/null
 # That of a pipe is not.
 status=0
@@ -725,6 +738,13 @@ input=/dev/null
 
 # ------------------------------------------------------------------ builds that are killed
 
+# Runs have temporary names of their own: each of these is killed as it writes its first file.
+for run in 1 2; do
+    (ulimit -c 0 -f 0 && exec "$program" build "killed.$run" plain) || true
+    (cd "killed.$run/Etc" && echo *) >"../names.$run"
+done 2>../err
+grep -qx '~pzic[0-9]*' ../names.1 && ! cmp -s ../names.1 ../names.2 ||
+    differ "runs have the temporary names $(cat ../names.1) and $(cat ../names.2)"
 start=$(date +%s%N)
 expect 0 '' '' build whole many
 took=$(($(date +%s%N) - start))

@@ -14,6 +14,7 @@ use std::thread::Threads;
 use zic_bulk::Plan;
 use zic_commands::*;
 use zic_counted::Counted;
+use zic_dump::Years;
 
 /// A reader and writer that always fails.
 #[derive(Drop)]
@@ -32,6 +33,20 @@ impl Write for Broken {
 
     fn flush(&mut self) -> io::Result<()> {
         Ok(())
+    }
+}
+
+/// A writer that takes all bytes, and fails when it is flushed.
+#[derive(Drop)]
+struct Unflushed;
+
+impl Write for Unflushed {
+    fn write(&mut self, buf: &[u8]) -> io::Result<usize> {
+        Ok(buf.len())
+    }
+
+    fn flush(&mut self) -> io::Result<()> {
+        Err(io::Error::from(ErrorKind::Other))
     }
 }
 
@@ -102,6 +117,26 @@ fn check_tells_what_cannot_be_read_or_written(rt: HostRuntime) -> Result<(), Fai
     let unwritten = told(alloc, unwritten.err().ok_or("it was written")?)?;
     assert_eq!(rt; unwritten.as_str(), "cannot write output, status 3");
     assert_eq!(rt; broken.failures(), 2, "of the reader and the writer");
+    Ok(())
+}
+
+#[test]
+fn what_is_not_flushed_is_not_written(rt: HostRuntime) -> Result<(), Fail> {
+    let alloc = rt.alloc();
+    let texts = [Vec::from_slice(alloc, b"Zone Etc/UTC 0 - UTC\n")?];
+    let years = Years::new(2, 2500).ok_or("no years")?;
+    let file = UTC_FILE.as_slice();
+    let mut writer = Counted::new(Unflushed);
+    let answers = [
+        check(&rt, alloc, &plan(1)?, &texts, &mut writer),
+        show(alloc, file, 0, &mut writer),
+        dump(alloc, "f", file, &years, &mut writer),
+    ];
+    for answer in answers {
+        let unwritten = told(alloc, answer.err().ok_or("it was written")?)?;
+        assert_eq!(rt; unwritten.as_str(), "cannot write output, status 3");
+    }
+    assert_eq!(rt; writer.failures(), 3, "of the writer");
     Ok(())
 }
 

@@ -1,6 +1,6 @@
 //! `convert` and its progress reports, compared with expected output.
 
-use super::{Broken, told};
+use super::{Broken, Unflushed, plan, told};
 use crate::samples::US;
 use std::alloc::Global;
 use std::cell::Cell;
@@ -166,6 +166,24 @@ fn convert_tells_that_rows_are_not_written(rt: HostRuntime) -> Result<(), Fail> 
     Ok(())
 }
 
+#[test]
+fn the_end_of_a_column_without_rows_is_flushed(rt: HostRuntime) -> Result<(), Fail> {
+    let alloc = rt.alloc();
+    let plan = plan(2)?;
+    let texts = [Vec::from_slice(alloc, UTC.as_bytes())?];
+    let mut column = Counted::new(b"".as_slice());
+    let mut writer = Counted::new(Unflushed);
+    let answers = [
+        convert(&rt, alloc, &plan, &texts, &mut column, &mut writer),
+        convert_with_header(&rt, alloc, &plan, &texts, &mut column, &mut writer),
+    ];
+    for answer in answers {
+        let unwritten = told(alloc, answer.err().ok_or("it was written")?)?;
+        assert_eq!(rt; unwritten.as_str(), "cannot write rows, status 3");
+    }
+    Ok(())
+}
+
 /// A clock that advances by a quarter of a second with each reading.
 #[derive(Drop)]
 struct Quarters(Cell<u64>);
@@ -247,5 +265,36 @@ fn progress_counts_no_header_and_is_told_where_rows_are_asked_for(
     assert!(rt; broken.write(b"a,1\n").is_err());
     broken.finish();
     assert!(rt; told.is_empty());
+    Ok(())
+}
+
+/// A writer that takes at most three bytes at a time.
+#[derive(Drop)]
+struct Sips<'a>(&'a mut Vec<u8>);
+
+impl Write for Sips<'_> {
+    fn write(&mut self, buf: &[u8]) -> io::Result<usize> {
+        let n = buf.len().min(3);
+        self.0.extend_from_slice(&buf[..n])?;
+        Ok(n)
+    }
+
+    fn flush(&mut self) -> io::Result<()> {
+        Ok(())
+    }
+}
+
+#[test]
+fn progress_counts_what_the_writer_took(rt: HostRuntime) -> Result<(), Fail> {
+    let clock = Quarters(Cell::new(1000));
+    let mut rows: Vec<u8> = Vec::new(rt.alloc());
+    let mut told: Vec<u8> = Vec::new(rt.alloc());
+    let mut progress = Progress::new(Sips(&mut rows), &clock, Told::Once(&mut told), false);
+    progress.write_all(b"a,1\nb,2\nc,3\n")?;
+    progress.finish();
+    assert_eq!(rt;
+        str::from_utf8(&told).ok(),
+        Some("3 rows, 12 rows a second\n")
+    );
     Ok(())
 }

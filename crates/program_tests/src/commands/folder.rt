@@ -12,13 +12,14 @@ use std::thread::Threads;
 use zic_commands::*;
 use zic_counted::Counted;
 
-/// Records calls, one of which fails with an error of this kind: with `Other` each time, else once.
+/// Records calls, one of which fails with an error of this kind, this number of times.
 #[derive(Clone, Copy)]
 struct Log<'a> {
     alloc: Global,
     calls: &'a RefCell<String>,
     fails: &'a str,
     kind: ErrorKind,
+    times: usize,
 }
 
 impl<'a> Log<'a> {
@@ -29,11 +30,23 @@ impl<'a> Log<'a> {
         let call = format!(in self.alloc; "{what} {name}")?;
         calls.push_str(call.as_str())?;
         calls.push('\n')?;
-        let is_first = calls.matches(self.fails).count() == 1;
-        if call.as_str() == self.fails && (is_first || self.kind == ErrorKind::Other) {
+        if call.as_str() != self.fails {
+            return Ok(());
+        }
+        if self.times == usize::MAX || calls.matches(self.fails).count() <= self.times {
             return Err(io::Error::from(self.kind));
         }
         Ok(())
+    }
+}
+
+/// Returns how many times a call fails with an error of this kind: an error that another run makes
+/// comes once.
+fn times_of(kind: ErrorKind) -> usize {
+    if kind == ErrorKind::Other {
+        usize::MAX
+    } else {
+        1
     }
 }
 
@@ -185,6 +198,7 @@ fn linked<'a, T: Threads + Wait + Sync>(
         calls: &calls,
         fails,
         kind: error,
+        times: times_of(error),
     };
     let disk = Disk {
         log,
@@ -238,6 +252,18 @@ fn a_link_is_made_after_its_file_and_before_it_has_its_name(rt: HostRuntime) -> 
             "link D/L/M/~pzic7",
             ErrorKind::Other,
             [hard, "", "", "cannot write D/L/M/UTC, status 3"],
+        ),
+        // another run replaces the zone's file at that moment
+        (
+            LinkKind::Hard,
+            "link D/L/M/~pzic7",
+            ErrorKind::NotFound,
+            [
+                hard,
+                "file D/Z/UTC\nlink D/L/M/~pzic7\nrename D/L/M/~pzic7\n",
+                "to D/L/M/UTC\n",
+                "remove D/L/M/~pzic7\n",
+            ],
         ),
         // another run has a file of the same name
         (
@@ -295,6 +321,7 @@ fn built<'a, T: Threads + Wait + Sync>(
         calls: &calls,
         fails,
         kind,
+        times: times_of(kind),
     };
     let disk = Disk {
         log,
@@ -436,6 +463,29 @@ static WORDS: [(&str, &str, &str, &str, &str); 7] = [
 ];
 
 #[test]
+fn a_file_that_other_runs_always_remove_is_refused(rt: HostRuntime) -> Result<(), Fail> {
+    let alloc = rt.alloc();
+    let calls = RefCell::new(String::new(alloc));
+    let disk = Disk {
+        log: Log {
+            alloc,
+            calls: &calls,
+            fails: "rename D/~pzic7",
+            kind: ErrorKind::NotFound,
+            times: usize::MAX,
+        },
+        bytes: b"",
+        names: b"A\0",
+    };
+    let words = [String::from_str(alloc, "-")?];
+    let done = build_words(&rt, alloc, &disk, "Zone A 0 - UTC", "D", &words)?;
+    let failure = told(alloc, done.err().ok_or("it was placed")?)?;
+    assert_eq!(rt; failure.as_str(), "cannot write D/A, status 3");
+    assert_eq!(rt; calls.into_inner().matches("rename").count(), 1_000);
+    Ok(())
+}
+
+#[test]
 fn sources_are_read_and_files_written_whole(rt: HostRuntime) -> Result<(), Fail> {
     for (source, fails, want) in &ONE_SOURCE {
         let got = built(&rt, rt.alloc(), "D", "-", *source, *fails)?;
@@ -497,6 +547,7 @@ fn words_for_sources_and_files_are_opened(rt: HostRuntime) -> Result<(), Fail> {
         calls: &calls,
         fails: "open none",
         kind: ErrorKind::Other,
+        times: usize::MAX,
     };
     let source = Disk {
         log,

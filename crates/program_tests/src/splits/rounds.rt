@@ -210,6 +210,25 @@ fn a_slow_reader_is_not_waited_for(rt: HostRuntime) -> Result<(), Fail> {
 }
 
 #[test]
+fn a_full_read_ends_no_round(rt: HostRuntime) -> Result<(), Fail> {
+    let mut column = Vec::new(rt.alloc());
+    for _ in 0..32_768 {
+        column.extend_from_slice(b"a,0\n")?;
+    }
+    // A full read has 65,536 bytes, and the column has twice as many.
+    for (wanted, want) in [(131_072, 1), (65_536, 2)] {
+        let device = Device {
+            rest: &column,
+            step: 65_536,
+            fails: None,
+        };
+        let (_, rounds) = shown(rt.alloc(), device, 131_072, (wanted, 1_024))?.ok_or("unread")?;
+        assert_eq!(rt; rounds, want, "where {wanted} bytes are wanted");
+    }
+    Ok(())
+}
+
+#[test]
 fn long_records_come_whole(rt: HostRuntime) -> Result<(), Fail> {
     let mut column = Vec::new(rt.alloc());
     column.resize(30_000, b'\n')?;
