@@ -160,6 +160,21 @@ offsets 256 >many
 expect 0 "$("$program" check many)" '' check many
 offsets 257 >many
 expect 1 '' 'line 1: TooManyTypes' check many
+# names LAST: prints a zone of 63 abbreviations of three letters and this one after them.
+names() {
+    awk -v "last=$1" 'BEGIN {
+        for (i = 0; i < 63; i++) printf "%s 0 - A%c%c %d\n", i ? "" : "Zone A", 65 + i / 8, 65 + i % 8, 1970 + i
+        print "0 - " last
+    }'
+}
+names ZZZ >many
+expect 0 "$("$program" check many)" '' check many
+names ZZZZ >many
+expect 1 '' 'line 1: TooManyChars' check many
+# A change one second after the last year's start isn't listed.
+printf 'Zone Z 1:00 - AAA 1972 Jan 1 0:00:01u\n2:00 - BBB\n' >late
+expect 0 '' '' build late.tree late
+expect 0 $'\nTZ="late.tree/Z"\n-\t-\t+01\tAAA' '' dump --from 1971 --to 1972 late.tree/Z
 truncate -s 67108864 large
 expect 1 '' 'line 1: LineTooLong' check large
 truncate -s 67108865 large
