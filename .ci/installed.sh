@@ -2,9 +2,9 @@
 # Makes the package of .ci/package.sh twice, and checks that the bytes are the same. Installs it
 # into a folder of its own and removes it at the end: as root by `dpkg --root`, over a list of
 # packages that has only libc6, else by `dpkg-deb -x`. Tries what was installed: each command, the
-# manual page, the completions, the notices, and the links of the pages. As root the program runs by
-# `chroot`, with nothing there but the package and the files of libc6 that the program is linked
-# with.
+# manual page, the completions, the library from C and from Python, the notices, and the links of the
+# pages. As root the program runs by `chroot`, with nothing there but the package and the files of
+# libc6 that the program is linked with.
 set -euo pipefail
 cd "$(dirname "${BASH_SOURCE[0]}")/.."
 . .ci/release.sh
@@ -101,6 +101,39 @@ for page in "$share"/doc/pzic/README.md "$share"/doc/pzic/docs/*.md; do
         [ -e "${page%/*}/$link" ] || differ "${page##*/} links to $link, which isn't in the package"
     done
 done
+
+# ------------------------------------------------------------------ the library
+
+cat >"$work/offset.c" <<'END'
+#include <pzic.h>
+#include <stdio.h>
+int main(int count, char **words) {
+    static uint8_t bytes[1 << 20];
+    FILE *file = fopen(words[count - 1], "rb");
+    pzic_handle zone = {0};
+    pzic_state state;
+    uint32_t reason;
+    if (!file || pzic_zone_read(bytes, fread(bytes, 1, sizeof bytes, file), &zone, &reason)) return 1;
+    if (pzic_zone_at(&zone, 1173596400, &state)) return 1;
+    printf("%d %s\n", state.offset, state.name);
+    pzic_free(&zone);
+}
+END
+offset_by() {
+    # shellcheck disable=SC2046
+    cc -Wall -Werror "$work/offset.c" -o "$work/offset" "$@" $(PKG_CONFIG_PATH=$root/usr/lib/pkgconfig pkg-config \
+        --keep-system-cflags --keep-system-libs --cflags --libs pzic)
+    LD_LIBRARY_PATH=$root/usr/lib "$work/offset" "$root/tree/America/New_York"
+}
+offset_in_python() {
+    PZIC_LIBRARY=$root/usr/lib/libpzic.so PYTHONPATH=$root/usr/lib/python3/dist-packages python3 -B -c '
+import pzic, sys
+print(pzic.Tree.open(sys.argv[1])["America/New_York"].utcoffset(1173596400))' "$root/tree"
+}
+expect '-14400 EDT' offset_by
+expect '-14400 EDT' offset_by -static
+expect -14400 offset_in_python
+cmp include/pzic.h "$root/usr/include/pzic.h" >&2 || differ 'the package has another header'
 
 # ------------------------------------------------------------------ removing
 

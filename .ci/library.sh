@@ -35,9 +35,14 @@ nm -D --defined-only "$built/lib/libpzic.so" | awk '{ print $3 }' | sort >"$work
 grep -o 'pzic_[a-z_]*(' include/pzic.h | tr -d '(' | sort -u >"$work/declared"
 diff "$work/declared" "$work/names"
 
-# Python.
+# Python. Debian's own may have numpy.
 export PZIC_LIBRARY=$built/lib/libpzic.so PYTHONPATH=python
-python3 witness/library.py "$tree"
+python=python3
+if [ -x /usr/bin/python3 ]; then
+    python=/usr/bin/python3
+    "$python" -c 'import numpy' 2>"$work/log" || install python3-numpy 2>"$work/log" || echo 'library: no numpy'
+fi
+"$python" witness/library.py "$tree"
 
 # The examples of the page.
 export PKG_CONFIG_PATH=$built/lib/pkgconfig LD_LIBRARY_PATH=$built/lib

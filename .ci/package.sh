@@ -1,9 +1,10 @@
 #!/usr/bin/env bash
 # Makes a Debian package of the built program and prints its path: `.ci/package.sh [FOLDER]`, by
 # default in the current folder. The package has the program, the manual page, the completions, the
-# pages, and the notices of the kit's libraries that are linked in. The same tree gives the same
-# bytes: every time in the package is that of the newest entry of docs/CHANGELOG.md. The variables
-# DEBFULLNAME and DEBEMAIL name the maintainer. Needs `dpkg-deb`, and no network.
+# pages, the library with its header and its package for Python, and the notices of the kit's
+# libraries that are linked in. The same tree gives the same bytes: every time in the package is that
+# of the newest entry of docs/CHANGELOG.md. The variables DEBFULLNAME and DEBEMAIL name the
+# maintainer. Needs `dpkg-deb` and `cc`, and no network.
 set -euo pipefail
 shopt -s inherit_errexit
 folder=$(realpath -e -- "${1:-.}")
@@ -24,9 +25,9 @@ uses_of() {
     fi
 }
 
-# Prints the libraries of the kit that the program is linked with.
+# Prints the libraries of the kit that the program and the library are linked with.
 linked() {
-    local queue=(zic_main std) seen=' ' crate uses
+    local queue=(zic_main pzic_c std) seen=' ' crate uses
     while [ "${#queue[@]}" -gt 0 ]; do
         crate=${queue[0]} queue=("${queue[@]:1}")
         case $seen in *" $crate "*) continue ;; esac
@@ -74,11 +75,11 @@ notices() {
 # Prints the file `copyright` of the package.
 copyright() {
     cat <<END
-pzic is the program of the repository Tugboreke. No licence has been chosen for
-it yet: ask before you distribute it.
+pzic is the program of the repository Tugboreke, and libpzic its library. No
+licence has been chosen for them yet: ask before you distribute them.
 
-It is built with the Rattle kit ($(rt version | head -n 1)),
-and contains libraries of that kit. Their notices follow. Where a library may be
+They are built with the Rattle kit ($(rt version | head -n 1)),
+and contain libraries of that kit. Their notices follow. Where a library may be
 used under one of several licences, one of them is given.
 
 END
@@ -89,7 +90,7 @@ END
 # Prints the file `control` of the package.
 control() {
     local libc
-    libc=$(grep -aoE 'GLIBC_[0-9.]+' "$program" | cut -d _ -f 2 | sort -V | tail -n 1)
+    libc=$(grep -haoE 'GLIBC_[0-9.]+' "$program" "$tree/usr/lib/libpzic.so" | cut -d _ -f 2 | sort -V | tail -n 1)
     cat <<END
 Package: pzic
 Version: $version
@@ -97,12 +98,13 @@ Architecture: $architecture
 Maintainer: ${DEBFULLNAME:-unknown} <${DEBEMAIL:-unknown@localhost}>
 Installed-Size: $(du -k -s --apparent-size "$tree" | cut -f 1)
 Depends: libc6 (>= $libc)
-Suggests: tzdata
+Suggests: tzdata, python3
 Section: utils
 Priority: optional
 Description: proved time zone compiler, and converter of timestamps
  pzic turns the Rule, Zone and Link lines of the tz database into TZif files,
- as zic does, and converts columns of timestamps to local time.
+ as zic does, and converts columns of timestamps to local time. Its library
+ tells local time to programs in C, C++, Rust and Python.
 END
 }
 
@@ -116,12 +118,14 @@ pages=$share/doc/pzic
 install -D "$program" "$tree/usr/bin/pzic"
 install -D -m 644 completions/pzic.bash "$share/bash-completion/completions/pzic"
 install -D -m 644 completions/_pzic "$share/zsh/vendor-completions/_pzic"
+./make-library "$tree/usr"
+install -D -m 644 -t "$tree/usr/lib/python3/dist-packages/pzic" python/pzic/*.py python/pzic/py.typed
 install -d "$share/man/man1" "$pages/docs"
 gzip -9n <man/pzic.1 >"$share/man/man1/pzic.1.gz"
 install -m 644 README.md "$pages"
 install -m 644 docs/*.md docs/*.txt "$pages/docs"
-# The sources aren't in the package, so its index has no links to them.
-sed -i 's,\[\([^]]*\)\](\.\./[^)]*),\1,g' "$pages/docs/INDEX.md"
+# The sources aren't in the package, so its pages have no links to them.
+sed -i 's,\[\([^]]*\)\](\.\./[^)]*),\1,g' {"$pages/docs/INDEX.md","$pages/docs/LIBRARY.md"}
 copyright >"$pages/copyright"
 control >"$work/control"
 install -D -m 644 "$work/control" "$tree/DEBIAN/control"

@@ -128,8 +128,9 @@ class Zone:
         """Return the UT offset and the flags at each of many instants, in any order.
 
         ``instants`` is whatever has the buffer protocol with items of 8 bytes with a sign, as an
-        :class:`array.array` of ``"q"`` or a numpy array of ``int64``. The offsets are written to
-        ``offsets``, which has items of 4 bytes with a sign, and the flags to ``flags``, of single
+        :class:`array.array` of ``"q"`` or a numpy array of ``int64``; ``datetime64[s]`` is viewed as
+        that by ``instants.view("int64")``. The offsets are written to ``offsets``, which has items
+        of 4 bytes with a sign, as a numpy array of ``int32``, and the flags to ``flags``, of single
         bytes: 0, :data:`DAYLIGHT` or :data:`OPEN`. Each is made where it is left out. Threads of
         Python run meanwhile; none may write to the three.
         """
