@@ -16,10 +16,11 @@ fn with_footer(alloc: Global, octets: &[u8], text: &[u8]) -> Result<Vec<u8>, Fai
     Ok(file)
 }
 
-/// Returns the bytes of a file of 107 bytes with an empty footer, and some more: its designation is
-/// `TC`, its offset -1, and it is in daylight saving time.
-fn without_footer() -> [u8; 111] {
-    let mut octets = *UTC;
+/// Returns the bytes of a file with an empty footer: its designation is `TC`, its offset -1, and it
+/// is in daylight saving time.
+fn without_footer() -> [u8; 107] {
+    let mut octets = [0; 107];
+    octets.copy_from_slice(&UTC[..107]);
     octets[4] = b'3';
     octets[55] = b'3';
     octets[95..101].copy_from_slice(&[0xff, 0xff, 0xff, 0xff, 1, 1]);
