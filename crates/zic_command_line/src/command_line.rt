@@ -1,23 +1,15 @@
 //! The words that the program is given.
 
+use crate::commands::commands;
 use crate::no_request::NoRequest;
-use clap::builder::ValueParser;
 use clap::error::ErrorKind;
-use clap::{Arg, ArgAction, ArgMatches, Command, Error, value_parser};
-use std::alloc::{AllocError, Global};
+use clap::{ArgMatches, Error};
+use std::alloc::Global;
 use std::rt::Env;
 use std::{env, io};
-use zic_dump::{FIRST_YEAR, LAST_YEAR, Years};
+use zic_dump::Years;
 use zic_explain::{Unexplained, entries, explanation, index};
-use zic_plan::{
-    MAX_BYTES, MAX_OF_PIECE, MAX_ROWS, MAX_WORKERS, Plan, STANDARD_INPUT, parse_instant_word,
-};
-
-/// The version of the program, and the kit that it is proved with.
-const VERSION: &str = "0.1.0\nproved with rattle-kit-13f logic dac8208d650f15bf";
-
-/// The words for what the names of Link lines are made as.
-const LINK_WORDS: [&str; 3] = ["copy", "hard", "symlink"];
+use zic_plan::{Plan, STANDARD_INPUT, parse_instant_word};
 
 /// What the names of Link lines are made as.
 #[derive(Clone, Copy, Debug, PartialEq, Eq)]
@@ -147,188 +139,6 @@ fn unmatched(alloc: Global, e: &Error) -> Result<Request, NoRequest> {
         }),
         _ => Err(NoRequest::Usage(e.to_string(alloc)?)),
     }
-}
-
-/// Returns all commands, with what help tells of them.
-///
-/// Here and below, each part is made where it is added: a check takes longer, the more values wait
-/// at a `?` to be used.
-fn commands<'a>(alloc: Global) -> Result<Command<'a>, AllocError> {
-    let program = with_failing(alloc, program(alloc)?, check_command(alloc))?;
-    let program = with_failing(alloc, program, build_command(alloc))?;
-    let program = with_failing(alloc, program, convert_command(alloc))?;
-    let program = with_failing(alloc, program, show_command(alloc))?;
-    let program = with_failing(alloc, program, dump_command(alloc))?;
-    program.subcommand(explain_command(alloc)?)
-}
-
-/// Returns the program without its commands.
-fn program<'a>(alloc: Global) -> Result<Command<'a>, AllocError> {
-    Ok(
-        Command::new(alloc, "pzic")
-            .bin_name("pzic")?
-            .version(VERSION)
-            .about("Compiles time zone source text, as zic(8) reads it, to TZif files (RFC 9636)")
-            .after_help(
-                "Example:\n  pzic build ~/zoneinfo /usr/share/zoneinfo/tzdata.zi\n  TZDIR=~/zoneinfo TZ=Europe/Dublin date",
-            )
-            .subcommand_required(true)
-            .disable_help_subcommand(true),
-    )
-}
-
-/// Returns the program with a command whose failures can be explained.
-fn with_failing<'a>(
-    alloc: Global,
-    program: Command<'a>,
-    command: Result<Command<'a>, AllocError>,
-) -> Result<Command<'a>, AllocError> {
-    let help = "Shows where a fault is, and what is expected";
-    let command = command?.arg(flag(alloc, "explain", help))?;
-    program.subcommand(command)
-}
-
-fn check_command<'a>(alloc: Global) -> Result<Command<'a>, AllocError> {
-    let command = Command::new(alloc, "check")
-        .about("Compiles a source and lists its files: NAME BYTES FOOTER")
-        .after_help("Example:\n  echo 'Zone Etc/UTC 0 - UTC' | pzic check -")
-        .arg(required(
-            alloc,
-            "SOURCE",
-            "A file of Rule, Zone and Link lines, or - for standard input",
-        ))?;
-    with_plan(alloc, command)
-}
-
-fn build_command<'a>(alloc: Global) -> Result<Command<'a>, AllocError> {
-    let command = Command::new(alloc, "build")
-        .about("Compiles sources together and writes their files, as zic -d DIR does")
-        .after_help("Example:\n  pzic build ~/zoneinfo /usr/share/zoneinfo/tzdata.zi acme.zi")
-        .arg(required(
-            alloc,
-            "DIR",
-            "The folder for the files; it is made if need be",
-        ))?
-        .arg(required(
-            alloc,
-            "SOURCE",
-            "Files of Rule, Zone and Link lines; one may be -",
-        )
-        .num_args(1..))?
-        .arg(links_option(alloc))?;
-    with_plan(alloc, command)
-}
-
-fn convert_command<'a>(alloc: Global) -> Result<Command<'a>, AllocError> {
-    let command = Command::new(alloc, "convert")
-        .about("Converts lines NAME,SECONDS of standard input to local time")
-        .after_help(
-            "Each row is NAME,SECONDS,LOCAL TIME,OFFSET,DAYLIGHT,ABBREVIATION.\n\nExample:\n  echo Europe/Dublin,0 | pzic convert /usr/share/zoneinfo/tzdata.zi",
-        )
-        .arg(required(alloc, "SOURCE", "A file of Rule, Zone and Link lines"))?;
-    with_column(alloc, with_plan(alloc, command)?)?
-        .arg(flag(
-            alloc,
-            "header",
-            "Takes the first record for a header, and writes one",
-        ))?
-        .arg(flag(
-            alloc,
-            "progress",
-            "Tells on standard error how many rows are written",
-        ))
-}
-
-fn show_command<'a>(alloc: Global) -> Result<Command<'a>, AllocError> {
-    Command::new(alloc, "show")
-        .about("Prints the offset, daylight flag and abbreviation at an instant")
-        .after_help("Example:\n  pzic show /usr/share/zoneinfo/Europe/Dublin -- -1")
-        .arg(required(alloc, "FILE", "A TZif file of version 2 or 3"))?
-        .arg(required(
-            alloc,
-            "INSTANT",
-            "Seconds from 1970-01-01T00:00:00 UT; after -- if below 0",
-        ))
-}
-
-fn dump_command<'a>(alloc: Global) -> Result<Command<'a>, AllocError> {
-    Command::new(alloc, "dump")
-        .about("Lists the changes of local time of a file, as zdump -i does")
-        .after_help("Example:\n  pzic dump --from 2000 --to 2030 /usr/share/zoneinfo/Europe/Dublin")
-        .arg(required(alloc, "FILE", "A TZif file of version 2 or 3"))?
-        .arg(year(alloc, "from", "2").help("From the start of which year, 2 to 9999"))?
-        .arg(year(alloc, "to", "2500").help("Up to the start of which year, 2 to 9999"))
-}
-
-fn explain_command<'a>(alloc: Global) -> Result<Command<'a>, AllocError> {
-    Command::new(alloc, "explain")
-        .about("Explains an error: what it means, examples and what to do")
-        .after_help("Example:\n  pzic explain NoFooter")
-        .arg(Arg::new(alloc, "NAME").help("The name of an error; without it all are listed"))
-}
-
-/// Returns the command with the options that say how work is shared.
-fn with_plan<'a>(alloc: Global, command: Command<'a>) -> Result<Command<'a>, AllocError> {
-    command
-        .arg(option(alloc, "workers", "4", 1, MAX_WORKERS as i64).help(
-            "Threads that work, 1 to 64",
-        ))?
-        .arg(option(alloc, "zone-piece", "16", 1, MAX_OF_PIECE as i64).help(
-            "Zones a thread takes at once, 1 to 65536",
-        ))
-}
-
-/// Returns the command with the options that say how a column is cut, and how long it may be.
-fn with_column<'a>(alloc: Global, command: Command<'a>) -> Result<Command<'a>, AllocError> {
-    command
-        .arg(option(alloc, "row-piece", "1024", 1, MAX_OF_PIECE as i64).help(
-            "Rows a thread takes at once, 1 to 65536",
-        ))?
-        .arg(option(alloc, "max-rows", "100000000", 0, MAX_ROWS as i64).help(
-            "The most rows, up to 100000000",
-        ))?
-        .arg(option(alloc, "max-bytes", "4294967296", 0, MAX_BYTES as i64).help(
-            "The most bytes, up to 4294967296",
-        ))
-}
-
-/// Returns the option that says what the names of Link lines are made as.
-fn links_option<'a>(alloc: Global) -> Arg<'a> {
-    Arg::new(alloc, "links")
-        .long("links")
-        .value_name("KIND")
-        .value_parser(ValueParser::Names(&LINK_WORDS))
-        .hide_possible_values(true)
-        .default_value("copy")
-        .help("What a link is: copy, hard or symlink")
-}
-
-/// Returns a word that must be given.
-fn required<'a>(alloc: Global, name: &'a str, help: &'a str) -> Arg<'a> {
-    Arg::new(alloc, name).required(true).help(help)
-}
-
-/// Returns an option without a value.
-fn flag<'a>(alloc: Global, name: &'a str, help: &'a str) -> Arg<'a> {
-    Arg::new(alloc, name)
-        .long(name)
-        .action(ArgAction::SetTrue)
-        .help(help)
-}
-
-/// Returns an option that is a number in a range, with its default.
-fn option<'a>(alloc: Global, name: &'a str, default: &'a str, least: i64, most: i64) -> Arg<'a> {
-    Arg::new(alloc, name)
-        .long(name)
-        .value_name("N")
-        .value_parser(value_parser!(u64).range(least..=most))
-        .default_value(default)
-}
-
-/// Returns an option that is a year, with its default.
-fn year<'a>(alloc: Global, name: &'a str, default: &'a str) -> Arg<'a> {
-    let (least, most) = (FIRST_YEAR as i64, LAST_YEAR as i64);
-    option(alloc, name, default, least, most).value_name("YEAR")
 }
 
 fn check(alloc: Global, matches: &ArgMatches<'_>) -> Result<Request, NoRequest> {

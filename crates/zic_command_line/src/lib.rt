@@ -2,6 +2,7 @@
 #![tactic(auto)]
 
 mod command_line;
+mod commands;
 mod no_request;
 
 pub use command_line::{Asked, Links, Request, parse, requested};

@@ -1,0 +1,330 @@
+//! The commands with their words and options, as help tells of them.
+
+use clap::builder::ValueParser;
+use clap::{Arg, ArgAction, Command, value_parser};
+use std::alloc::{AllocError, Global};
+use zic_dump::{FIRST_YEAR, LAST_YEAR};
+use zic_plan::{MAX_BYTES, MAX_OF_PIECE, MAX_ROWS, MAX_WORKERS};
+
+/// The version of the program, and the kit that it is proved with.
+const VERSION: &str = "0.1.0\nproved with rattle-kit-13f logic dac8208d650f15bf";
+
+/// The words for what the names of Link lines are made as.
+const LINK_WORDS: [&str; 3] = ["copy", "hard", "symlink"];
+
+/// What a command takes.
+enum Form {
+    /// A word that must be given.
+    Required,
+    /// Words, of which one must be given.
+    Several,
+    /// A word that may be left out.
+    Optional,
+    /// An option without a value.
+    Flag,
+    /// An option that is a number.
+    Number(Number),
+    /// An option that is one of `LINK_WORDS`, the first by default.
+    Links,
+}
+
+/// A number in a range.
+struct Number {
+    label: &'static str,
+    default: &'static str,
+    least: i64,
+    most: i64,
+}
+
+/// A word or an option of a command.
+struct Word {
+    name: &'static str,
+    help: &'static str,
+    form: Form,
+}
+
+/// A command.
+struct Described {
+    name: &'static str,
+    about: &'static str,
+    after: &'static str,
+}
+
+const SOURCE: Word = Word {
+    name: "SOURCE",
+    help: "A file of Rule, Zone and Link lines",
+    form: Form::Required,
+};
+
+const FILE: Word = Word {
+    name: "FILE",
+    help: "A TZif file of version 2 or 3",
+    form: Form::Required,
+};
+
+const WORKERS: Word = Word {
+    name: "workers",
+    help: "Threads that work, 1 to 64",
+    form: Form::Number(Number {
+        label: "N",
+        default: "4",
+        least: 1,
+        most: MAX_WORKERS as i64,
+    }),
+};
+
+const ZONE_PIECE: Word = Word {
+    name: "zone-piece",
+    help: "Zones a thread takes at once, 1 to 65536",
+    form: Form::Number(Number {
+        label: "N",
+        default: "16",
+        least: 1,
+        most: MAX_OF_PIECE as i64,
+    }),
+};
+
+const EXPLAIN: Word = Word {
+    name: "explain",
+    help: "Shows where a fault is, and what is expected",
+    form: Form::Flag,
+};
+
+static CHECK: [Word; 4] = [
+    Word {
+        name: "SOURCE",
+        help: "A file of Rule, Zone and Link lines, or - for standard input",
+        form: Form::Required,
+    },
+    WORKERS,
+    ZONE_PIECE,
+    EXPLAIN,
+];
+
+static BUILD: [Word; 6] = [
+    Word {
+        name: "DIR",
+        help: "The folder for the files; it is made if need be",
+        form: Form::Required,
+    },
+    Word {
+        name: "SOURCE",
+        help: "Files of Rule, Zone and Link lines; one may be -",
+        form: Form::Several,
+    },
+    Word {
+        name: "links",
+        help: "What a link is: copy, hard or symlink",
+        form: Form::Links,
+    },
+    WORKERS,
+    ZONE_PIECE,
+    EXPLAIN,
+];
+
+static CONVERT: [Word; 9] = [
+    SOURCE,
+    WORKERS,
+    ZONE_PIECE,
+    Word {
+        name: "row-piece",
+        help: "Rows a thread takes at once, 1 to 65536",
+        form: Form::Number(Number {
+            label: "N",
+            default: "1024",
+            least: 1,
+            most: MAX_OF_PIECE as i64,
+        }),
+    },
+    Word {
+        name: "max-rows",
+        help: "The most rows, up to 100000000",
+        form: Form::Number(Number {
+            label: "N",
+            default: "100000000",
+            least: 0,
+            most: MAX_ROWS as i64,
+        }),
+    },
+    Word {
+        name: "max-bytes",
+        help: "The most bytes, up to 4294967296",
+        form: Form::Number(Number {
+            label: "N",
+            default: "4294967296",
+            least: 0,
+            most: MAX_BYTES as i64,
+        }),
+    },
+    Word {
+        name: "header",
+        help: "Takes the first record for a header, and writes one",
+        form: Form::Flag,
+    },
+    Word {
+        name: "progress",
+        help: "Tells on standard error how many rows are written",
+        form: Form::Flag,
+    },
+    EXPLAIN,
+];
+
+static SHOW: [Word; 3] = [
+    FILE,
+    Word {
+        name: "INSTANT",
+        help: "Seconds from 1970-01-01T00:00:00 UT; after -- if below 0",
+        form: Form::Required,
+    },
+    EXPLAIN,
+];
+
+static DUMP: [Word; 4] = [
+    FILE,
+    Word {
+        name: "from",
+        help: "From the start of which year, 2 to 9999",
+        form: Form::Number(Number {
+            label: "YEAR",
+            default: "2",
+            least: FIRST_YEAR as i64,
+            most: LAST_YEAR as i64,
+        }),
+    },
+    Word {
+        name: "to",
+        help: "Up to the start of which year, 2 to 9999",
+        form: Form::Number(Number {
+            label: "YEAR",
+            default: "2500",
+            least: FIRST_YEAR as i64,
+            most: LAST_YEAR as i64,
+        }),
+    },
+    EXPLAIN,
+];
+
+static NAMES: [Word; 1] = [Word {
+    name: "NAME",
+    help: "The name of an error; without it all are listed",
+    form: Form::Optional,
+}];
+
+static COMMANDS: [Described; 6] = [
+    Described {
+        name: "check",
+        about: "Compiles a source and lists its files: NAME BYTES FOOTER",
+        after: "Example:\n  echo 'Zone Etc/UTC 0 - UTC' | pzic check -",
+    },
+    Described {
+        name: "build",
+        about: "Compiles sources together and writes their files, as zic -d DIR does",
+        after: "Example:\n  pzic build ~/zoneinfo /usr/share/zoneinfo/tzdata.zi acme.zi",
+    },
+    Described {
+        name: "convert",
+        about: "Converts lines NAME,SECONDS of standard input to local time",
+        after: "Each row is NAME,SECONDS,LOCAL TIME,OFFSET,DAYLIGHT,ABBREVIATION.\n\nExample:\n  echo Europe/Dublin,0 | pzic convert /usr/share/zoneinfo/tzdata.zi",
+    },
+    Described {
+        name: "show",
+        about: "Prints the offset, daylight flag and abbreviation at an instant",
+        after: "Example:\n  pzic show /usr/share/zoneinfo/Europe/Dublin -- -1",
+    },
+    Described {
+        name: "dump",
+        about: "Lists the changes of local time of a file, as zdump -i does",
+        after: "Example:\n  pzic dump --from 2000 --to 2030 /usr/share/zoneinfo/Europe/Dublin",
+    },
+    Described {
+        name: "explain",
+        about: "Explains an error: what it means, examples and what to do",
+        after: "Example:\n  pzic explain NoFooter",
+    },
+];
+
+/// Returns the program with all commands.
+pub fn commands<'a>(alloc: Global) -> Result<Command<'a>, AllocError> {
+    with_commands(alloc, program(alloc)?, &COMMANDS)
+}
+
+/// Returns the program with these commands.
+fn with_commands<'a>(
+    alloc: Global,
+    program: Command<'a>,
+    all: &'a [Described],
+) -> Result<Command<'a>, AllocError> {
+    let mut program = program;
+    for described in all {
+        program = program.subcommand(command(alloc, described, words(described.name))?)?;
+    }
+    Ok(program)
+}
+
+/// Returns the program without its commands.
+fn program<'a>(alloc: Global) -> Result<Command<'a>, AllocError> {
+    Ok(
+        Command::new(alloc, "pzic")
+            .bin_name("pzic")?
+            .version(VERSION)
+            .about("Compiles time zone source text, as zic(8) reads it, to TZif files (RFC 9636)")
+            .after_help(
+                "Example:\n  pzic build ~/zoneinfo /usr/share/zoneinfo/tzdata.zi\n  TZDIR=~/zoneinfo TZ=Europe/Dublin date",
+            )
+            .subcommand_required(true)
+            .disable_help_subcommand(true),
+    )
+}
+
+/// Returns the words and options of the command of a name.
+fn words<'a>(command: &str) -> &'a [Word] {
+    match command {
+        "check" => &CHECK,
+        "build" => &BUILD,
+        "convert" => &CONVERT,
+        "show" => &SHOW,
+        "dump" => &DUMP,
+        _ => &NAMES,
+    }
+}
+
+/// Returns a command with its words and options.
+fn command<'a>(
+    alloc: Global,
+    described: &'a Described,
+    words: &'a [Word],
+) -> Result<Command<'a>, AllocError> {
+    let mut command = Command::new(alloc, described.name)
+        .about(described.about)
+        .after_help(described.after);
+    for word in words {
+        command = command.arg(argument(alloc, word))?;
+    }
+    Ok(command)
+}
+
+/// Returns a word or an option.
+fn argument<'a>(alloc: Global, word: &'a Word) -> Arg<'a> {
+    let argument = Arg::new(alloc, word.name).help(word.help);
+    match &word.form {
+        Form::Required => argument.required(true),
+        Form::Several => argument.required(true).num_args(1..),
+        Form::Optional => argument,
+        Form::Flag => argument.long(word.name).action(ArgAction::SetTrue),
+        Form::Number(number) => numbered(argument.long(word.name), number),
+        Form::Links => argument
+            .long(word.name)
+            .value_name("KIND")
+            .value_parser(ValueParser::Names(&LINK_WORDS))
+            .hide_possible_values(true)
+            .default_value("copy"),
+    }
+}
+
+/// Returns an option with the range of its number, and its default.
+fn numbered<'a>(argument: Arg<'a>, number: &'a Number) -> Arg<'a> {
+    argument
+        .value_name(number.label)
+        .value_parser(value_parser!(u64).range(number.least..=number.most))
+        .default_value(number.default)
+}
