@@ -1,8 +1,9 @@
 //! Sums `civil` or `weekday` over ten million days and prints the sums, for `bench/civil.sh` to
 //! time. The word `civil` or `weekday` chooses the function; without a word it sums both.
 
+use crate::words::{asks, tell};
+use std::io;
 use std::rt::Env;
-use std::{env, io};
 use zic_calendar::{civil, weekday};
 
 /// The day number of 0001-01-01.
@@ -15,15 +16,11 @@ const CALLS: u32 = 10_000_000;
 
 /// Prints the sums that the word asks for.
 pub fn run<R: Env + Print + AllocGlobal>(rt: &R) -> io::Result<()> {
-    let word = env::args(rt)?.nth(2);
-    let word = word.as_ref().map(|w| w.as_str());
-    if word != Some("weekday") {
-        let total = civil_sum();
-        println!(rt; "civil {total}")?;
+    if asks(rt, "civil")? {
+        tell(rt, "civil", civil_sum())?;
     }
-    if word != Some("civil") {
-        let total = weekday_sum();
-        println!(rt; "weekday {total}")?;
+    if asks(rt, "weekday")? {
+        tell(rt, "weekday", weekday_sum())?;
     }
     Ok(())
 }
@@ -36,10 +33,10 @@ fn civil_sum() -> u64 {
     total
 }
 
-fn weekday_sum() -> u64 {
-    let mut total = 0u64;
+fn weekday_sum() -> i64 {
+    let mut total = 0i64;
     for call in 0..CALLS {
-        total = total.wrapping_add(weekday(FIRST_DAY + (call % DAYS) as i64) as u64);
+        total = total.wrapping_add(weekday(FIRST_DAY + (call % DAYS) as i64) as i64);
     }
     total
 }

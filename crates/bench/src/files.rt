@@ -5,8 +5,8 @@
 
 ghost use Rattle.std.specs.Prelude.{◌<◌, length};
 
+use crate::words::{asks, tell, times};
 use std::alloc::{AllocError, Global};
-use std::env;
 use std::io::{self, ErrorKind, Read};
 use std::rt::Env;
 use zic_bulk::{Files, compile};
@@ -18,33 +18,54 @@ use zic_tzif::{read, write};
 
 /// Prints the numbers of bytes that the words ask for.
 pub fn run<R: Env + Input + Print + AllocGlobal>(rt: &R) -> io::Result<()> {
-    let alloc = rt.alloc();
-    let mut words = env::args(rt)?.skip(2);
-    let word = words.next();
-    let word = word.as_ref().map(|w| w.as_str());
-    let times = match words.next() {
-        Some(times) => times.parse::<u32>().unwrap_or(1),
-        None => 1,
-    };
-    let mut text = Vec::new(alloc);
-    rt.reader().read_to_end(&mut text)?;
-    let texts = [text];
-    let Ok(source) = read_source(alloc, &texts) else {
-        return Err(io::Error::from(ErrorKind::InvalidData));
-    };
-    if word != Some("write") {
-        let Ok(octets) = octets_read(alloc, &source, times) else {
-            return Err(io::Error::from(ErrorKind::InvalidData));
-        };
-        println!(rt; "read {octets}")?;
+    let (reads, writes) = (asks(rt, "read")?, asks(rt, "write")?);
+    let (read, written) = counts(rt, reads, writes, times(rt)?)?;
+    if reads {
+        tell(rt, "read", read)?;
     }
-    if word != Some("read") {
-        let Ok(octets) = octets_written(alloc, &source, times) else {
-            return Err(io::Error::from(ErrorKind::InvalidData));
-        };
-        println!(rt; "written {octets}")?;
+    if writes {
+        tell(rt, "written", written)?;
     }
     Ok(())
+}
+
+/// Returns the numbers that are asked for, and 0 for the others.
+fn counts<R: Input + AllocGlobal>(
+    rt: &R,
+    reads: bool,
+    writes: bool,
+    times: u32,
+) -> io::Result<(usize, usize)> {
+    let source = source(rt)?;
+    let read = if reads {
+        done(octets_read(rt.alloc(), &source, times))?
+    } else {
+        0
+    };
+    let written = if writes {
+        done(octets_written(rt.alloc(), &source, times))?
+    } else {
+        0
+    };
+    Ok((read, written))
+}
+
+/// Returns the source on standard input.
+fn source<R: Input + AllocGlobal>(rt: &R) -> io::Result<Source> {
+    let mut text = Vec::new(rt.alloc());
+    rt.reader().read_to_end(&mut text)?;
+    match read_source(rt.alloc(), &[text]) {
+        Ok(source) => Ok(source),
+        Err(_) => Err(io::Error::from(ErrorKind::InvalidData)),
+    }
+}
+
+/// Returns a number of bytes, if there is no fault.
+fn done(octets: Result<usize, Stop>) -> io::Result<usize> {
+    match octets {
+        Ok(octets) => Ok(octets),
+        Err(_) => Err(io::Error::from(ErrorKind::InvalidData)),
+    }
 }
 
 /// Returns the number of bytes of the footers of all files, after reading them a number of times.

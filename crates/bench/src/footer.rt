@@ -7,9 +7,10 @@
 ghost use Rattle.std.specs.Int.{IsInRange};
 ghost use Rattle.zic_posix.specs.Grammar.{IsEdge};
 
+use crate::words::{asks, tell};
 use std::alloc::{AllocError, Global};
+use std::io;
 use std::rt::Env;
-use std::{env, io};
 use zic_base::State;
 use zic_posix::{Abbr, DayRule, Dst, Edge, Footer};
 
@@ -24,28 +25,46 @@ const FAR_STEP: i64 = 1_844_674_407_371;
 
 const CALLS: u32 = 10_000_000;
 
+/// A loop.
+#[derive(Clone, Copy)]
+enum Loop {
+    Near,
+    Far,
+    Kept,
+    Spans,
+}
+
+impl Loop {
+    /// Returns the word for this loop.
+    fn word(self) -> &'static str {
+        match self {
+            Loop::Near => "near",
+            Loop::Far => "far",
+            Loop::Kept => "kept",
+            Loop::Spans => "spans",
+        }
+    }
+}
+
 /// Prints the sums that the word asks for.
 pub fn run<R: Env + Print + AllocGlobal>(rt: &R) -> io::Result<()> {
-    let word = env::args(rt)?.nth(2);
-    let word = word.as_ref().map(|w| w.as_str());
-    let footer = eastern(rt.alloc())?;
-    if word.unwrap_or("near") == "near" {
-        let total = near_sum(&footer);
-        println!(rt; "near {total}")?;
-    }
-    if word.unwrap_or("far") == "far" {
-        let total = far_sum(&footer);
-        println!(rt; "far {total}")?;
-    }
-    if word.unwrap_or("kept") == "kept" {
-        let total = kept_sum(&footer);
-        println!(rt; "kept {total}")?;
-    }
-    if word.unwrap_or("spans") == "spans" {
-        let total = spans_sum(&footer);
-        println!(rt; "spans {total}")?;
+    for part in [Loop::Near, Loop::Far, Loop::Kept, Loop::Spans] {
+        if asks(rt, part.word())? {
+            tell(rt, part.word(), sum(rt.alloc(), part)?)?;
+        }
     }
     Ok(())
+}
+
+/// Returns the sum of a loop.
+fn sum(alloc: Global, part: Loop) -> Result<i64, AllocError> {
+    let footer = eastern(alloc)?;
+    Ok(match part {
+        Loop::Near => near_sum(&footer),
+        Loop::Far => far_sum(&footer),
+        Loop::Kept => kept_sum(&footer),
+        Loop::Spans => spans_sum(&footer),
+    })
 }
 
 /// Returns the footer `EST5EDT,M3.2.0,M11.1.0`.

@@ -7,6 +7,7 @@ mod files;
 mod footer;
 mod pieces;
 mod rows;
+mod words;
 mod zone;
 
 use std::env;

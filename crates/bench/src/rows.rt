@@ -5,9 +5,10 @@
 
 ghost use Rattle.zic_rows.specs.Instant.{IsRowInstant};
 
+use crate::words::{asks, tell};
 use std::alloc::{AllocError, Global};
+use std::io;
 use std::rt::Env;
-use std::{env, io};
 use zic_base::State;
 use zic_rows::{RowWriter, parse_instant};
 
@@ -24,26 +25,21 @@ const MOST: usize = 60_000;
 
 /// Prints the numbers that the word asks for.
 pub fn run<R: Env + Print + AllocGlobal>(rt: &R) -> io::Result<()> {
-    let word = env::args(rt)?.nth(2);
-    let word = word.as_ref().map(|w| w.as_str());
-    if word.is_none() || word == Some("near") {
-        let total = octets(rt.alloc(), 1)?;
-        println!(rt; "near {total}")?;
+    if asks(rt, "near")? {
+        tell(rt, "near", octets(rt.alloc(), 1)?)?;
     }
-    if word.is_none() || word == Some("far") {
-        let total = octets(rt.alloc(), FAR_STEP)?;
-        println!(rt; "far {total}")?;
+    if asks(rt, "far")? {
+        tell(rt, "far", octets(rt.alloc(), FAR_STEP)?)?;
     }
-    if word.is_none() || word == Some("read") {
-        let total = read_sum();
-        println!(rt; "read {total}")?;
+    if asks(rt, "read")? {
+        tell(rt, "read", read_sum())?;
     }
     Ok(())
 }
 
 /// Returns the number of bytes of rows that are `step` seconds apart. The instants start again
 /// after 136 years.
-fn octets(alloc: Global, step: u32) -> Result<u64, AllocError> {
+fn octets(alloc: Global, step: u32) -> Result<i64, AllocError> {
     let state = State {
         offset: -18_000,
         daylight: false,
@@ -51,27 +47,27 @@ fn octets(alloc: Global, step: u32) -> Result<u64, AllocError> {
     };
     let mut writer = RowWriter::new(state);
     let mut text = Vec::new(alloc);
-    let mut total = 0u64;
+    let mut total = 0i64;
     for call in 0..CALLS {
         if text.len() > MOST {
-            total = total.wrapping_add(text.len() as u64);
+            total = total.wrapping_add(text.len() as i64);
             text.clear();
         }
         text.extend_from_slice(b"America/New_York,1000000000")?;
         let instant = FIRST + i64::from(call.wrapping_mul(step));
         writer.push_rest(&mut text, instant)?;
     }
-    Ok(total.wrapping_add(text.len() as u64))
+    Ok(total.wrapping_add(text.len() as i64))
 }
 
 /// Returns the sum of the ten-digit instants that are read from some digits, at each index in turn.
-fn read_sum() -> u64 {
+fn read_sum() -> i64 {
     let digits = b"1234567890123456789012345678901234567890123456789012345678901234567890";
-    let mut total = 0u64;
+    let mut total = 0i64;
     for call in 0..CALLS {
         let first = call as usize % 50;
         if let Some(instant) = parse_instant(&digits[first..first + 10]) {
-            total = total.wrapping_add(instant.unsigned_abs());
+            total = total.wrapping_add(instant);
         }
     }
     total

@@ -2,7 +2,7 @@
 //! prints the sums, for `bench/zone.sh` to time. The word `rising` or `random` chooses the order of
 //! the instants; without a word it does both.
 
-use std::env;
+use crate::words::{asks, tell};
 use std::io::{self, Read};
 use std::rt::Env;
 use zic_tzif::{Answer, Zone, read};
@@ -17,24 +17,33 @@ const CALLS: u32 = 10_000_000;
 
 /// Prints the sums that the word asks for.
 pub fn run<R: Env + Input + Print + AllocGlobal>(rt: &R) -> io::Result<()> {
-    let word = env::args(rt)?.nth(2);
-    let word = word.as_ref().map(|w| w.as_str());
-    let mut octets = Vec::new(rt.alloc());
-    rt.reader().read_to_end(&mut octets)?;
-    match read(rt.alloc(), &octets) {
-        Ok(zone) => {
-            if word != Some("random") {
-                let total = rising_sum(&zone);
-                println!(rt; "rising {total}")?;
-            }
-            if word != Some("rising") {
-                let total = random_sum(&zone);
-                println!(rt; "random {total}")?;
-            }
-        }
-        Err(_) => println!(rt; "no file")?,
+    let (rising, random) = (asks(rt, "rising")?, asks(rt, "random")?);
+    let Some((first, second)) = sums(rt, rising, random)? else {
+        return println!(rt; "no file");
+    };
+    if rising {
+        tell(rt, "rising", first)?;
+    }
+    if random {
+        tell(rt, "random", second)?;
     }
     Ok(())
+}
+
+/// Returns the sums that are asked for, and 0 for the others, where standard input is a file.
+fn sums<R: Input + AllocGlobal>(
+    rt: &R,
+    rising: bool,
+    random: bool,
+) -> io::Result<Option<(i64, i64)>> {
+    let mut bytes = Vec::new(rt.alloc());
+    rt.reader().read_to_end(&mut bytes)?;
+    let Ok(zone) = read(rt.alloc(), &bytes) else {
+        return Ok(None);
+    };
+    let first = if rising { rising_sum(&zone) } else { 0 };
+    let second = if random { random_sum(&zone) } else { 0 };
+    Ok(Some((first, second)))
 }
 
 fn rising_sum(zone: &Zone) -> i64 {
