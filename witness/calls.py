@@ -9,14 +9,14 @@ A table is a text of blocks, each of which ends at an empty line. A line that be
   pipe TEXT       a pipe that is standard input
   $ WORD...       a call. A word * after an option stands for each value that the option has in VALUES, in turn
 and below a call its answer:
-  > LINE          a line of standard output
+  > LINE          a line of standard output; > ... stands for any lines from there on
   N LINE          the status, where it is not 0, and the first line of standard error
   | LINE          one more line of standard error; | ... stands for any lines from there on
   = PATH FILE     a file that stands below the folder `tree` then, with the bytes of this other file
 `input*N` and `>*N` stand for N such lines.
-Texts, words and lines have the escapes of Python, as \\n, \\x20 and \\xff. The message of status 2 has the text of its line somewhere in
-it, and nowhere the program's path. Each other answer is compared as a whole. All calls begin in a folder of the table's own. Before
-each call the folder `tree` is removed, and made anew if files of the block stand in it.
+Texts, words and lines have the escapes of Python, as \\n, \\x20 and \\xff. The message of status 2 has the text of its line somewhere
+in it, and nowhere the name of the program's file. Each other answer is compared as a whole. All calls begin in a folder of the table's
+own. Before each call the folder `tree` is removed, and made anew if files of the block stand in it.
 """
 import itertools
 import os
@@ -69,14 +69,20 @@ class Call:
             raise ValueError(f'{self.place}: {word} {text}')
 
     def fits(self, done):
-        lines = done.stderr.split(b'\n')
         if self.status == 2:
-            is_told = done.stderr != b'' and self.told[0] in done.stderr and os.fsencode(done.args[0]) not in done.stderr
-        elif self.told[-1:] == [b'...']:
-            is_told = lines[:len(self.told) - 1] == self.told[:-1] and len(self.told) < len(lines)
+            name = os.fsencode(os.path.basename(done.args[0]))
+            is_told = done.stderr != b'' and self.told[0] in done.stderr and name not in done.stderr
         else:
-            is_told = lines == [*self.told, b'']
-        return done.returncode == self.status and done.stdout.split(b'\n') == [*self.out, b''] and is_told
+            is_told = are_lines(done.stderr, self.told)
+        return done.returncode == self.status and are_lines(done.stdout, self.out) and is_told
+
+
+def are_lines(text, wanted):
+    """Returns whether a text has these lines and no others, or any others after them where the last is `...`."""
+    lines = text.split(b'\n')
+    if wanted[-1:] == [b'...']:
+        return lines[:len(wanted) - 1] == wanted[:-1] and len(wanted) <= len(lines)
+    return lines == [*wanted, b'']
 
 
 class Block:

@@ -4,7 +4,7 @@
 usage: records.py FORM [ROW]             prints a column of 5,000 records, of which from that row on each has a fault
        records.py rows TREE COLUMN      prints the rows of a column by the files of a tree
        records.py drip SECONDS          passes standard input on, an octet at a time
-       records.py turns WORD...         runs a program, gives it nine lines, each after the row of the line before it came, and prints the rows
+       records.py turns WORD...         runs a program, gives it nine lines, each after the row of the line before it, and prints the rows
        records.py terminal OUT WORD...  runs a program whose standard input and standard error are a terminal, types three lines on it,
                                         half a second apart, and then the end; its output goes to OUT, and what it tells is printed
 

@@ -8,7 +8,7 @@ use std::sync::Wait;
 use std::sync::atomic::{AtomicU64, Ordering};
 use std::thread::Threads;
 use zic_bulk::*;
-use zic_pieces::Gate;
+use zic_pieces::{Gate, Open};
 use zic_source::{Kind, Place, Stop};
 
 /// Returns the names and the sizes in bytes of the files, in order.
@@ -116,6 +116,13 @@ fn built<R: Threads + Wait + Sync + Abort, G: Gate + Sync>(
     let texts = [copy_of(rt, alloc, text)];
     let plan = must(rt, Plan::new(workers, 1, 1, 0, 0).ok_or(()));
     build(rt, alloc, &texts, &plan, gate)
+}
+
+#[test]
+fn no_texts_have_no_files(rt: HostRuntime) {
+    let plan = must(&rt, Plan::new(2, 1, 1, 0, 0).ok_or(()));
+    let files = must(&rt, build(&rt, rt.alloc(), &[], &plan, &Open));
+    expect(&rt, files.len() == 0, "no files");
 }
 
 /// Counts how often each of the pieces 0 to 3 enters, and how often others do.

@@ -2,6 +2,8 @@
 //! a function of its own: the check of a test takes in each way in which a call of it can end, with
 //! all that is dropped there, and the text of each message.
 
+ghost use Rattle.std.specs.Prelude.{◌≡◌, true};
+
 use std::alloc::Global;
 use std::io::{self, ErrorKind, Read, Write};
 use std::process::Abort;
@@ -25,7 +27,9 @@ pub fn must<T, E: Drop>(rt: &impl Abort, made: Result<T, E>) -> T {
 }
 
 /// Ends the test where something is not so.
-pub fn expect(rt: &impl Abort, is_so: bool, what: &str) {
+pub fn expect(rt: &impl Abort, is_so: bool, what: &str)
+    ensures { is_so ≡ true }
+{
     assert!(rt; is_so, "{what}");
 }
 
