@@ -1,7 +1,7 @@
 #!/usr/bin/env bash
 # Checks the messages, statuses, files and rows of the built program: the sources of
-# witness/checks.txt, usage, paths that can't be read or written, outputs that fail, limits,
-# columns, little memory, and builds that are killed. As root, it tries a read-only folder as the
+# witness/checks.txt, the calls of witness/calls, usage, paths that can't be read or written,
+# outputs that fail, limits, columns, little memory, and builds that are killed. As root, it tries a read-only folder as the
 # user nobody. Compares rows also with Python's zoneinfo over the files of the system's zic. Needs
 # `python3` 3.9 or later.
 set -euo pipefail
@@ -12,6 +12,8 @@ program=$PWD/crates/zic_main/out/zic_main
 table=$PWD/witness/checks.txt
 columns=$PWD/witness/records.py
 help=$PWD/docs/help
+tables=("$PWD"/witness/calls/*.txt)
+caller=$PWD/witness/calls.py
 cd "$work"
 mkdir asked
 cd asked
@@ -140,6 +142,10 @@ while IFS= read -r line; do
     begin_block
 done < <(sed 's/^= /=/' "$table" && echo)
 
+# ------------------------------------------------------------------ tables of calls
+
+python3 "$caller" "$program" "${tables[@]}" | sed 's/^/program: /' || differ 'answers to the calls of witness/calls differ'
+
 # ------------------------------------------------------------------ limits
 
 { printf '#%2047s\n' '' && echo 'Zone A 0 - UTC'; } >long
@@ -207,6 +213,10 @@ expect_usage help
 # what errors mean: .ci/pages.sh compares the texts with the pages
 for word in keyword 'Keyword ' '' --workers; do expect_usage explain "$word"; done
 expect_usage explain Keyword Name
+ask explain
+[ "$(wc -l <../out)" = 61 ] && [[ $(head -n 1 ../out) = 'NotAscii: A byte outside a comment is '* ]] &&
+    grep -qx 'RowZone: The source has no zone or link of that name.' ../out ||
+    differ "pzic explain: $(wc -l <../out) lines"
 ask explain RowZon
 [[ $(cat ../err) = *"the nearest is 'RowZone'"* ]] || differ "pzic explain RowZon: '$(cat ../err)'"
 ask explain ColumnTooLong
@@ -412,7 +422,7 @@ expect 0 'unspecified' '' show cut 1257055200
 
 # Standard error goes to ../err, where `told` reads it; `told` also needs the status.
 : >../out
-for command in 'check plain' "show $file 0"; do
+for command in 'check plain' "show $file 0" "dump $file"; do
     status=0
     "$program" $command >&- 2>../err || status=$?
     told "pzic $command >&-" 3 '' 'cannot write output'
@@ -485,6 +495,8 @@ input=column
 expect 1 '' 'line 1: Keyword' convert faulty
 expect 3 '' 'cannot read nowhere' convert nowhere
 expect_usage convert --row-piece 0 nowhere
+rest=$({ "$program" convert faulty 2>../err || cat; } <column)
+[ "$rest" = x ] || differ "of the column of a faulty source only '$rest' is left"
 expect 1 '' 'row 1: RowFields' convert plain
 input=/
 expect 3 '' 'cannot read column' convert plain
@@ -547,6 +559,13 @@ for seconds in 0 0.005; do
 done
 rm pipe
 input=/dev/null
+# No row waits for the next line.
+for words in '--workers 1 --row-piece 100' '--workers 2 --row-piece 3' '--workers 8 --row-piece 100'; do
+    status=0
+    # shellcheck disable=SC2086
+    python3 "$columns" turns "$program" convert $words plain >../out 2>../err || status=$?
+    told "pzic convert $words plain, line by line" 0 "$(for _ in 1 2 3 4 5 6 7 8 9; do echo "$utc"; done)" ''
+done
 yes Etc/UTC,0 | { "$program" convert plain 2>../err || echo $? >../status; } | head -c 100 >../out || true
 status=$(cat ../status)
 [ "$(cat ../out)" = "$utc"$'\n'"$utc"$'\n'Etc/UTC, ] || differ "the first rows of a column without end differ: $(cat ../out)"

@@ -4,6 +4,7 @@
 usage: records.py FORM [ROW]             prints a column of 5,000 records, of which from that row on each has a fault
        records.py rows TREE COLUMN      prints the rows of a column by the files of a tree
        records.py drip SECONDS          passes standard input on, an octet at a time
+       records.py turns WORD...         runs a program, gives it nine lines, each after the row of the line before it, and prints the rows
        records.py terminal OUT WORD...  runs a program whose standard input and standard error are a terminal, types three lines on it,
                                         half a second apart, and then the end; its output goes to OUT, and what it tells is printed
 
@@ -15,6 +16,7 @@ import csv
 import io
 import os
 import pty
+import select
 import subprocess
 import sys
 import termios
@@ -75,6 +77,20 @@ def drip(seconds):
         time.sleep(seconds)
 
 
+def turns(words):
+    program = subprocess.Popen(words, stdin=subprocess.PIPE, stdout=subprocess.PIPE)
+    for _ in range(9):
+        program.stdin.write(b"Etc/UTC,0\n")
+        program.stdin.flush()
+        if not select.select([program.stdout], [], [], 10)[0]:
+            program.kill()
+            sys.exit("no row came before the next line")
+        sys.stdout.buffer.write(os.read(program.stdout.fileno(), 4096))
+    program.stdin.close()
+    sys.stdout.buffer.write(program.stdout.read())
+    return program.wait(30)
+
+
 def terminal(out, words):
     here, there = pty.openpty()
     modes = termios.tcgetattr(there)
@@ -103,6 +119,8 @@ if sys.argv[1] == "rows":
     sys.stdout.write(rows(sys.argv[2], sys.argv[3]))
 elif sys.argv[1] == "drip":
     drip(float(sys.argv[2]))
+elif sys.argv[1] == "turns":
+    sys.exit(turns(sys.argv[2:]))
 elif sys.argv[1] == "terminal":
     sys.exit(terminal(sys.argv[2], sys.argv[3:]))
 else:

@@ -3,21 +3,20 @@
 ghost use Rattle.std.specs.Prelude.{◌≡◌, ◌≤◌, IfOk};
 ghost use Rattle.zic_counted.specs.Counts.{HasFailedSince};
 
+use crate::samples::{expect, expect_text, must};
 use std::io::{self, ErrorKind, Read, Write};
-use std::process::Abort;
-use std::test::Fail;
 use zic_counted::{Counted, WriteFailed, flush, write_all};
 
-/// What a call is answered.
-#[derive(Clone, Copy, Debug, PartialEq, Eq)]
-enum Answer {
-    Bytes(usize),
-    Error(ErrorKind),
-}
+/// What a call is answered: a number of bytes, or an error.
+type Answer = Result<usize, ErrorKind>;
+
+const INTERRUPTED: Answer = Err(ErrorKind::Interrupted);
+
+const OTHER: Answer = Err(ErrorKind::Other);
 
 /// Answers each call with the first of its answers, which it drops, and from then on with no
 /// bytes.
-#[derive(Debug, Drop)]
+#[derive(Drop)]
 struct Scripted<'a> {
     answers: &'a [Answer],
 }
@@ -32,8 +31,8 @@ impl Scripted<'_> {
         };
         self.answers = rest;
         match first {
-            Answer::Bytes(n) => Ok((*n).min(room)),
-            Answer::Error(kind) => Err(io::Error::from(*kind)),
+            Ok(n) => Ok((*n).min(room)),
+            Err(kind) => Err(io::Error::from(*kind)),
         }
     }
 }
@@ -55,90 +54,81 @@ impl Write for Scripted<'_> {
     }
 }
 
-/// Returns the answer that was given.
-fn told(answer: io::Result<usize>) -> Answer {
-    match answer {
-        Ok(n) => Answer::Bytes(n),
-        Err(e) => Answer::Error(e.kind()),
+/// Returns whether this answer was given.
+fn is_given(given: io::Result<usize>, answer: Answer) -> bool {
+    match given {
+        Ok(n) => answer == Ok(n),
+        Err(e) => answer == Err(e.kind()),
     }
 }
 
-const INTERRUPTED: Answer = Answer::Error(ErrorKind::Interrupted);
-
-const OTHER: Answer = Answer::Error(ErrorKind::Other);
-
-const ONE: Answer = Answer::Bytes(1);
-
-const ALL: Answer = Answer::Bytes(4);
-
-/// Checks that a reader passes these answers on, and what it has counted then.
-fn expect_reads(rt: &impl Abort, answers: &[Answer], failures: u64, taken: u64) {
+/// Returns whether a reader passes these answers on and has then counted this.
+fn are_read(answers: &[Answer], failures: u64, taken: u64) -> bool {
     let mut reader = Counted::new(Scripted { answers });
+    let mut passed = true;
     for answer in answers {
-        assert_eq!(rt; told(reader.read(&mut [0; 4])), *answer);
+        passed = is_given(reader.read(&mut [0; 4]), *answer) && passed;
     }
-    assert_eq!(rt; reader.failures(), failures, "{answers:?}");
-    assert_eq!(rt; reader.taken(), taken, "{answers:?}");
-    assert!(rt; reader.into_inner().answers.is_empty());
+    let counted = reader.failures() == failures && reader.taken() == taken;
+    passed && counted && reader.into_inner().answers.is_empty()
 }
 
-/// Checks that a writer passes these answers on, each to a write of the bytes, and how many
-/// failures it has counted then.
-fn expect_writes(rt: &impl Abort, answers: &[Answer], bytes: &[u8], failures: u64) {
+/// Returns whether a writer passes these answers on, each to a write of the bytes, or to a flush,
+/// and has then counted this many failures.
+fn are_written(answers: &[Answer], bytes: Option<&[u8]>, failures: u64) -> bool {
     let mut writer = Counted::new(Scripted { answers });
+    let mut passed = true;
     for answer in answers {
-        assert_eq!(rt; told(writer.write(bytes)), *answer);
+        let given = match bytes {
+            Some(bytes) => writer.write(bytes),
+            None => writer.flush().map(|()| 0),
+        };
+        passed = is_given(given, *answer) && passed;
     }
-    assert_eq!(rt; writer.failures(), failures, "{answers:?}");
-    assert_eq!(rt; writer.taken(), 0, "{answers:?}");
-    assert!(rt; writer.into_inner().answers.is_empty());
+    let counted = writer.failures() == failures && writer.taken() == 0;
+    passed && counted && writer.into_inner().answers.is_empty()
 }
 
 /// Answers of a reader, the failures that are counted then, and the bytes.
-static READS: [(&[Answer], u64, u64); 6] = [
-    (&[Answer::Bytes(3)], 0, 3),
-    (&[Answer::Bytes(4), Answer::Bytes(2)], 0, 6),
-    (&[Answer::Bytes(0)], 0, 0),
-    (&[OTHER], 1, 0),
-    (&[INTERRUPTED], 1, 0),
+static READS: [(&str, &[Answer], u64, u64); 6] = [
+    ("3", &[Ok(3)], 0, 3),
+    ("4 2", &[Ok(4), Ok(2)], 0, 6),
+    ("0", &[Ok(0)], 0, 0),
+    ("other", &[OTHER], 1, 0),
+    ("interrupted", &[INTERRUPTED], 1, 0),
     (
-        &[Answer::Bytes(1), OTHER, Answer::Bytes(2), INTERRUPTED],
+        "1 other 2 interrupted",
+        &[Ok(1), OTHER, Ok(2), INTERRUPTED],
         2,
         3,
     ),
 ];
 
-/// Answers of a writer, the bytes of each write, and the failures that are counted then: errors, and
-/// that of some bytes none was taken.
-static WRITES: [(&[Answer], &[u8], u64); 7] = [
-    (&[Answer::Bytes(4)], b"abcd", 0),
-    (&[Answer::Bytes(1), Answer::Bytes(2)], b"abcd", 0),
-    (&[Answer::Bytes(0)], b"abcd", 1),
-    (&[Answer::Bytes(0)], b"", 0),
-    (&[OTHER], b"", 1),
-    (&[INTERRUPTED], b"abcd", 1),
-    (&[Answer::Bytes(0), Answer::Bytes(1), OTHER], b"a", 2),
+/// Answers of a writer, the bytes of each write, or none for flushes, and the failures that are
+/// counted then: errors, and that of some bytes none was taken.
+static WRITES: [(&str, &[Answer], Option<&[u8]>, u64); 8] = [
+    ("4", &[Ok(4)], Some(b"abcd"), 0),
+    ("1 2", &[Ok(1), Ok(2)], Some(b"abcd"), 0),
+    ("0", &[Ok(0)], Some(b"abcd"), 1),
+    ("0 of none", &[Ok(0)], Some(b""), 0),
+    ("other", &[OTHER], Some(b""), 1),
+    ("interrupted", &[INTERRUPTED], Some(b"abcd"), 1),
+    ("0 1 other", &[Ok(0), Ok(1), OTHER], Some(b"a"), 2),
+    ("flushes", &[Ok(0), OTHER, INTERRUPTED], None, 2),
 ];
 
 #[test]
 fn reads_writes_and_flushes_are_counted_and_passed_on(rt: HostRuntime) {
-    for (answers, failures, taken) in &READS {
-        expect_reads(&rt, *answers, *failures, *taken);
+    for (title, answers, failures, taken) in &READS {
+        expect(&rt, are_read(*answers, *failures, *taken), *title);
     }
-    for (answers, bytes, failures) in &WRITES {
-        expect_writes(&rt, *answers, *bytes, *failures);
+    for (title, answers, bytes, failures) in &WRITES {
+        expect(&rt, are_written(*answers, *bytes, *failures), *title);
     }
-    let answers = [Answer::Bytes(0), OTHER, INTERRUPTED];
-    let mut writer = Counted::new(Scripted { answers: &answers });
-    for answer in &answers {
-        assert_eq!(rt; told(writer.flush().map(|()| 0)), *answer);
-    }
-    assert_eq!(rt; writer.failures(), 2);
-    assert!(rt; writer.into_inner().answers.is_empty());
 }
 
 /// Why a reader is not read whole.
-#[derive(Clone, Copy, Debug, PartialEq, Eq)]
+#[derive(Clone, Copy)]
 enum Unread {
     ReadFailed,
     /// Memory ran out, or there were too many tries.
@@ -158,78 +148,83 @@ fn read_whole<R: Read>(reader: &mut Counted<R>, bytes: &mut Vec<u8>) -> Result<u
     }
 }
 
+/// The last ends a reading of all.
+const GIVEN: [Answer; 4] = [Ok(3), INTERRUPTED, Ok(2), OTHER];
+
 #[test]
 fn callers_tell_failed_reads(rt: HostRuntime) {
-    let alloc = rt.alloc();
-    let given = [Answer::Bytes(3), INTERRUPTED, Answer::Bytes(2), OTHER];
+    let mut bytes = Vec::new(rt.alloc());
     let mut reader = Counted::new(Scripted {
-        answers: &given[..3],
+        answers: &GIVEN[..3],
     });
-    assert_eq!(rt; read_whole(&mut reader, &mut Vec::new(alloc)), Ok(5));
-    assert_eq!(rt; reader.failures(), 1);
-    let mut reader = Counted::new(Scripted { answers: &given });
-    assert_eq!(rt;
-        read_whole(&mut reader, &mut Vec::new(alloc)),
-        Err(Unread::ReadFailed)
+    let read = read_whole(&mut reader, &mut bytes);
+    expect(
+        &rt,
+        matches!(read, Ok(5)) && reader.failures() == 1,
+        "five bytes",
     );
-    assert_eq!(rt; reader.failures(), 2);
+    let mut reader = Counted::new(Scripted { answers: &GIVEN });
+    let read = read_whole(&mut reader, &mut bytes);
+    let is_told = matches!(read, Err(Unread::ReadFailed));
+    expect(&rt, is_told && reader.failures() == 2, "a failed read");
 }
 
 #[test]
 fn other_errors_are_no_failures(rt: HostRuntime) {
     let mut reader = Counted::new(b"abc".as_slice());
     let mut bytes = [0; 2];
-    assert!(rt; reader.read_exact(&mut bytes).is_ok());
-    assert_eq!(rt; bytes, *b"ab");
-    assert!(rt; reader.read_exact(&mut bytes).is_err());
-    assert!(rt; !reader.has_failed_since(0));
-    assert_eq!(rt; reader.taken(), 3);
-    assert!(rt; reader.into_inner().is_empty());
+    must(&rt, reader.read_exact(&mut bytes));
+    expect_text(&rt, &bytes, b"ab", "two bytes");
+    let few = reader.read_exact(&mut bytes).is_err();
+    expect(&rt, few && !reader.has_failed_since(0), "too few bytes");
+    let taken = reader.taken();
+    expect(
+        &rt,
+        taken == 3 && reader.into_inner().is_empty(),
+        "what was taken",
+    );
 }
 
 #[test]
-fn bytes_are_those_of_the_writer(rt: HostRuntime) -> Result<(), Fail> {
+fn bytes_are_those_of_the_writer(rt: HostRuntime) {
     let mut writer = Counted::new(Vec::new(rt.alloc()));
-    writer.write_all(b"ab")?;
-    writer.write_all(b"c")?;
-    writer.flush()?;
-    assert!(rt; !writer.has_failed_since(0));
-    assert_eq!(rt; writer.into_inner().as_slice(), b"abc".as_slice());
-    Ok(())
+    must(&rt, writer.write_all(b"ab"));
+    must(&rt, writer.write_all(b"c"));
+    must(&rt, writer.flush());
+    expect(&rt, !writer.has_failed_since(0), "no failure");
+    expect_text(&rt, &writer.into_inner(), b"abc", "all bytes");
 }
 
-/// Checks what a write of all of `abcd` to a writer with these answers comes to, and how many
-/// answers it left unasked.
-fn expect_write_all(
-    rt: &impl Abort,
-    answers: &[Answer],
-    want: Result<(), WriteFailed>,
-    unasked: usize,
-) {
-    let mut writer = Counted::new(Scripted { answers });
-    assert_eq!(rt; write_all(&mut writer, b"abcd"), want, "{answers:?}");
-    assert_eq!(rt; writer.has_failed_since(0), want.is_err(), "{answers:?}");
-    assert_eq!(rt; writer.into_inner().answers.len(), unasked, "{answers:?}");
-}
-
-/// Answers of a writer, whether all is written, and how many answers are left unasked.
-static WHOLE: [(&[Answer], Result<(), WriteFailed>, usize); 5] = [
-    (&[ONE, ONE, Answer::Bytes(2), ALL], Ok(()), 1),
-    (&[ALL, OTHER], Ok(()), 1),
-    (&[ONE, OTHER, ALL], Err(WriteFailed), 1),
-    (&[INTERRUPTED, ALL], Err(WriteFailed), 1),
-    (&[ONE, Answer::Bytes(0), ALL], Err(WriteFailed), 1),
+/// Answers of a writer, whether all of `abcd` is written, and how many answers are left unasked.
+static WHOLE: [(&str, &[Answer], bool, usize); 5] = [
+    ("1 1 2", &[Ok(1), Ok(1), Ok(2), Ok(4)], true, 1),
+    ("4", &[Ok(4), OTHER], true, 1),
+    ("1 other", &[Ok(1), OTHER, Ok(4)], false, 1),
+    ("interrupted", &[INTERRUPTED, Ok(4)], false, 1),
+    ("1 0", &[Ok(1), Ok(0), Ok(4)], false, 1),
 ];
+
+/// Returns whether a write of all of `abcd` to a writer with these answers comes to this.
+fn is_whole(answers: &[Answer], all: bool, unasked: usize) -> bool {
+    let mut writer = Counted::new(Scripted { answers });
+    let told = match write_all(&mut writer, b"abcd") {
+        Ok(()) => all,
+        Err(WriteFailed) => !all,
+    };
+    let failed = writer.has_failed_since(0);
+    told && failed != all && writer.into_inner().answers.len() == unasked
+}
 
 #[test]
 fn all_is_written_up_to_the_first_failure_also_of_a_flush(rt: HostRuntime) {
-    for (answers, want, unasked) in &WHOLE {
-        expect_write_all(&rt, *answers, *want, *unasked);
+    for (title, answers, all, unasked) in &WHOLE {
+        expect(&rt, is_whole(*answers, *all, *unasked), *title);
     }
-    let answers = [Answer::Bytes(0), OTHER];
-    let mut writer = Counted::new(Scripted { answers: &answers });
-    assert_eq!(rt; flush(&mut writer), Ok(()));
-    assert!(rt; !writer.has_failed_since(0));
-    assert_eq!(rt; flush(&mut writer), Err(WriteFailed));
-    assert!(rt; writer.has_failed_since(0));
+    let mut writer = Counted::new(Scripted {
+        answers: &[Ok(0), OTHER],
+    });
+    let flushed = flush(&mut writer).is_ok() && !writer.has_failed_since(0);
+    expect(&rt, flushed, "the first flush");
+    let failed = flush(&mut writer).is_err() && writer.has_failed_since(0);
+    expect(&rt, failed, "the second flush");
 }

@@ -1,151 +1,178 @@
-//! The files of sources, compared with expected values.
+//! The files of sources, and workers that wait for each other at the gate. Which files sources have
+//! is in witness/calls/trees.txt.
 
-mod building;
-
-use crate::samples::{US, UTC_FILE, files_of};
+use crate::samples::{Hold, copy_of, expect, expect_text, files_of, must};
 use std::alloc::Global;
-use std::test::Fail;
+use std::process::Abort;
+use std::sync::Wait;
+use std::sync::atomic::{AtomicU64, Ordering};
+use std::thread::Threads;
 use zic_bulk::*;
+use zic_pieces::{Gate, Open};
 use zic_source::{Kind, Place, Stop};
 
-/// The file of a zone with the US rules from 2007 on and a standard time of -5:00. Its second block
-/// has six transitions, their types, two local time types and their designations.
-const NEW_YORK_FILE: &[u8; 193] = b"TZif2\0\0\0\0\0\0\0\0\0\0\0\0\0\0\0\
-\0\0\0\0\0\0\0\0\0\0\0\0\0\0\0\0\0\0\0\x01\0\0\0\x01\
-\0\0\0\0\0\0\0\
-TZif2\0\0\0\0\0\0\0\0\0\0\0\0\0\0\0\
-\0\0\0\0\0\0\0\0\0\0\0\0\0\0\0\x06\0\0\0\x02\0\0\0\x08\
-\0\0\0\0\x45\xf3\xa8\xf0\0\0\0\0\x47\x2d\x5f\xe0\0\0\0\0\x47\xd3\x8a\xf0\
-\0\0\0\0\x49\x0d\x41\xe0\0\0\0\0\x49\xb3\x6c\xf0\0\0\0\0\x4a\xed\x23\xe0\
-\x01\0\x01\0\x01\0\xff\xff\xb9\xb0\0\0\xff\xff\xc7\xc0\x01\x04EST\0EDT\0\
-\nEST5EDT,M3.2.0,M11.1.0\n";
-
 /// Returns the names and the sizes in bytes of the files, in order.
-fn listed(alloc: Global, files: &Files) -> Result<String, Fail> {
-    let mut lines = String::new(alloc);
+fn listed(rt: &impl Abort, alloc: Global, files: &Files) -> Vec<u8> {
+    let mut lines = Vec::new(alloc);
     for file in 0..files.len() {
-        let name = Vec::from_slice(alloc, files.name(file))?;
-        let name = String::from_utf8(name).ok().ok_or("no text")?;
-        let line = format!(in alloc; "{name} {}\n", files.bytes(file).len())?;
-        lines.push_str(line.as_str())?;
+        must(rt, lines.extend_from_slice(files.name(file)));
+        let size = files.bytes(file).len();
+        let size = must(rt, format!(in alloc; " {size}\n"));
+        must(rt, lines.extend_from_slice(size.as_bytes()));
     }
-    Ok(lines)
+    lines
 }
 
 /// Texts, and the names and sizes of their files.
-static FILES: [(&[&str], &str); 4] = [
-    (&[], ""),
-    (&[US, "Zone Z/NY -5:00 US E%sT"], "Z/NY 193\n"),
-    (
-        &["Link Etc/UTC A", "Zone Etc/UTC 0 - UTC"],
-        "A 111\nEtc/UTC 111\n",
-    ),
+static FILES: [(&[&str], &[u8]); 2] = [
+    (&[], b""),
     (
         &[
             "Zone A -3 - %z\nLink A B\nLink D E",
             "Link A C\nZone D 5:30 - %z",
         ],
-        "A 113\nB 113\nE 121\nC 113\nD 121\n",
+        b"A 113\nB 113\nE 121\nC 113\nD 121\n",
     ),
 ];
 
 #[test]
-fn files_stand_in_the_order_of_texts_and_lines(rt: HostRuntime) -> Result<(), Fail> {
-    let alloc = rt.alloc();
+fn files_stand_in_the_order_of_texts_and_lines(rt: HostRuntime) {
     for (texts, want) in &FILES {
-        let files = files_of(alloc, *texts).ok().ok_or("no files")?;
-        let lines = listed(alloc, &files)?;
-        assert_eq!(rt; lines.as_str(), *want, "of {texts:?}");
+        let files = must(&rt, files_of(rt.alloc(), *texts));
+        let lines = listed(&rt, rt.alloc(), &files);
+        expect_text(&rt, &lines, *want, "the files");
     }
-    // A link has the bytes of the zone at the end of its chain.
-    let text = "Link B C\nLink A B\nLink Etc/UTC A\nZone Etc/UTC 0 - UTC";
-    let files = files_of(alloc, &[text]).ok().ok_or("no files")?;
-    let lines = listed(alloc, &files)?;
-    assert_eq!(rt; lines.as_str(), "C 111\nB 111\nA 111\nEtc/UTC 111\n");
-    for file in 0..files.len() {
-        assert_eq!(rt; files.bytes(file), UTC_FILE.as_slice(), "of file {file}");
-        assert_eq!(rt;
-            files.zone(file).footer_text(),
-            b"UTC0".as_slice(),
-            "of file {file}"
-        );
-    }
-    Ok(())
 }
 
-#[test]
-fn a_file_is_found_by_its_whole_name(rt: HostRuntime) -> Result<(), Fail> {
-    let text = "Link Etc/UTC A\nZone Etc/UTC 0 - UTC\nLink A Etc/UT";
-    let files = files_of(rt.alloc(), &[text]).ok().ok_or("no files")?;
-    let rows = [
-        ("A", Some(0)),
-        ("Etc/UTC", Some(1)),
-        ("Etc/UT", Some(2)),
-        ("Etc", None),
-        ("Etc/UTC1", None),
-        ("a", None),
-        ("", None),
-    ];
-    for (name, want) in rows {
-        assert_eq!(rt; files.find(name.as_bytes()), want, "of {name}");
-    }
-    Ok(())
-}
-
-/// Texts, and the text, the line and the kind of their first fault.
-static FAULTS: [(&[&str], u64, u64, Kind); 8] = [
-    (
-        &["Zone Z/E 0 - AAA 2000", "0 - BBB"],
-        1,
-        1,
-        Kind::NoContinuation,
-    ),
-    (&["Zone A 0 - UTC", "-6:00 - CST"], 2, 1, Kind::Keyword),
-    (
-        &["Zone A 0 - UTC", "Zone A 0 - UTC"],
-        2,
-        1,
-        Kind::DuplicateName,
-    ),
-    (&["Link X Y", "Zone /A 0 - UTC"], 2, 1, Kind::Name),
-    (
-        &["", "Zone Z/P 1:00 1:00 XXX"],
-        2,
-        1,
-        Kind::PermanentDaylight,
-    ),
-    (
-        &["Zone A 0 - UTC\nZone Z/4 1:00 1:00 XXX\nLink A B\nZone Z/8 0 - AB"],
-        1,
-        2,
-        Kind::PermanentDaylight,
-    ),
-    (
-        &[
-            "Link Z/4 B\nZone A 0 - UTC\nZone Z/8 0 - AB",
-            "Zone Z/4 1:00 1:00 XXX",
-        ],
-        1,
-        3,
-        Kind::BadAbbreviation,
-    ),
-    (
-        &["Zone Z/O 24:00 1:00 ABC\nZone Z/8 0 - AB"],
-        1,
-        1,
-        Kind::OffsetRange,
-    ),
+/// Names, and the numbers of their files.
+static NAMES: [(&str, Option<usize>); 7] = [
+    ("A", Some(0)),
+    ("Etc/UTC", Some(1)),
+    ("Etc/UT", Some(2)),
+    ("Etc", None),
+    ("Etc/UTC1", None),
+    ("a", None),
+    ("", None),
 ];
 
 #[test]
-fn the_fault_is_that_of_the_first_zone(rt: HostRuntime) -> Result<(), Fail> {
-    for (texts, text, line, kind) in &FAULTS {
-        let stop = files_of(rt.alloc(), *texts).err().ok_or("files")?;
-        let place = Place {
-            text: *text,
-            line: *line,
-        };
-        assert_eq!(rt; stop, Stop::at(place, *kind), "of {texts:?}");
+fn a_file_is_found_by_its_whole_name(rt: HostRuntime) {
+    let text = "Link Etc/UTC A\nZone Etc/UTC 0 - UTC\nLink A Etc/UT";
+    let files = must(&rt, files_of(rt.alloc(), &[text]));
+    for (name, want) in &NAMES {
+        expect(&rt, files.find(name.as_bytes()) == *want, *name);
     }
-    Ok(())
+    for file in 0..files.len() {
+        let footer = files.zone(file).footer_text();
+        expect_text(&rt, footer, b"UTC0", "a footer");
+    }
+}
+
+#[test]
+fn the_fault_is_that_of_the_first_zone(rt: HostRuntime) {
+    let place = Place { text: 2, line: 1 };
+    let want = Stop::at(place, Kind::PermanentDaylight);
+    let files = files_of(rt.alloc(), &["", "Zone Z/P 1:00 1:00 XXX"]);
+    expect(&rt, files.err() == Some(want), "the fault");
+}
+
+/// The numbers of a plan, and whether they are within their limits.
+static LIMITS: [([u64; 5], bool); 10] = [
+    ([64, 65_536, 65_536, 100_000_000, 4_294_967_296], true),
+    ([1, 1, 1, 0, 0], true),
+    ([0, 1, 1, 0, 0], false),
+    ([65, 1, 1, 0, 0], false),
+    ([1, 0, 1, 0, 0], false),
+    ([1, 65_537, 1, 0, 0], false),
+    ([1, 1, 0, 0, 0], false),
+    ([1, 1, 65_537, 0, 0], false),
+    ([1, 1, 1, 100_000_001, 0], false),
+    ([1, 1, 1, 0, 4_294_967_297], false),
+];
+
+#[test]
+fn plans_are_within_their_limits(rt: HostRuntime) {
+    for (numbers, want) in &LIMITS {
+        let [workers, zones, rows, max_rows, max_bytes] = *numbers;
+        let plan = Plan::new(workers, zones, rows, max_rows, max_bytes);
+        expect(&rt, plan.is_some() == *want, "a plan");
+        if let Some(plan) = plan {
+            let pieces = [plan.workers(), plan.zone_piece(), plan.row_piece()];
+            expect(&rt, pieces == [workers, zones, rows], "its pieces");
+            let limits = [plan.max_rows(), plan.max_bytes()];
+            expect(&rt, limits == [max_rows, max_bytes], "its limits");
+        }
+    }
+}
+
+/// Builds with a number of workers and pieces of one zone.
+fn built<R: Threads + Wait + Sync + Abort, G: Gate + Sync>(
+    rt: &R,
+    alloc: Global,
+    text: &str,
+    workers: u64,
+    gate: &G,
+) -> Result<Files, RunStop> {
+    let texts = [copy_of(rt, alloc, text)];
+    let plan = must(rt, Plan::new(workers, 1, 1, 0, 0).ok_or(()));
+    build(rt, alloc, &texts, &plan, gate)
+}
+
+#[test]
+fn no_texts_have_no_files(rt: HostRuntime) {
+    let plan = must(&rt, Plan::new(2, 1, 1, 0, 0).ok_or(()));
+    let files = must(&rt, build(&rt, rt.alloc(), &[], &plan, &Open));
+    expect(&rt, files.len() == 0, "no files");
+}
+
+/// Counts how often each of the pieces 0 to 3 enters, and how often others do.
+#[derive(Drop)]
+struct Counter {
+    first: [AtomicU64; 4],
+    others: AtomicU64,
+}
+
+impl Gate for Counter {
+    fn enter(&self, i: u64) {
+        let counted = if i < 4 {
+            &self.first[i as usize]
+        } else {
+            &self.others
+        };
+        counted.fetch_add(1, Ordering::SeqCst);
+    }
+}
+
+/// Nine zones. The fourth and the eighth have a fault.
+const NINE: &str =
+    "Zone Z/1 0 - AAA\nZone Z/2 0 - AAA\nZone Z/3 0 - AAA\nZone Z/4 1:00 1:00 XXX\nZone Z/5 0 - AAA\n\
+Zone Z/6 0 - AAA\nZone Z/7 0 - AAA\nZone Z/8 0 - AB\nZone Z/9 0 - AAA\n";
+
+#[test]
+fn no_piece_after_the_fault_is_begun(rt: HostRuntime) {
+    let gate = Counter {
+        first: [
+            AtomicU64::new(0),
+            AtomicU64::new(0),
+            AtomicU64::new(0),
+            AtomicU64::new(0),
+        ],
+        others: AtomicU64::new(0),
+    };
+    let files = built(&rt, rt.alloc(), NINE, 1, &gate);
+    expect(&rt, files.is_err(), "a fault");
+    for entered in &gate.first {
+        expect(&rt, entered.load(Ordering::SeqCst) == 1, "a piece");
+    }
+    expect(&rt, gate.others.load(Ordering::SeqCst) == 0, "other pieces");
+}
+
+#[test]
+fn two_workers_are_at_the_gate_at_once(rt: HostRuntime) {
+    let gate = Hold::new();
+    let text = "Zone A -3 - %z\nZone Etc/UTC 0 - UTC";
+    let files = must(&rt, built(&rt, rt.alloc(), text, 2, &gate));
+    let lines = listed(&rt, rt.alloc(), &files);
+    expect_text(&rt, &lines, b"A 113\nEtc/UTC 111\n", "the files");
+    expect(&rt, !gate.is_late(), "two workers at once");
 }

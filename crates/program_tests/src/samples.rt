@@ -1,7 +1,12 @@
-//! Sources and files of the tests, and the calls that many tests make, each in a function of its
-//! own: a check of a test takes in the contract of each function that it calls.
+//! Sources, files and readers of the tests, and the calls and checks that many tests make, each in
+//! a function of its own: the check of a test takes in each way in which a call of it can end, with
+//! all that is dropped there, and the text of each message.
+
+ghost use Rattle.std.specs.Prelude.{◌≡◌, true};
 
 use std::alloc::Global;
+use std::io::{self, ErrorKind, Read, Write};
+use std::process::Abort;
 use std::sync::atomic::{AtomicU64, Ordering};
 use std::thread;
 use zic_bulk::{Files, compile};
@@ -13,13 +18,30 @@ use zic_source::{Stop, read_source};
 pub const UTC_FILE: &[u8; 111] =
     b"TZif2\0\0\0\0\0\0\0\0\0\0\0\0\0\0\0\0\0\0\0\0\0\0\0\0\0\0\0\0\0\0\0\0\0\0\x01\0\0\0\x01\0\0\0\0\0\0\0TZif2\0\0\0\0\0\0\0\0\0\0\0\0\0\0\0\0\0\0\0\0\0\0\0\0\0\0\0\0\0\0\0\0\0\0\x01\0\0\0\x04\0\0\0\0\0\0UTC\0\nUTC0\n";
 
-/// The rules of the United States from 2007 on.
-pub const US: &str =
-    "Rule US 2007 max - Mar Sun>=8 2:00 1:00 D\nRule US 2007 max - Nov Sun>=1 2:00 0 S\n";
+/// Returns what was made.
+pub fn must<T, E: Drop>(rt: &impl Abort, made: Result<T, E>) -> T {
+    match made {
+        Ok(value) => value,
+        Err(_) => panic!(rt; "it was not made"),
+    }
+}
 
-/// The rules of the United States from 2007 on, and a zone of theirs.
-pub const NEW_YORK: &str =
-    "Rule US 2007 max - Mar Sun>=8 2:00 1:00 D\nRule US 2007 max - Nov Sun>=1 2:00 0 S\nZone Z/NY -5:00 US E%sT\n";
+/// Ends the test where something is not so.
+pub fn expect(rt: &impl Abort, is_so: bool, what: &str)
+    ensures { is_so ≡ true }
+{
+    assert!(rt; is_so, "{what}");
+}
+
+/// Ends the test where a text is not as it should be.
+pub fn expect_text(rt: &impl Abort, got: &[u8], want: &[u8], what: &str) {
+    assert!(rt; got == want, "{what}: {got:?}");
+}
+
+/// Returns a copy of a text.
+pub fn copy_of(rt: &impl Abort, alloc: Global, text: &str) -> Vec<u8> {
+    must(rt, Vec::from_slice(alloc, text.as_bytes()))
+}
 
 /// Returns the files of texts.
 pub fn files_of(alloc: Global, texts: &[&str]) -> Result<Files, Stop> {
@@ -29,6 +51,108 @@ pub fn files_of(alloc: Global, texts: &[&str]) -> Result<Files, Stop> {
     }
     let source = read_source(alloc, &copies)?;
     compile(alloc, &source)
+}
+
+/// A reader that gives at most `step` bytes of a text at a time. At its end it may fail once. Then it
+/// ends, and fails where it is read again: a terminal would ask for more.
+#[derive(Drop)]
+pub struct Device<'a> {
+    rest: &'a [u8],
+    step: usize,
+    end: Result<(), ErrorKind>,
+    reads: usize,
+}
+
+impl<'a> Device<'a> {
+    /// Makes a reader of a text.
+    pub fn new(rest: &'a [u8], step: usize, end: Result<(), ErrorKind>) -> Device<'a> {
+        Device {
+            rest,
+            step,
+            end,
+            reads: 0,
+        }
+    }
+
+    /// Returns the number of reads.
+    pub fn reads(&self) -> usize {
+        self.reads
+    }
+}
+
+impl Read for Device<'_> {
+    fn read(&mut self, buf: &mut [u8]) -> io::Result<usize> {
+        self.reads = self.reads.saturating_add(1);
+        if self.rest.is_empty() {
+            let Err(kind) = self.end else {
+                self.end = Err(ErrorKind::Other);
+                return Ok(0);
+            };
+            self.end = Ok(());
+            return Err(io::Error::from(kind));
+        }
+        let n = self.step.min(self.rest.len()).min(buf.len());
+        let (given, rest) = self.rest.split_at(n);
+        buf[..n].copy_from_slice(given);
+        self.rest = rest;
+        Ok(n)
+    }
+}
+
+/// The way in which a writer fails.
+#[derive(Clone, Copy)]
+pub enum Defect {
+    /// Takes this number of bytes, and then fails.
+    Full(usize),
+    /// Takes no byte.
+    Stuck,
+    /// Takes all bytes, and fails when it is flushed.
+    Unflushed,
+}
+
+/// A writer that fails.
+#[derive(Drop)]
+pub struct Sink {
+    held: Vec<u8>,
+    defect: Defect,
+}
+
+impl Sink {
+    /// Makes a writer that holds nothing.
+    pub fn new(alloc: Global, defect: Defect) -> Sink {
+        Sink {
+            held: Vec::new(alloc),
+            defect,
+        }
+    }
+
+    /// Returns what it took.
+    pub fn held(&self) -> &[u8] {
+        &self.held
+    }
+}
+
+impl Write for Sink {
+    fn write(&mut self, buf: &[u8]) -> io::Result<usize> {
+        let room = match self.defect {
+            Defect::Full(most) => most.saturating_sub(self.held.len()),
+            Defect::Stuck => return Ok(0),
+            Defect::Unflushed => buf.len(),
+        };
+        let n = room.min(buf.len());
+        if n == 0 {
+            return Err(io::Error::from(ErrorKind::Other));
+        }
+        self.held.extend_from_slice(&buf[..n])?;
+        Ok(n)
+    }
+
+    fn flush(&mut self) -> io::Result<()> {
+        match self.defect {
+            Defect::Unflushed => Err(io::Error::from(ErrorKind::Other)),
+            _ => Ok(()),
+        }
+    }
 }
 
 /// How long a piece waits for another, in turns.

@@ -2,27 +2,37 @@
 
 mod rounds;
 
+use crate::samples::{Device, expect, expect_text, must};
 use csv::{ByteRecord, ReaderBuilder};
 use std::alloc::Global;
 use std::process::Abort;
-use std::test::Fail;
 
 /// The bytes with a meaning in a column, and one without.
 const BYTES: [u8; 5] = [b'a', b',', b'\n', b'\r', b'"'];
 
 /// Returns the text of this length that a number spells in base 5.
-fn text(alloc: Global, number: u32, len: u32) -> Result<Vec<u8>, Fail> {
+fn text(rt: &impl Abort, alloc: Global, number: u32, len: u32) -> Vec<u8> {
     let mut text = Vec::new(alloc);
     let mut left = number;
     for _ in 0..len {
-        text.push(BYTES[(left % 5) as usize])?;
+        must(rt, text.push(BYTES[(left % 5) as usize]));
         left /= 5;
     }
-    Ok(text)
+    text
 }
 
-/// Returns the records that a CSV reader reads, each as [`rounds::text_in_pieces`] shows it.
-fn read_by_csv(alloc: Global, bytes: &[u8]) -> Result<Vec<u8>, Fail> {
+/// Adds a record of a CSV reader to a text, as [`rounds::push_records`] does.
+fn push_record(rt: &impl Abort, text: &mut Vec<u8>, row: &ByteRecord) {
+    if let (2, Some(name), Some(instant)) = (row.len(), row.get(0), row.get(1)) {
+        must(rt, text.extend_from_slice(name));
+        must(rt, text.push(b'='));
+        must(rt, text.extend_from_slice(instant));
+    }
+    must(rt, text.push(b'|'));
+}
+
+/// Returns the records that a CSV reader reads.
+fn read_by_csv(rt: &impl Abort, alloc: Global, bytes: &[u8]) -> Vec<u8> {
     let mut reader = ReaderBuilder::new()
         .has_headers(false)
         .flexible(true)
@@ -30,41 +40,33 @@ fn read_by_csv(alloc: Global, bytes: &[u8]) -> Result<Vec<u8>, Fail> {
     let mut row = ByteRecord::new(alloc);
     let mut text = Vec::new(alloc);
     for _ in 0..10_000 {
-        if !reader.read_byte_record(&mut row)? {
+        if !must(rt, reader.read_byte_record(&mut row)) {
             break;
         }
-        if let (2, Some(name), Some(instant)) = (row.len(), row.get(0), row.get(1)) {
-            text.extend_from_slice(name)?;
-            text.push(b'=')?;
-            text.extend_from_slice(instant)?;
-        }
-        text.push(b'|')?;
+        push_record(rt, &mut text, &row);
     }
-    Ok(text)
+    text
 }
 
-/// Asserts that a column in pieces of `size` records has the records that a CSV reader reads, and
-/// returns their number.
-fn count_same(rt: &impl Abort, alloc: Global, bytes: &[u8], size: usize) -> Result<usize, Fail> {
-    let want = read_by_csv(alloc, bytes)?;
-    let got = rounds::text_in_pieces(alloc, bytes, size)?.ok_or("unread")?;
-    assert_eq!(rt;
-        got.as_slice(),
-        want.as_slice(),
-        "{bytes:?} in pieces of {size}"
-    );
-    Ok(want.iter().filter(|byte| **byte == b'|').count())
+/// Ends the test where a column in pieces of `size` records has not the records that a CSV reader
+/// reads. Returns their number.
+fn count_same(rt: &impl Abort, alloc: Global, bytes: &[u8], size: usize) -> usize {
+    let want = read_by_csv(rt, alloc, bytes);
+    let mut device = Device::new(bytes, 100_000, Ok(()));
+    let shown = rounds::shown(rt, alloc, &mut device, 1_000_000, (1000, size));
+    let (got, _) = must(rt, shown.ok_or(()));
+    expect_text(rt, &got, &want, "the records of a CSV reader");
+    want.iter().filter(|byte| **byte == b'|').count()
 }
 
 #[test]
-fn records_are_those_of_a_csv_reader(rt: HostRuntime) -> Result<(), Fail> {
+fn records_are_those_of_a_csv_reader(rt: HostRuntime) {
     for (len, count) in [(0, 1), (1, 5), (2, 25), (3, 125), (4, 625)] {
         for number in 0..count {
-            let text = text(rt.alloc(), number, len)?;
-            count_same(&rt, rt.alloc(), &text, 1)?;
+            let text = text(&rt, rt.alloc(), number, len);
+            let _ = count_same(&rt, rt.alloc(), &text, 1);
         }
     }
-    Ok(())
 }
 
 /// Lines of all kinds, the last of which have double quotes.
@@ -80,19 +82,24 @@ const LINES: [&[u8]; 9] = [
     b"America/New_York,\"2\"\n",
 ];
 
+/// Returns sixty of the first kinds of lines, in some order.
+fn lines_of(rt: &impl Abort, alloc: Global, kinds: usize) -> Vec<u8> {
+    let mut text = Vec::new(alloc);
+    for number in 0..60usize {
+        let line = number.wrapping_mul(5).wrapping_add(number / 8) % kinds.max(1);
+        must(rt, text.extend_from_slice(LINES[line % 9]));
+    }
+    text
+}
+
 #[test]
-fn long_columns_are_cut(rt: HostRuntime) -> Result<(), Fail> {
+fn long_columns_are_cut(rt: HostRuntime) {
     for kinds in [1usize, 4, 7, 9] {
-        let mut text = Vec::new(rt.alloc());
-        for number in 0..60usize {
-            let line = number.wrapping_mul(5).wrapping_add(number / 8) % kinds.max(1);
-            text.extend_from_slice(LINES[line % 9])?;
-        }
+        let text = lines_of(&rt, rt.alloc(), kinds);
         for size in 1..70usize {
-            count_same(&rt, rt.alloc(), &text, size)?;
+            let _ = count_same(&rt, rt.alloc(), &text, size);
         }
     }
-    Ok(())
 }
 
 /// Columns, and the number of their records: lines end at a return, a feed or both, and double
@@ -122,9 +129,9 @@ static COLUMNS: [(&[u8], usize); 21] = [
 ];
 
 #[test]
-fn lines_end_at_a_return_a_feed_or_both_but_within_quotes(rt: HostRuntime) -> Result<(), Fail> {
+fn lines_end_at_a_return_a_feed_or_both_but_within_quotes(rt: HostRuntime) {
     for (bytes, want) in &COLUMNS {
-        assert_eq!(rt; count_same(&rt, rt.alloc(), *bytes, 2)?, *want, "{bytes:?}");
+        let count = count_same(&rt, rt.alloc(), *bytes, 2);
+        expect(&rt, count == *want, "the number of records");
     }
-    Ok(())
 }

@@ -1,13 +1,13 @@
 //! `build`, and the files that the commands open, over a file system that records its calls.
 
-use super::{plan, told};
-use crate::samples::UTC_FILE;
+use super::{failure_text, plan, told};
+use crate::samples::{UTC_FILE, copy_of, expect, expect_text, must};
 use std::alloc::{Allocator, Global};
 use std::cell::RefCell;
 use std::fs::{Files, Metadata, OpenFile, OpenOptions};
 use std::io::{self, ErrorKind, Read, Seek, SeekFrom, Write};
+use std::process::Abort;
 use std::sync::Wait;
-use std::test::Fail;
 use std::thread::Threads;
 use zic_commands::*;
 use zic_counted::Counted;
@@ -40,14 +40,32 @@ impl<'a> Log<'a> {
     }
 }
 
-/// Returns how many times a call fails with an error of this kind: an error that another run makes
-/// comes once.
-fn times_of(kind: ErrorKind) -> usize {
-    if kind == ErrorKind::Other {
+/// Returns a log of these calls, of which one fails with an error of this kind: once, where another
+/// run makes the error, and else always.
+fn log_of<'a>(
+    alloc: Global,
+    calls: &'a RefCell<String>,
+    (fails, kind): (&'a str, ErrorKind),
+) -> Log<'a> {
+    let times = if kind == ErrorKind::Other {
         usize::MAX
     } else {
         1
+    };
+    Log {
+        alloc,
+        calls,
+        fails,
+        kind,
+        times,
     }
+}
+
+/// Ends the test where other calls were made, or something else is told.
+fn expect_calls(rt: &impl Abort, calls: RefCell<String>, told: &str, want: &str) {
+    let mut calls = calls.into_inner();
+    must(rt, calls.push_str(told));
+    expect_text(rt, calls.as_bytes(), want.as_bytes(), "the calls");
 }
 
 /// A file system in which each file that is opened has the same bytes, and each folder the same
@@ -184,180 +202,115 @@ impl<'a> Files for Disk<'a> {
     }
 }
 
-/// Returns the calls that placing the links of a source in the folder D makes, followed by the text
-/// and status of its failure, if it fails.
-fn linked<'a, T: Threads + Wait + Sync>(
-    rt: &T,
-    alloc: Global,
-    kind: LinkKind,
-    (fails, error): (&'a str, ErrorKind),
-) -> Result<String, Fail> {
-    let calls = RefCell::new(String::new(alloc));
-    let log = Log {
-        alloc,
-        calls: &calls,
-        fails,
-        kind: error,
-        times: times_of(error),
-    };
-    let disk = Disk {
-        log,
-        bytes: b"",
-        names: b"UTC\0",
-    };
-    let done = build_links(rt, alloc, &disk, kind);
-    let mut told_calls = calls.into_inner();
-    if let Err(failure) = done? {
-        told_calls.push_str(told(alloc, failure)?.as_str())?;
-    }
-    Ok(told_calls)
-}
-
-/// Returns the answer of `build_linked` for a zone and its link.
-fn build_links<T: Threads + Wait + Sync>(
+/// Returns what is told of placing the links of a source in the folder D.
+fn linked<T: Threads + Wait + Sync + Abort>(
     rt: &T,
     alloc: Global,
     disk: &Disk<'_>,
     kind: LinkKind,
-) -> Result<Result<(), Failure>, Fail> {
-    let plan = plan(2)?;
-    let mut text = Vec::new(alloc);
-    text.extend_from_slice(b"Link Z/UTC L/M/UTC\nZone Z/UTC 0 - UTC\n")?;
+) -> String {
+    let texts = [copy_of(rt, alloc, "Link Z/UTC L/M/UTC\nZone Z/UTC 0 - UTC\n")];
     let folder = LinkedFolder { path: "D", kind };
     let mut tree = zic_commands::Disk::new(alloc, disk, 7);
-    Ok(build_linked(rt, alloc, &plan, &[text], &mut tree, &folder))
+    told(
+        rt,
+        alloc,
+        build_linked(rt, alloc, &plan(rt, 2), &texts, &mut tree, &folder),
+    )
 }
+
+/// The kind of a link, the call that fails, and the calls: a link is made after its file and before
+/// it has its name.
+type OneLink = (LinkKind, (&'static str, ErrorKind), &'static str);
+
+static ONE_LINK: [OneLink; 6] = [
+    (
+        LinkKind::Hard,
+        ("", ErrorKind::Other),
+        "list D/Z/\ncreate D/Z/~pzic7\nwrite 111\nflush \nrename D/Z/~pzic7\nto D/Z/UTC\nlist D/L/M/\n\
+file D/Z/UTC\nlink D/L/M/~pzic7\nrename D/L/M/~pzic7\nto D/L/M/UTC\nremove D/L/M/~pzic7\n",
+    ),
+    (
+        LinkKind::Symbolic,
+        ("", ErrorKind::Other),
+        "list D/Z/\ncreate D/Z/~pzic7\nwrite 111\nflush \nrename D/Z/~pzic7\nto D/Z/UTC\nlist D/L/M/\n\
+text ../../Z/UTC\nsymlink D/L/M/~pzic7\nrename D/L/M/~pzic7\nto D/L/M/UTC\n",
+    ),
+    (
+        LinkKind::Hard,
+        ("link D/L/M/~pzic7", ErrorKind::Other),
+        "list D/Z/\ncreate D/Z/~pzic7\nwrite 111\nflush \nrename D/Z/~pzic7\nto D/Z/UTC\nlist D/L/M/\n\
+file D/Z/UTC\nlink D/L/M/~pzic7\ncannot write D/L/M/UTC, status 3",
+    ),
+    // another run replaces the zone's file at that moment
+    (
+        LinkKind::Hard,
+        ("link D/L/M/~pzic7", ErrorKind::NotFound),
+        "list D/Z/\ncreate D/Z/~pzic7\nwrite 111\nflush \nrename D/Z/~pzic7\nto D/Z/UTC\nlist D/L/M/\n\
+file D/Z/UTC\nlink D/L/M/~pzic7\nfile D/Z/UTC\nlink D/L/M/~pzic7\nrename D/L/M/~pzic7\nto D/L/M/UTC\n\
+remove D/L/M/~pzic7\n",
+    ),
+    // another run has a file of the same name
+    (
+        LinkKind::Symbolic,
+        ("symlink D/L/M/~pzic7", ErrorKind::AlreadyExists),
+        "list D/Z/\ncreate D/Z/~pzic7\nwrite 111\nflush \nrename D/Z/~pzic7\nto D/Z/UTC\nlist D/L/M/\n\
+text ../../Z/UTC\nsymlink D/L/M/~pzic7\ntext ../../Z/UTC\nsymlink D/L/M/~pzic8\nrename D/L/M/~pzic8\nto D/L/M/UTC\n",
+    ),
+    (
+        LinkKind::Hard,
+        ("rename D/L/M/~pzic7", ErrorKind::Other),
+        "list D/Z/\ncreate D/Z/~pzic7\nwrite 111\nflush \nrename D/Z/~pzic7\nto D/Z/UTC\nlist D/L/M/\n\
+file D/Z/UTC\nlink D/L/M/~pzic7\nrename D/L/M/~pzic7\nremove D/L/M/~pzic7\ncannot write D/L/M/UTC, status 3",
+    ),
+];
 
 #[test]
-fn a_link_is_made_after_its_file_and_before_it_has_its_name(rt: HostRuntime) -> Result<(), Fail> {
-    let file = "list D/Z/\ncreate D/Z/~pzic7\nwrite 111\nflush \nrename D/Z/~pzic7\nto D/Z/UTC\n";
-    let hard = "file D/Z/UTC\nlink D/L/M/~pzic7\n";
-    let text = "text ../../Z/UTC\nsymlink D/L/M/~pzic7\n";
-    let rename = "rename D/L/M/~pzic7\n";
-    let rows = [
-        (
-            LinkKind::Hard,
-            "",
-            ErrorKind::Other,
-            [hard, rename, "to D/L/M/UTC\n", "remove D/L/M/~pzic7\n"],
-        ),
-        (
-            LinkKind::Symbolic,
-            "",
-            ErrorKind::Other,
-            [text, rename, "to D/L/M/UTC\n", ""],
-        ),
-        (
-            LinkKind::Hard,
-            "link D/L/M/~pzic7",
-            ErrorKind::Other,
-            [hard, "", "", "cannot write D/L/M/UTC, status 3"],
-        ),
-        // another run replaces the zone's file at that moment
-        (
-            LinkKind::Hard,
-            "link D/L/M/~pzic7",
-            ErrorKind::NotFound,
-            [
-                hard,
-                "file D/Z/UTC\nlink D/L/M/~pzic7\nrename D/L/M/~pzic7\n",
-                "to D/L/M/UTC\n",
-                "remove D/L/M/~pzic7\n",
-            ],
-        ),
-        // another run has a file of the same name
-        (
-            LinkKind::Symbolic,
-            "symlink D/L/M/~pzic7",
-            ErrorKind::AlreadyExists,
-            [
-                text,
-                "text ../../Z/UTC\nsymlink D/L/M/~pzic8\n",
-                "rename D/L/M/~pzic8\n",
-                "to D/L/M/UTC\n",
-            ],
-        ),
-        (
-            LinkKind::Hard,
-            "rename D/L/M/~pzic7",
-            ErrorKind::Other,
-            [
-                hard,
-                rename,
-                "remove D/L/M/~pzic7\n",
-                "cannot write D/L/M/UTC, status 3",
-            ],
-        ),
-    ];
-    for (kind, fails, error, calls) in rows {
-        let got = linked(&rt, rt.alloc(), kind, (fails, error))?;
-        let mut want = String::from_str(rt.alloc(), file)?;
-        want.push_str("list D/L/M/\n")?;
-        for call in calls {
-            want.push_str(call)?;
-        }
-        assert_eq!(rt;
-            got.as_str(),
-            want.as_str(),
-            "of {kind:?} where {fails:?} fails"
-        );
+fn a_link_is_made_after_its_file_and_before_it_has_its_name(rt: HostRuntime) {
+    for (kind, fails, want) in &ONE_LINK {
+        let calls = RefCell::new(String::new(rt.alloc()));
+        let disk = Disk {
+            log: log_of(rt.alloc(), &calls, *fails),
+            bytes: b"",
+            names: b"UTC\0",
+        };
+        let told = linked(&rt, rt.alloc(), &disk, *kind);
+        expect_calls(&rt, calls, told.as_str(), *want);
     }
-    Ok(())
 }
 
-/// Returns the calls that `build` makes for the words, followed by the text and status of its
-/// failure, if it fails. The word `-` stands for `input`.
-fn built<'a, T: Threads + Wait + Sync>(
+/// Returns what is told of building the sources that words name in a folder. The word `-` stands for
+/// `input`.
+fn built<T: Threads + Wait + Sync + Abort>(
     rt: &T,
     alloc: Global,
+    disk: &Disk<'_>,
     folder: &str,
     words: &str,
     input: &str,
-    (fails, kind, names): (&'a str, ErrorKind, &'a [u8]),
-) -> Result<String, Fail> {
-    let calls = RefCell::new(String::new(alloc));
-    let log = Log {
-        alloc,
-        calls: &calls,
-        fails,
-        kind,
-        times: times_of(kind),
-    };
-    let disk = Disk {
-        log,
-        bytes: b"# A source.\n",
-        names,
-    };
-    let mut sources = Vec::new(alloc);
-    for word in words.split_whitespace() {
-        sources.push(String::from_str(alloc, word)?)?;
-    }
-    let done = build_words(rt, alloc, &disk, input, folder, &sources);
-    let mut told_calls = calls.into_inner();
-    if let Err(failure) = done? {
-        told_calls.push_str(told(alloc, failure)?.as_str())?;
-    }
-    Ok(told_calls)
-}
-
-/// Returns the answer of `build` for the words. The word `-` stands for `input`.
-fn build_words<T: Threads + Wait + Sync>(
-    rt: &T,
-    alloc: Global,
-    disk: &Disk<'_>,
-    input: &str,
-    folder: &str,
-    words: &[String],
-) -> Result<Result<(), Failure>, Fail> {
+) -> String {
     let mut reader = Counted::new(input.as_bytes());
-    let plan = plan(2)?;
-    Ok(match read_sources(alloc, disk, &mut reader, words) {
+    let words = words_of(rt, alloc, words);
+    match read_sources(alloc, disk, &mut reader, &words) {
         Ok(texts) => {
             let mut tree = zic_commands::Disk::new(alloc, disk, 7);
-            build(rt, alloc, &plan, &texts, &mut tree, folder)
+            told(
+                rt,
+                alloc,
+                build(rt, alloc, &plan(rt, 2), &texts, &mut tree, folder),
+            )
         }
-        Err(failure) => Err(failure),
-    })
+        Err(failure) => failure_text(rt, alloc, failure),
+    }
+}
+
+/// Returns the words of a text.
+fn words_of(rt: &impl Abort, alloc: Global, text: &str) -> Vec<String> {
+    let mut words = Vec::new(alloc);
+    for word in text.split_whitespace() {
+        must(rt, words.push(must(rt, String::from_str(alloc, word))));
+    }
+    words
 }
 
 /// A source, and the calls that building it makes where one of them fails, followed by the text and
@@ -438,6 +391,20 @@ create D/~pzic7\nwrite 111\nflush \nrename D/~pzic7\nto D/B\n",
 
 const TWO: &str = "Zone A 0 - UTC\nZone B 0 - UTC";
 
+#[test]
+fn files_are_written_whole(rt: HostRuntime) {
+    for (source, (fails, kind, names), want) in &ONE_SOURCE {
+        let calls = RefCell::new(String::new(rt.alloc()));
+        let disk = Disk {
+            log: log_of(rt.alloc(), &calls, (*fails, *kind)),
+            bytes: b"",
+            names: *names,
+        };
+        let told = built(&rt, rt.alloc(), &disk, "D", "-", *source);
+        expect_calls(&rt, calls, told.as_str(), *want);
+    }
+}
+
 /// The folder and the words for sources, what `-` stands for, the call that fails, and the calls.
 /// Sources are read from left to right before anything is made; an empty word is no path.
 static WORDS: [(&str, &str, &str, &str, &str); 7] = [
@@ -463,12 +430,25 @@ static WORDS: [(&str, &str, &str, &str, &str); 7] = [
 ];
 
 #[test]
-fn a_file_that_other_runs_always_remove_is_refused(rt: HostRuntime) -> Result<(), Fail> {
-    let alloc = rt.alloc();
-    let calls = RefCell::new(String::new(alloc));
+fn sources_are_read_before_anything_is_made(rt: HostRuntime) {
+    for (folder, words, input, fails, want) in &WORDS {
+        let calls = RefCell::new(String::new(rt.alloc()));
+        let disk = Disk {
+            log: log_of(rt.alloc(), &calls, (*fails, ErrorKind::Other)),
+            bytes: b"# A source.\n",
+            names: b"",
+        };
+        let told = built(&rt, rt.alloc(), &disk, *folder, *words, *input);
+        expect_calls(&rt, calls, told.as_str(), *want);
+    }
+}
+
+#[test]
+fn a_file_that_other_runs_always_remove_is_refused(rt: HostRuntime) {
+    let calls = RefCell::new(String::new(rt.alloc()));
     let disk = Disk {
         log: Log {
-            alloc,
+            alloc: rt.alloc(),
             calls: &calls,
             fails: "rename D/~pzic7",
             kind: ErrorKind::NotFound,
@@ -477,105 +457,60 @@ fn a_file_that_other_runs_always_remove_is_refused(rt: HostRuntime) -> Result<()
         bytes: b"",
         names: b"A\0",
     };
-    let words = [String::from_str(alloc, "-")?];
-    let done = build_words(&rt, alloc, &disk, "Zone A 0 - UTC", "D", &words)?;
-    let failure = told(alloc, done.err().ok_or("it was placed")?)?;
-    assert_eq!(rt; failure.as_str(), "cannot write D/A, status 3");
-    assert_eq!(rt; calls.into_inner().matches("rename").count(), 1_000);
-    Ok(())
+    let told = built(&rt, rt.alloc(), &disk, "D", "-", "Zone A 0 - UTC");
+    expect_text(
+        &rt,
+        told.as_bytes(),
+        b"cannot write D/A, status 3",
+        "what is told",
+    );
+    let renamed = calls.into_inner().matches("rename").count();
+    expect(&rt, renamed == 1_000, "the number of tries");
 }
 
-#[test]
-fn sources_are_read_and_files_written_whole(rt: HostRuntime) -> Result<(), Fail> {
-    for (source, fails, want) in &ONE_SOURCE {
-        let got = built(&rt, rt.alloc(), "D", "-", *source, *fails)?;
-        assert_eq!(rt; got.as_str(), *want, "where {:?} fails", fails.0);
-    }
-    for (folder, words, input, fails, want) in &WORDS {
-        let fails = (*fails, ErrorKind::Other, b"".as_slice());
-        let got = built(&rt, rt.alloc(), *folder, *words, *input, fails)?;
-        assert_eq!(rt; got.as_str(), *want, "of {words:?}");
-    }
-    Ok(())
-}
-
-/// Writes the output of `check` for the source that a word names, or the text and status of its
-/// failure. The word `-` stands for `input`.
-fn check_word<T: Threads + Wait + Sync>(
-    rt: &T,
-    alloc: Global,
-    disk: &Disk<'_>,
-    input: &mut Counted<&[u8]>,
-    word: &str,
-    out: &mut Counted<Vec<u8>>,
-) -> Result<(), Fail> {
-    let words = [String::from_str(alloc, word)?];
-    let checked = match read_sources(alloc, disk, input, &words) {
-        Ok(texts) => check(rt, alloc, &plan(1)?, &texts, out),
-        Err(failure) => Err(failure),
-    };
-    if let Err(failure) = checked {
-        out.write_all(told(alloc, failure)?.as_bytes())?;
-    }
-    Ok(())
-}
-
-/// Writes the output of `show` for the file that a word names, at instant 0, or the text and status
-/// of its failure.
-fn show_word(
-    alloc: Global,
-    disk: &Disk<'_>,
-    word: &str,
-    out: &mut Counted<Vec<u8>>,
-) -> Result<(), Fail> {
-    let shown = match read_file(alloc, disk, word) {
-        Ok(bytes) => show(alloc, &bytes, 0, out),
-        Err(failure) => Err(failure),
-    };
-    if let Err(failure) = shown {
-        out.write_all(told(alloc, failure)?.as_bytes())?;
-    }
-    Ok(())
-}
-
-#[test]
-fn words_for_sources_and_files_are_opened(rt: HostRuntime) -> Result<(), Fail> {
-    let alloc = rt.alloc();
-    let calls = RefCell::new(String::new(alloc));
-    let log = Log {
-        alloc,
-        calls: &calls,
-        fails: "open none",
-        kind: ErrorKind::Other,
-        times: usize::MAX,
-    };
-    let source = Disk {
-        log,
-        bytes: b"Zone Etc/UTC 0 - UTC",
-        names: b"",
-    };
-    let mut out = Counted::new(Vec::new(alloc));
+/// Returns the first text of the sources that a word names, or what is told. The word `-` stands for
+/// `Zone A 0 - UTC`.
+fn source_of(rt: &impl Abort, alloc: Global, disk: &Disk<'_>, word: &str) -> Vec<u8> {
     let mut input = Counted::new(b"Zone A 0 - UTC".as_slice());
-    for word in ["a", "-", "none"] {
-        check_word(&rt, alloc, &source, &mut input, word, &mut out)?;
+    match read_sources(alloc, disk, &mut input, &words_of(rt, alloc, word)) {
+        Ok(mut texts) => must(rt, texts.pop().ok_or(())),
+        Err(failure) => copy_of(rt, alloc, failure_text(rt, alloc, failure).as_str()),
     }
-    let file = Disk {
-        log,
-        bytes: UTC_FILE.as_slice(),
+}
+
+/// Words, the call that is made, and the text or what is told.
+static OPENED: [(&str, &str, &[u8]); 3] = [
+    ("a", "open a\n", UTC_FILE),
+    ("-", "", b"Zone A 0 - UTC"),
+    ("none", "open none\n", b"cannot read none, status 3"),
+];
+
+#[test]
+fn words_for_sources_and_files_are_opened(rt: HostRuntime) {
+    for (word, opened, want) in &OPENED {
+        let calls = RefCell::new(String::new(rt.alloc()));
+        let disk = Disk {
+            log: log_of(rt.alloc(), &calls, ("open none", ErrorKind::Other)),
+            bytes: UTC_FILE,
+            names: b"",
+        };
+        let text = source_of(&rt, rt.alloc(), &disk, *word);
+        expect_text(&rt, &text, *want, *word);
+        expect_calls(&rt, calls, "", *opened);
+    }
+    let calls = RefCell::new(String::new(rt.alloc()));
+    let disk = Disk {
+        log: log_of(rt.alloc(), &calls, ("open none", ErrorKind::Other)),
+        bytes: UTC_FILE,
         names: b"",
     };
-    for word in ["f", "none"] {
-        show_word(alloc, &file, word, &mut out)?;
-    }
-    assert_eq!(rt;
-        str::from_utf8(&out.into_inner()).ok(),
-        Some(
-            "Etc/UTC 111 UTC0\nA 111 UTC0\ncannot read none, status 3+00:00:00 0 UTC\ncannot read none, status 3"
-        )
+    let bytes = must(&rt, read_file(rt.alloc(), &disk, "f"));
+    expect_text(&rt, &bytes, UTC_FILE, "a file");
+    let told = told(&rt, rt.alloc(), read_file(rt.alloc(), &disk, "none"));
+    expect_calls(
+        &rt,
+        calls,
+        told.as_str(),
+        "open f\nopen none\ncannot read none, status 3",
     );
-    assert_eq!(rt;
-        calls.into_inner().as_str(),
-        "open a\nopen none\nopen f\nopen none\n"
-    );
-    Ok(())
 }

@@ -2,12 +2,10 @@
 
 ghost use Rattle.std.specs.Prelude.{map, string_bytes, Some};
 
-use super::{plan, told};
-use crate::samples::UTC_FILE;
+use super::{expect_told, plan};
+use crate::samples::{UTC_FILE, copy_of, expect, expect_text};
 use std::alloc::Global;
-use std::sync::Wait;
-use std::test::Fail;
-use std::thread::Threads;
+use std::process::Abort;
 use zic_commands::*;
 
 /// The file of `Zone Z/EST -5 - EST`, with the same parts as the file for UTC.
@@ -41,6 +39,18 @@ struct Shelf<'a> {
     refuses: &'a str,
 }
 
+impl<'a> Shelf<'a> {
+    /// Makes an empty tree that refuses this path.
+    fn new(alloc: Global, refuses: &'a str) -> Shelf<'a> {
+        Shelf {
+            alloc,
+            files: Vec::new(alloc),
+            links: Vec::new(alloc),
+            refuses,
+        }
+    }
+}
+
 impl<'a> Tree for Shelf<'a> {
     ghost placed = { λ shelf. Some (map (λ file. record { path = string_bytes file.path; bytes = file.bytes.items }) shelf.files.items) };
 
@@ -72,79 +82,49 @@ impl<'a> Tree for Shelf<'a> {
     }
 }
 
-/// Returns the files that `build` of the source places in the folder D, and the text and status of
-/// its failure, or an empty text.
-fn placed<T: Threads + Wait + Sync>(
-    rt: &T,
-    alloc: Global,
-    refuses: &str,
-) -> Result<(Vec<Kept>, String), Fail> {
-    let mut text = Vec::new(alloc);
-    text.extend_from_slice(SOURCE.as_bytes())?;
-    let mut tree = Shelf {
-        alloc,
-        files: Vec::new(alloc),
-        links: Vec::new(alloc),
-        refuses,
-    };
-    let told = match build(rt, alloc, &plan(2)?, &[text], &mut tree, "D") {
-        Ok(()) => String::new(alloc),
-        Err(failure) => told(alloc, failure)?,
-    };
-    Ok((tree.files, told))
+/// Ends the test where the tree has not this many files, or others.
+fn expect_files(rt: &impl Abort, files: &[Kept], count: usize, wanted: &[(&str, &[u8; 111])]) {
+    expect(rt, files.len() == count, "the number of files");
+    for (file, (path, bytes)) in files.iter().zip(wanted) {
+        expect_text(rt, file.path.as_bytes(), path.as_bytes(), "a path");
+        expect_text(rt, &file.bytes, bytes.as_slice(), "a file");
+    }
 }
 
+/// A path that is refused, the number of files before it, and what is told.
+static REFUSED: [(&str, usize, &str); 2] = [
+    ("", 3, ""),
+    ("D/East", 1, "cannot write D/East, status 3"),
+];
+
 #[test]
-fn files_are_placed_in_order_up_to_one_that_is_refused(rt: HostRuntime) -> Result<(), Fail> {
+fn files_are_placed_in_order_up_to_one_that_is_refused(rt: HostRuntime) {
+    let texts = [copy_of(&rt, rt.alloc(), SOURCE)];
     let all = [
         ("D/Etc/UTC", UTC_FILE),
         ("D/East", EST_FILE),
         ("D/Z/EST", EST_FILE),
     ];
-    let rows = [("", 3, ""), ("D/East", 1, "cannot write D/East, status 3")];
-    for (refuses, count, want) in rows {
-        let (files, told) = placed(&rt, rt.alloc(), refuses)?;
-        assert_eq!(rt; told.as_str(), want);
-        assert_eq!(rt; files.len(), count, "where {refuses:?} is refused");
-        for (file, (path, bytes)) in files.iter().zip(all) {
-            assert_eq!(rt; file.path.as_str(), path);
-            assert_eq!(rt; &file.bytes[..], bytes.as_slice(), "at {path:?}");
-        }
+    for (refuses, count, want) in &REFUSED {
+        let mut tree = Shelf::new(rt.alloc(), *refuses);
+        let answer = build(&rt, rt.alloc(), &plan(&rt, 2), &texts, &mut tree, "D");
+        expect_told(&rt, rt.alloc(), answer, *want);
+        expect_files(&rt, &tree.files, *count, &all);
     }
-    Ok(())
 }
 
 #[test]
-fn links_are_made_after_the_files_of_zones(rt: HostRuntime) -> Result<(), Fail> {
-    let alloc = rt.alloc();
-    let mut text = Vec::new(alloc);
-    text.extend_from_slice(b"Link East A/B/East\n")?;
-    text.extend_from_slice(SOURCE.as_bytes())?;
-    let texts = [text];
+fn links_are_made_after_the_files_of_zones(rt: HostRuntime) {
+    let text = "Link East A/B/East\nZone Etc/UTC 0 - UTC\nLink Z/EST East\nZone Z/EST -5 - EST\n";
+    let texts = [copy_of(&rt, rt.alloc(), text)];
     for kind in [LinkKind::Hard, LinkKind::Symbolic] {
-        let mut tree = Shelf {
-            alloc,
-            files: Vec::new(alloc),
-            links: Vec::new(alloc),
-            refuses: "",
-        };
+        let mut tree = Shelf::new(rt.alloc(), "");
         let folder = LinkedFolder { path: "D", kind };
-        if let Err(failure) = build_linked(&rt, alloc, &plan(2)?, &texts, &mut tree, &folder) {
-            assert_eq!(rt; told(alloc, failure)?.as_str(), "");
-        }
-        assert_eq!(rt; tree.files.len(), 2);
-        for (file, (path, bytes)) in tree
-            .files
-            .iter()
-            .zip([("D/Etc/UTC", UTC_FILE), ("D/Z/EST", EST_FILE)])
-        {
-            assert_eq!(rt; file.path.as_str(), path);
-            assert_eq!(rt; &file.bytes[..], bytes.as_slice(), "at {path:?}");
-        }
-        assert_eq!(rt; tree.links.len(), 2);
-        for link in &tree.links {
-            assert_eq!(rt; link.kind, kind);
-        }
+        let answer = build_linked(&rt, rt.alloc(), &plan(&rt, 2), &texts, &mut tree, &folder);
+        expect_told(&rt, rt.alloc(), answer, "");
+        let files = [("D/Etc/UTC", UTC_FILE), ("D/Z/EST", EST_FILE)];
+        expect_files(&rt, &tree.files, 2, &files);
+        let both = tree.links.len() == 2 && tree.links.iter().all(|link| link.kind == kind);
+        expect(&rt, both, "two links");
     }
-    Ok(())
 }
