@@ -154,7 +154,8 @@ def main():
     rows = [row for module, blocks in files.items() for block in blocks if block.head[0] == '>'
             for row in rows_of(named, module, block)]
     differences = list(differences_of(files, rows, answers_of(program, rows)))
-    print(*differences[:20], sep='\n', file=sys.stderr)
+    for difference in differences[:20]:
+        print(difference, file=sys.stderr)
     print(f'rows: {len(rows)} rows, {len(differences)} differences')
     sys.exit(differences != [])
 
