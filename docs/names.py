@@ -58,7 +58,7 @@ class Module:
     def __init__(self, path):
         self.path, self.crate, self.raw = path, path.relative_to(CRATES).parts[0], path.read_text()
         self.text = HIDDEN.sub(lambda m: re.sub(r'[^\n]', ' ', m[0]), self.raw).replace('->', '⇒ ')
-        self.is_test = self.crate.endswith('_tests') or path.stem.endswith('tests')
+        self.is_test = self.crate.endswith('_tests') or path.stem.endswith('tests') or path.parent.name == 'rows'
         types = r'^(?:pub )?(?:struct|enum|trait) (\w+)(.*?^}|.*?;)'
         self.types = dict(re.findall(types, self.text, re.M | re.S))
         self.functions = list(self.read_functions())

@@ -7,6 +7,7 @@ mod changes;
 mod counts;
 mod files;
 mod footers;
+mod rows;
 mod stop;
 
 use std::env;
@@ -21,6 +22,7 @@ fn main(rt: HostRuntime) -> io::Result<ExitCode> {
         Some("footers") => footers::run(&rt)?,
         Some("files") => files::run(&rt)?,
         Some("jiff") => by_jiff::run(&rt)?,
+        Some("rows") => rows::run(&rt)?,
         _ => return Err(io::Error::from(ErrorKind::InvalidInput)),
     }
     Ok(ExitCode::SUCCESS)

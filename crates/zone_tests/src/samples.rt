@@ -1,11 +1,10 @@
-//! Sources and files of the tests, and the calls that many tests make, each in a function of its
-//! own: a check of a test takes in the contract of each function that it calls.
+//! The source and the file of the test, and the calls that it makes, each in a function of its own: a
+//! check of a function takes in the contract of each that it calls.
 
 ghost use Rattle.std.specs.Prelude.{◌≡◌, ◌⊎◌};
 
 use std::alloc::{AllocError, Global};
-use std::test::Fail;
-use zic_base::{Fault, Place, State, Stop};
+use zic_base::{Place, State, Stop};
 use zic_footer::{Footer, ParseStop, make, parse};
 use zic_rules::{Timeline, timeline};
 use zic_source::{Source, read_source};
@@ -21,27 +20,6 @@ pub fn read_texts(alloc: Global, texts: &[&[u8]]) -> Result<Source, Stop> {
     read_source(alloc, &copies)
 }
 
-/// Returns the source that these texts are, or their first fault.
-pub fn source_or_fault(alloc: Global, texts: &[&[u8]]) -> Result<Result<Source, Fault>, Fail> {
-    match read_texts(alloc, texts) {
-        Ok(source) => Ok(Ok(source)),
-        Err(Stop::Fault(fault)) => Ok(Err(fault)),
-        Err(Stop::Memory) => Err(Fail::from("out of memory")),
-    }
-}
-
-/// Returns the source that these texts are.
-pub fn source_of(alloc: Global, texts: &[&[u8]]) -> Result<Source, Fail> {
-    Ok(source_or_fault(alloc, texts)?.ok().ok_or("a source")?)
-}
-
-/// Returns the source of rules and of a zone after them.
-pub fn zone_source(alloc: Global, rules: &[u8], zone: &[u8]) -> Result<Source, Fail> {
-    let mut text = Vec::from_slice(alloc, rules)?;
-    text.extend_from_slice(zone)?;
-    source_of(alloc, &[&text])
-}
-
 /// Returns the timeline of the only zone of a source, or why it has none, or `None` where the
 /// source has other than one zone.
 pub fn timeline_of<'a>(alloc: Global, source: &'a Source) -> Option<Result<Timeline<'a>, Stop>> {
@@ -49,11 +27,6 @@ pub fn timeline_of<'a>(alloc: Global, source: &'a Source) -> Option<Result<Timel
         return None;
     }
     Some(timeline(alloc, source, 0))
-}
-
-/// Returns the footer of a zone at this place, or why it has none.
-pub fn footer_of(alloc: Global, place: Place, found: &Timeline<'_>) -> Result<Footer, Stop> {
-    make(alloc, place, found)
 }
 
 /// Returns the footer and the table of a zone at this place, or why it has none.
@@ -84,14 +57,6 @@ pub fn parse_footer(alloc: Global, text: &[u8], version: u8) -> Result<Footer, P
     parse(alloc, text, version)
 }
 
-/// The file of `Zone Etc/UTC 0 - UTC`.
-pub const UTC: &[u8; 111] = b"TZif2\0\0\0\0\0\0\0\0\0\0\0\0\0\0\0\
-\0\0\0\0\0\0\0\0\0\0\0\0\0\0\0\0\0\0\0\x01\0\0\0\x01\
-\0\0\0\0\0\0\0\
-TZif2\0\0\0\0\0\0\0\0\0\0\0\0\0\0\0\
-\0\0\0\0\0\0\0\0\0\0\0\0\0\0\0\0\0\0\0\x01\0\0\0\x04\
-\0\0\0\0\0\0UTC\0\nUTC0\n";
-
 /// The rules of the United States from 2007 on, and a zone that uses them.
 pub const NEW_YORK_SOURCE: &[u8] = b"Rule US 2007 max - Mar Sun>=8 2:00 1:00 D\n\
 Rule US 2007 max - Nov Sun>=1 2:00 0 S\n\
@@ -106,18 +71,6 @@ TZif2\0\0\0\0\0\0\0\0\0\0\0\0\0\0\0\
 \0\0\0\0\x45\xf3\xa8\xf0\0\0\0\0\x47\x2d\x5f\xe0\0\0\0\0\x47\xd3\x8a\xf0\
 \0\0\0\0\x49\x0d\x41\xe0\0\0\0\0\x49\xb3\x6c\xf0\0\0\0\0\x4a\xed\x23\xe0\
 \x01\0\x01\0\x01\0\xff\xff\xb9\xb0\0\0\xff\xff\xc7\xc0\x01\x04EST\0EDT\0\
-\nEST5EDT,M3.2.0,M11.1.0\n";
-
-/// The same file with the transitions also in the first data block, and with indicators in both.
-pub const NEW_YORK_TWICE: &[u8; 244] = b"TZif2\0\0\0\0\0\0\0\0\0\0\0\0\0\0\0\
-\0\0\0\x02\0\0\0\x02\0\0\0\0\0\0\0\x06\0\0\0\x02\0\0\0\x08\
-\x45\xf3\xa8\xf0\x47\x2d\x5f\xe0\x47\xd3\x8a\xf0\x49\x0d\x41\xe0\x49\xb3\x6c\xf0\x4a\xed\x23\xe0\
-\x01\0\x01\0\x01\0\xff\xff\xb9\xb0\0\0\xff\xff\xc7\xc0\x01\x04EST\0EDT\0\0\0\0\0\
-TZif2\0\0\0\0\0\0\0\0\0\0\0\0\0\0\0\
-\0\0\0\x02\0\0\0\x02\0\0\0\0\0\0\0\x06\0\0\0\x02\0\0\0\x08\
-\0\0\0\0\x45\xf3\xa8\xf0\0\0\0\0\x47\x2d\x5f\xe0\0\0\0\0\x47\xd3\x8a\xf0\
-\0\0\0\0\x49\x0d\x41\xe0\0\0\0\0\x49\xb3\x6c\xf0\0\0\0\0\x4a\xed\x23\xe0\
-\x01\0\x01\0\x01\0\xff\xff\xb9\xb0\0\0\xff\xff\xc7\xc0\x01\x04EST\0EDT\0\0\0\0\0\
 \nEST5EDT,M3.2.0,M11.1.0\n";
 
 /// Returns the answer for New York, in daylight saving time or in standard time.

@@ -1,7 +1,0 @@
-use Rattle.std.proofs.Common.{arith, rules}
-use Rattle.zone_tests.proofs.files.spans.states_by_number.Goals as goal
-
-pub state-requires : goal.state-requires
-state-requires c d =
-    let are = d.state_count-count.ensures d.loop-number.number-counter in
-    are.0 (search rules)
