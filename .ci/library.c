@@ -133,6 +133,8 @@ static void compare_column(pzic_handle *zone, bool sorted) {
     uint64_t seed = 362436069;
     for (int i = 0; i < MANY; i++)
         instants[i] = sorted ? -2840140800 + i * INT64_C(1514782) : next_instant(&seed);
+    instants[0] = INT64_MIN;
+    instants[MANY - 1] = INT64_MAX;
     CHECK(pzic_zone_offsets(zone, instants, MANY, offsets, MANY, flags, MANY) == PZIC_OK);
     for (int i = 0; i < MANY; i++) {
         pzic_state state;
@@ -242,7 +244,8 @@ static const char source[] =
     "Zone Test/York -5:00 US E%sT\n";
 
 static int32_t compile(const char *text, pzic_handle *files, pzic_fault *fault) {
-    return pzic_compile((const uint8_t *)text, strlen(text), files, fault);
+    size_t length = strlen(text);
+    return pzic_compile((const uint8_t *)text, length, &length, 1, files, fault);
 }
 
 static int32_t find(pzic_handle *files, const char *name, size_t *number) {
@@ -252,9 +255,10 @@ static int32_t find(pzic_handle *files, const char *name, size_t *number) {
 // Compiles a source, and asks for its files and zones.
 static void compile_source(void) {
     pzic_handle files = {0}, zone = {0}, again = {0}, other = {0};
-    pzic_fault fault = {7, 8};
+    pzic_fault fault = {6, 7, 8};
     pzic_state state;
-    CHECK(compile(source, &files, &fault) == PZIC_OK && files.kind == 2 && fault.line == 7);
+    CHECK(compile(source, &files, &fault) == PZIC_OK && files.kind == 2);
+    CHECK(fault.text == 6 && fault.line == 7 && fault.kind == 8);
     size_t count = 0, number = 9;
     CHECK(pzic_files_len(&files, &count) == PZIC_OK && count == 3);
     CHECK(find(&files, "Test/Alias", &number) == PZIC_OK && number == 1);
@@ -303,7 +307,8 @@ static void refuse_sources(void) {
     pzic_handle files = {0};
     pzic_fault fault = {0};
     CHECK(compile("Zone A 0 - XYZ\nZone B 0 - XYZ\nWord\n", &files, &fault) == PZIC_BAD_SOURCE);
-    CHECK(fault.line == 3 && fault.kind == 4 && files.kind == 0); // Keyword
+    CHECK(fault.text == 1 && fault.line == 3 && fault.kind == 4); // Keyword
+    CHECK(files.kind == 0);
     CHECK(compile("Zone A 0 NoSet XYZ\n", &files, &fault) == PZIC_BAD_SOURCE);
     CHECK(fault.line == 1 && fault.kind == 21 && files.kind == 0); // UnknownRules
     CHECK(compile("", &files, &fault) == PZIC_OK && files.kind == 2);
@@ -325,6 +330,61 @@ static void refuse_sources(void) {
     CHECK(pzic_zone_of(&files, 0, &zone) == PZIC_NO_MEMORY && zone.kind == 0);
     growths_left = -1;
     pzic_free(&files);
+}
+
+// Several texts in one array, each with its own last line.
+static void compile_texts(void) {
+    static const char texts[] = "Zone A 1:00 - AAAZone B 0 - BBB\nLink B C\nRule R 2000 only - ";
+    const uint8_t *bytes = (const uint8_t *)texts;
+    size_t length = sizeof texts - 1, count = 0;
+    size_t lengths[4] = {17, 0, 24, length - 41};
+    pzic_handle files = {0};
+    pzic_fault fault = {0};
+    CHECK(pzic_compile(bytes, 41, lengths, 3, &files, &fault) == PZIC_OK && files.kind == 2);
+    CHECK(pzic_files_len(&files, &count) == PZIC_OK && count == 3);
+    CHECK(find(&files, "C", &count) == PZIC_OK && count == 2);
+    CHECK(pzic_compile(bytes, length, lengths, 4, &files, &fault) == PZIC_BAD_SOURCE);
+    CHECK(files.kind == 0 && fault.text == 4 && fault.line == 1 && fault.kind == 5); // FieldCount
+    CHECK(pzic_compile(bytes, length, lengths, 3, &files, &fault) == PZIC_LENGTHS);
+    CHECK(pzic_compile(bytes, 40, lengths, 3, &files, &fault) == PZIC_LENGTHS);
+    lengths[1] = SIZE_MAX;
+    CHECK(pzic_compile(bytes, 41, lengths, 3, &files, &fault) == PZIC_LENGTHS && files.kind == 0);
+    CHECK(pzic_compile(bytes, 0, lengths, 0, &files, &fault) == PZIC_OK && files.kind == 2);
+    CHECK(pzic_files_len(&files, &count) == PZIC_OK && count == 0);
+    pzic_free(&files);
+}
+
+typedef int32_t namer(uint32_t number, uint8_t *room, size_t room_length, size_t *length);
+
+static void expect_name(namer *call, uint32_t number, const char *want) {
+    uint8_t room[18];
+    memset(room, 'x', sizeof room);
+    size_t length = 0;
+    CHECK(call(number, room, 17, &length) == PZIC_OK && length == strlen(want));
+    CHECK(memcmp(room, want, length) == 0 && room[length] == 'x');
+    CHECK(call(number, room, 0, &length) == PZIC_OK && length == strlen(want));
+}
+
+static void expect_no_name(namer *call, uint32_t number) {
+    uint8_t room[1] = "x";
+    size_t length = 7;
+    CHECK(call(number, room, 1, &length) == PZIC_NO_SUCH && length == 7 && room[0] == 'x');
+}
+
+// Names by number.
+static void name_faults(void) {
+    expect_name(pzic_name_of_fault, 1, "NotAscii");
+    expect_name(pzic_name_of_fault, 21, "UnknownRules");
+    expect_name(pzic_name_of_fault, 30, "PermanentDaylight");
+    expect_name(pzic_name_of_fault, 34, "TooManyChars");
+    expect_name(pzic_name_of_fault, 35, "RowFields");
+    expect_name(pzic_name_of_fault, 39, "TooManyRows");
+    expect_name(pzic_name_of_reason, PZIC_REASON_SHORT, "Short");
+    expect_name(pzic_name_of_reason, PZIC_REASON_TOO_LARGE, "TooLarge");
+    static const uint32_t others[] = {0, 31, 40, UINT32_MAX};
+    for (int i = 0; i < 4; i++) expect_no_name(pzic_name_of_fault, others[i]);
+    expect_no_name(pzic_name_of_reason, 0);
+    expect_no_name(pzic_name_of_reason, 15);
 }
 
 // A zone stays while one of its handles holds it.
@@ -389,6 +449,8 @@ static void *work(void *argument) {
         pzic_free(&own);
         pzic_free(&again);
     }
+    compile_texts();
+    name_faults();
     pzic_free(&mine->zone);
     return NULL;
 }
@@ -419,6 +481,8 @@ int main(int count, char **words) {
     leave_open();
     compile_source();
     refuse_sources();
+    compile_texts();
+    name_faults();
     for (int i = 2; i < count; i++) {
         file f = load(words[1], words[i]);
         pzic_handle zone = {0};

@@ -44,15 +44,18 @@ enum {
     PZIC_BAD_FILE = 3,
     /* The handle holds nothing that the call works on. */
     PZIC_NO_HANDLE = 4,
-    /* The arrays differ in length. */
+    /* The arrays differ in length, or the texts together have another length. */
     PZIC_LENGTHS = 5,
-    /* The text is no source, or a zone of it has a fault. */
+    /* The texts are no source, or a zone of them has a fault. */
     PZIC_BAD_SOURCE = 6,
-    /* No file has the name or the number. */
+    /* No file has the name or the number, or no fault or reason has the number. */
     PZIC_NO_SUCH = 7
 };
 
-/* The check that bytes fail first, where they are no TZif file (RFC 9636, 3). */
+/*
+ * The check that bytes fail first, where they are no TZif file (RFC 9636, 3). pzic_name_of_reason
+ * tells the name.
+ */
 enum {
     PZIC_REASON_SHORT = 1,
     PZIC_REASON_MAGIC = 2,
@@ -158,24 +161,32 @@ int32_t pzic_zone_offsets(pzic_handle *zone, const int64_t *instants, size_t ins
 
 /* The first fault of a source. */
 typedef struct pzic_fault {
-    /* The number of the line, from 1. */
+    /* The number of the text, from 1. */
+    uint64_t text;
+    /* The number of the line in it, from 1. */
     uint64_t line;
-    /* The number of the kind, 1 to 34; `pzic explain` and docs/ERRORS.md tell of each by its name. */
+    /*
+     * The number of the kind, 1 to 34. pzic_name_of_fault tells its name, and `pzic explain` and
+     * docs/ERRORS.md what it means.
+     */
     uint32_t kind;
 } pzic_fault;
 
 /*
- * Compiles a text of Rule, Zone, continuation and Link lines, as zic(8) has them, on the calling
- * thread. Several texts may be joined, each ended by a newline. What the handle held before is let
- * go first.
+ * Compiles texts of Rule, Zone, continuation and Link lines, as zic(8) has them, on the calling
+ * thread. The texts lie one after another in one array, and lengths[i] is the length of the i-th.
+ * What the handle held before is let go first.
  *
- * PZIC_OK          the handle holds the files of all Zone and Link lines, in the order of the lines
+ * PZIC_OK          the handle holds the files of all Zone and Link lines, in the order of the texts
+ *                  and their lines
  * PZIC_BAD_SOURCE  *fault is the first fault; the handle holds nothing
+ * PZIC_LENGTHS     the lengths of the texts aren't `texts_length` together; the handle holds nothing
  * PZIC_NO_MEMORY   the handle holds nothing
  *
  * *fault is written by PZIC_BAD_SOURCE alone.
  */
-int32_t pzic_compile(const uint8_t *text, size_t length, pzic_handle *files, pzic_fault *fault);
+int32_t pzic_compile(const uint8_t *texts, size_t texts_length, const size_t *lengths,
+                     size_t count, pzic_handle *files, pzic_fault *fault);
 
 /* Tells how many files there are: PZIC_OK, or PZIC_NO_HANDLE where `files` holds no files. */
 int32_t pzic_files_len(pzic_handle *files, size_t *count);
@@ -208,6 +219,16 @@ int32_t pzic_files_bytes(pzic_handle *files, size_t number, uint8_t *room, size_
  * PZIC_NO_MEMORY  the handle holds nothing
  */
 int32_t pzic_zone_of(pzic_handle *files, size_t number, pzic_handle *zone);
+
+/*
+ * Copies the name of a fault's kind, 1 to 39, or of a reason, 1 to 14, as the program prints it: as
+ * much as there is room for, without a NUL. Tells the whole length, at most 17.
+ *
+ * PZIC_OK       *length is the whole length, and the first bytes are copied
+ * PZIC_NO_SUCH  none has the number, as no kind has 31; nothing is written
+ */
+int32_t pzic_name_of_fault(uint32_t kind, uint8_t *room, size_t room_length, size_t *length);
+int32_t pzic_name_of_reason(uint32_t reason, uint8_t *room, size_t room_length, size_t *length);
 
 #ifdef __cplusplus
 }

@@ -8,12 +8,14 @@ reads the same files.
 import array
 import os
 import random
+import re
 import sys
 import threading
 import zoneinfo
 from datetime import datetime, timedelta, timezone
 
 import pzic
+from pzic import _library as c
 
 UTC = timezone.utc
 EPOCH = datetime(1970, 1, 1, tzinfo=UTC)
@@ -95,14 +97,16 @@ def compare_numpy(tree):
     return "a million instants in numpy arrays"
 
 
-def refuse(folder, tree):
-    def refuses(error, call, *words):
-        try:
-            call(*words)
-        except error as caught:
-            return caught
-        sys.exit(f"library: Python: {words} isn't refused")
+def refuses(error, call, *words):
+    """Return the error with which a call refuses these words."""
+    try:
+        call(*words)
+    except error as caught:
+        return caught
+    sys.exit(f"library: Python: {words} isn't refused")
 
+
+def refuse(tree):
     refuses(KeyError, tree.__getitem__, "No/Such")
     refuses(KeyError, tree.__getitem__, "../zones/Europe/Dublin")
     check("No/Such" not in tree and "Europe/Dublin" in tree, "contains")
@@ -114,6 +118,28 @@ def refuse(folder, tree):
     refuses(TypeError, zone.convert_array, array.array("q", [1]), b"1234")
     refuses(ValueError, zone.convert_array, array.array("q", [1]), array.array("i"))
     check(zone.convert_array(array.array("q")) == (array.array("i"), bytearray()), "nothing")
+
+
+def compile_texts(folder):
+    made = pzic.Compiled(b"Zone A 1:00 - AAA", b"", b"Link A B\n")
+    check(list(made) == ["A", "B"] and made["B"].utcoffset(0) == 3600, "texts")
+    caught = refuses(pzic.BadSource, pzic.Compiled, b"Zone A 0 - UTC\n", b"# none\nWord\n")
+    check((caught.text, caught.line, caught.kind) == (2, 2, "Keyword"), caught)
+    check(list(pzic.Compiled()) == [], "no texts")
+    path = os.path.join(os.path.dirname(folder), "source")
+    with open(path, "wb") as file:
+        file.write(b"Zone A 0 - UTC\n")
+    check(list(pzic.Tree.compile(path)) == ["A"], "a path")
+
+
+def compare_names():
+    """Compare the names by number with those of the page of errors, which the gate tries on the program."""
+    page = os.path.join(os.path.dirname(os.path.abspath(__file__)), "../docs/errors.txt")
+    with open(page, encoding="utf-8") as file:
+        printed = re.findall(r"^## (\w+)$", file.read(), re.M)
+    got = [c.text_of(c.name_of_fault, number) for number in range(40)]
+    got += [b"ColumnTooLong"] + [c.text_of(c.name_of_reason, number) for number in range(16)]
+    check([name.decode() for name in got if name] == printed[: printed.index("TooLarge") + 1], "names")
 
 
 def use_threads(zone):
@@ -143,7 +169,9 @@ def main():
         theirs = zoneinfo.ZoneInfo(name)
         count += compare_zone(name, tree[name], theirs)
         compare_column(name, tree[name], theirs, 200)
-    refuse(folder, tree)
+    refuse(tree)
+    compile_texts(folder)
+    compare_names()
     use_threads(tree["Europe/Dublin"])
     print(f"library: Python: {len(names)} zones, {count} changes, {compare_numpy(tree)}")
 

@@ -5,6 +5,7 @@ from __future__ import annotations
 import ctypes
 import ctypes.util
 import os
+from typing import Any
 
 #: The least and the greatest instant.
 MIN_INSTANT = -(2**63)
@@ -33,7 +34,7 @@ class CState(ctypes.Structure):
 class CFault(ctypes.Structure):
     """``pzic_fault``: the first fault of a source."""
 
-    _fields_ = (("line", ctypes.c_uint64), ("kind", ctypes.c_uint32))
+    _fields_ = (("text", ctypes.c_uint64), ("line", ctypes.c_uint64), ("kind", ctypes.c_uint32))
 
 
 def _path() -> str:
@@ -58,13 +59,18 @@ share.argtypes = (_HANDLE, _HANDLE)
 release = held.pzic_free
 release.argtypes = (_HANDLE,)
 release.restype = None
-zone_at = held.pzic_zone_at
-zone_at.argtypes = (_HANDLE, ctypes.c_int64, _STATE)
 zone_span = held.pzic_zone_span
 zone_span.argtypes = (_HANDLE, ctypes.c_int64, _STATE, _INSTANT, _INSTANT)
-compile_text = free.pzic_compile
-compile_text.argtypes = (ctypes.c_char_p, _SIZE, _HANDLE, ctypes.POINTER(CFault))
 _NUMBER = ctypes.POINTER(_SIZE)
+compile_texts = free.pzic_compile
+compile_texts.argtypes = (
+    ctypes.c_char_p,
+    _SIZE,
+    _NUMBER,
+    _SIZE,
+    _HANDLE,
+    ctypes.POINTER(CFault),
+)
 files_len = held.pzic_files_len
 files_len.argtypes = (_HANDLE, _NUMBER)
 files_find = held.pzic_files_find
@@ -73,6 +79,10 @@ files_name = held.pzic_files_name
 files_name.argtypes = (_HANDLE, _SIZE, ctypes.c_char_p, _SIZE, _NUMBER)
 files_bytes = held.pzic_files_bytes
 files_bytes.argtypes = (_HANDLE, _SIZE, ctypes.c_char_p, _SIZE, _NUMBER)
+name_of_fault = held.pzic_name_of_fault
+name_of_fault.argtypes = (ctypes.c_uint32, ctypes.c_char_p, _SIZE, _NUMBER)
+name_of_reason = held.pzic_name_of_reason
+name_of_reason.argtypes = name_of_fault.argtypes
 zone_offsets = free.pzic_zone_offsets
 zone_offsets.argtypes = (
     _HANDLE,
@@ -83,3 +93,12 @@ zone_offsets.argtypes = (
     ctypes.c_void_p,
     _SIZE,
 )
+
+
+def text_of(call: Any, *words: Any) -> bytes:
+    """Return what a call copies, at its whole length. ``words`` come before the room."""
+    length = ctypes.c_size_t()
+    call(*words, ctypes.create_string_buffer(1), 0, length)
+    room = ctypes.create_string_buffer(length.value + 1)
+    call(*words, room, length.value, length)
+    return room.raw[: length.value]

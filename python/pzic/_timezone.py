@@ -3,12 +3,13 @@
 from __future__ import annotations
 
 from datetime import datetime, timedelta, tzinfo
-from typing import TYPE_CHECKING, Optional, Tuple
+from typing import TYPE_CHECKING, Dict, List, NamedTuple, Optional, Tuple
 
 if TYPE_CHECKING:
     from pzic._zone import State, Zone
 
 _EPOCH = datetime(1970, 1, 1)
+_SECOND = timedelta(seconds=1)
 #: More than any UT offset, in seconds.
 _FARTHEST = 26 * 3600
 _ZERO = timedelta(0)
@@ -18,8 +19,87 @@ _OPEN = "-00"
 
 def _seconds(dt: datetime) -> int:
     """Return the seconds from 1970 of the date and time that are shown, as if they were UT."""
-    past = dt.replace(tzinfo=None) - _EPOCH
-    return past.days * 86400 + past.seconds
+    return (dt - _EPOCH) // _SECOND
+
+
+class _Told(NamedTuple):
+    """What is told of a local time."""
+
+    offset: timedelta
+    saved: timedelta
+    name: str
+
+
+class _Stretch(NamedTuple):
+    """The instants from the first to the last with one state, and the offset before them."""
+
+    state: Optional[State]
+    first: int
+    last: int
+    offset: int
+    before: int
+
+
+class _YearUt(Dict[int, List[Tuple[datetime, timedelta, bool]]]):
+    """By the year of a UT, what there is to add up to and with which UT, and whether the time that is
+    shown comes for the second time. A year is made when it is first asked for."""
+
+    def __init__(self, zone: TimeZone) -> None:
+        self._zone = zone
+
+    def __missing__(self, year: int) -> List[Tuple[datetime, timedelta, bool]]:
+        parts: List[Tuple[int, timedelta, bool]] = []
+        begin, end = _bounds(year)
+        for stretch in self._zone._stretches(begin, end):
+            delta = timedelta(seconds=stretch.offset)
+            again = stretch.first + stretch.before - stretch.offset
+            if stretch.first < again:
+                parts.append((min(again - 1, stretch.last), delta, True))
+            if again <= stretch.last:
+                parts.append((stretch.last, delta, False))
+        self[year] = made = [
+            (_end_of(min(last, end), self._zone), delta, again)
+            for last, delta, again in parts
+            if begin <= last
+        ]
+        return made
+
+
+class _YearShown(Dict[int, List[Tuple[datetime, _Told]]]):
+    """By the year of a local time, what is told up to and with which local time, at one fold. A year
+    is made when it is first asked for."""
+
+    def __init__(self, zone: TimeZone, fold: int) -> None:
+        self._zone = zone
+        self._edge = min if fold else max
+
+    def __missing__(self, year: int) -> List[Tuple[datetime, _Told]]:
+        begin, end = _bounds(year)
+        # The last stretch whose start is past tells a time, so one that starts no later than those
+        # before it hides them.
+        starts: List[Tuple[int, _Stretch]] = []
+        for stretch in self._zone._stretches(begin - _FARTHEST, end + _FARTHEST):
+            start = stretch.first + self._edge(stretch.before, stretch.offset)
+            while starts and start <= starts[-1][0]:
+                starts.pop()
+            starts.append((start, stretch))
+        lasts = [start - 1 for start, _ in starts[1:]] + [end]
+        self[year] = made = [
+            (_end_of(min(last, end), self._zone), self._zone._told(stretch))
+            for (start, stretch), last in zip(starts, lasts)
+            if start <= end and begin <= last
+        ]
+        return made
+
+
+def _bounds(year: int) -> Tuple[int, int]:
+    """Return the first and the last second of a year."""
+    return _seconds(datetime(year, 1, 1)), _seconds(datetime(year, 12, 31, 23, 59, 59))
+
+
+def _end_of(second: int, zone: TimeZone) -> datetime:
+    """Return the last microsecond of a second of the years that there are."""
+    return _EPOCH.replace(microsecond=999_999, tzinfo=zone) + timedelta(seconds=second)
 
 
 class TimeZone(tzinfo):
@@ -29,42 +109,69 @@ class TimeZone(tzinfo):
     file is asked at the changes near: a time that comes twice is the first one with ``fold=0`` and
     the second with ``fold=1``; a time that is left out is told by the offset before with
     ``fold=0``, and by the one after with ``fold=1``. Where the file leaves local time open, it is
-    UT, under the abbreviation ``-00``.
+    UT, under the abbreviation ``-00``. The answers of each year are kept.
     """
 
     def __init__(self, zone: Zone, key: Optional[str] = None) -> None:
         self._zone = zone
         self.key = key
-        #: The times shown from the first to before the second have this state, at either fold.
-        self._kept: Tuple[int, int, Tuple[timedelta, timedelta, str]] = (0, 0, (_ZERO, _ZERO, ""))
+        self._at_ut = _YearUt(self)
+        self._at_shown = (_YearShown(self, 0), _YearShown(self, 1))
 
     def __repr__(self) -> str:
         return f"pzic.TimeZone(key={self.key!r})"
 
     def utcoffset(self, dt: Optional[datetime]) -> Optional[timedelta]:
         """Return the UT offset at a local time."""
-        return None if dt is None else self._local(dt)[0]
+        if dt is None:
+            return None
+        # This is the call that programs wait for, so it does itself what `_local` does.
+        if dt.tzinfo is self:
+            for last, told in self._at_shown[dt.fold][dt.year]:
+                if dt <= last:
+                    return told[0]
+        return self._local(dt).offset
 
     def dst(self, dt: Optional[datetime]) -> Optional[timedelta]:
         """Return 0 in standard time, and else by how much the offset differs from that before or
         after. Files don't tell it, so this is a guess, and 1 hour where neither is standard time.
         """
-        return None if dt is None else self._local(dt)[1]
+        return None if dt is None else self._local(dt).saved
 
     def tzname(self, dt: Optional[datetime]) -> Optional[str]:
         """Return the abbreviation at a local time."""
-        return None if dt is None else self._local(dt)[2]
+        return None if dt is None else self._local(dt).name
 
     def fromutc(self, dt: datetime) -> datetime:
         """Return local time at a UT, with its fold."""
         if dt.tzinfo is not self:
             raise ValueError("fromutc: dt.tzinfo is not self")
-        instant = _seconds(dt)
-        state, first, _ = self._zone.span(instant)
-        offset = state.offset if state else 0
-        before = self._offset_before(first, offset)
-        shown = dt + timedelta(seconds=offset)
-        return shown.replace(fold=int(instant - first < before - offset))
+        # Of two times with one tzinfo the fields are compared.
+        for last, delta, again in self._at_ut[dt.year]:
+            if dt <= last:
+                shown = dt + delta
+                return shown.replace(fold=1) if again else shown
+        raise AssertionError("a year has an end")
+
+    def _local(self, dt: datetime) -> _Told:
+        if dt.tzinfo is not self:
+            dt = dt.replace(tzinfo=self)
+        for last, told in self._at_shown[dt.fold][dt.year]:
+            if dt <= last:
+                return told
+        raise AssertionError("a year has an end")
+
+    def _stretches(self, first: int, last: int) -> List[_Stretch]:
+        """Return what the zone says from one instant to another, with the offset before."""
+        found: List[_Stretch] = []
+        instant = first
+        while instant <= last:
+            span = self._zone.span(instant)
+            offset = span.state.offset if span.state else 0
+            before = found[-1].offset if found else self._offset_before(span.first, offset)
+            found.append(_Stretch(span.state, span.first, span.last, offset, before))
+            instant = span.last + 1
+        return found
 
     def _offset_before(self, first: int, offset: int) -> int:
         """Return the offset before the first instant of a span with this offset."""
@@ -73,44 +180,12 @@ class TimeZone(tzinfo):
         state = self._zone.at(first - 1)
         return state.offset if state else 0
 
-    def _local(self, dt: datetime) -> Tuple[timedelta, timedelta, str]:
-        shown = _seconds(dt)
-        start, stop, told = self._kept
-        if start <= shown < stop:
-            return told
-        return self._ask(shown, dt.fold)
-
-    def _ask(self, shown: int, fold: int) -> Tuple[timedelta, timedelta, str]:
-        """Go back over the changes from a day after the time shown, to the last that is past."""
-        instant = shown + _FARTHEST
-        after: Optional[int] = None
-        while True:
-            state, first, last = self._zone.span(instant)
-            offset = state.offset if state else 0
-            before = self._offset_before(first, offset)
-            if first == -(2**63) or first + self._edge(before, offset, fold) <= shown:
-                break
-            instant, after = first - 1, offset
-        told = self._told(state, first, last)
-        if after is None and last != 2**63 - 1:
-            following = self._zone.at(last + 1)
-            after = following.offset if following else 0
-        start = first + max(before, offset)
-        stop = last + 1 + (offset if after is None else min(offset, after))
-        self._kept = (start, stop, told)
-        return told
-
-    @staticmethod
-    def _edge(before: int, offset: int, fold: int) -> int:
-        return min(before, offset) if fold else max(before, offset)
-
-    def _told(
-        self, state: Optional[State], first: int, last: int
-    ) -> Tuple[timedelta, timedelta, str]:
+    def _told(self, stretch: _Stretch) -> _Told:
+        state = stretch.state
         if state is None:
-            return _ZERO, _ZERO, _OPEN
-        saved = self._saved(state, first, last) if state.daylight else _ZERO
-        return timedelta(seconds=state.offset), saved, state.name
+            return _Told(_ZERO, _ZERO, _OPEN)
+        saved = self._saved(state, stretch.first, stretch.last) if state.daylight else _ZERO
+        return _Told(timedelta(seconds=state.offset), saved, state.name)
 
     def _saved(self, state: State, first: int, last: int) -> timedelta:
         near = []

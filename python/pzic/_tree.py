@@ -4,18 +4,24 @@ from __future__ import annotations
 
 import ctypes
 import os
-from typing import Any, Dict, Iterator, Mapping, Union
+from typing import Dict, Iterator, Mapping, Union
 
 from pzic import _library as c
 from pzic._zone import BadFile, Zone
 
 
-class BadSource(ValueError):
-    """A text that is no source. ``line`` is the number of the line of its first fault, from 1, and
-    ``kind`` the number of the fault's kind."""
+def fault_name(kind: int) -> str:
+    """Return the name of a fault's kind, as the program prints it."""
+    return c.text_of(c.name_of_fault, kind).decode("ascii")
 
-    def __init__(self, line: int, kind: int) -> None:
-        super().__init__(f"line {line}: fault of kind {kind}")
+
+class BadSource(ValueError):
+    """Texts that are no source. ``text`` and ``line`` are the numbers of the text and of its line
+    where the first fault is, both from 1, and ``kind`` the name of the fault's kind."""
+
+    def __init__(self, text: int, line: int, kind: str) -> None:
+        super().__init__(f"text {text}, line {line}: {kind}")
+        self.text = text
         self.line = line
         self.kind = kind
 
@@ -46,9 +52,8 @@ class Tree(Mapping[str, Zone]):
         texts = []
         for path in paths:
             with open(path, "rb") as file:
-                text = file.read()
-            texts.append(text if not text or text.endswith(b"\n") else text + b"\n")
-        return Compiled(b"".join(texts))
+                texts.append(file.read())
+        return Compiled(*texts)
 
     def __getitem__(self, name: str) -> Zone:
         zone = self._zones.get(name)
@@ -87,14 +92,17 @@ class Tree(Mapping[str, Zone]):
 
 
 class Compiled(Mapping[str, Zone]):
-    """The zones of a source, by name, in the order of its lines."""
+    """The zones of a source, by name, in the order of its texts and their lines."""
 
-    def __init__(self, text: bytes) -> None:
+    def __init__(self, *texts: bytes) -> None:
         self._handle = c.Handle()
         fault = c.CFault()
-        status = c.compile_text(text, len(text), self._handle, fault)
+        # No pointer may be NULL: so the array has an item more than there are texts.
+        lengths = (ctypes.c_size_t * (len(texts) + 1))(*map(len, texts))
+        whole = b"".join(texts)
+        status = c.compile_texts(whole, len(whole), lengths, len(texts), self._handle, fault)
         if status == c.BAD_SOURCE:
-            raise BadSource(fault.line, fault.kind)
+            raise BadSource(fault.text, fault.line, fault_name(fault.kind))
         if status == c.NO_MEMORY:
             raise MemoryError
         self._zones: Dict[str, Zone] = {}
@@ -110,14 +118,7 @@ class Compiled(Mapping[str, Zone]):
         number = ctypes.c_size_t()
         if c.files_find(self._handle, wanted, len(wanted), number) != c.OK:
             raise KeyError(name)
-        return self._part(c.files_bytes, number.value)
-
-    def _part(self, call: Any, number: int) -> bytes:
-        length = ctypes.c_size_t()
-        call(self._handle, number, ctypes.create_string_buffer(1), 0, length)
-        room = ctypes.create_string_buffer(length.value + 1)
-        call(self._handle, number, room, length.value, length)
-        return room.raw[: length.value]
+        return c.text_of(c.files_bytes, self._handle, number.value)
 
     def __getitem__(self, name: str) -> Zone:
         zone = self._zones.get(name)
@@ -127,7 +128,7 @@ class Compiled(Mapping[str, Zone]):
 
     def __iter__(self) -> Iterator[str]:
         for number in range(len(self)):
-            yield self._part(c.files_name, number).decode("ascii")
+            yield c.text_of(c.files_name, self._handle, number).decode("ascii")
 
     def __len__(self) -> int:
         count = ctypes.c_size_t()

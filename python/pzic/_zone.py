@@ -4,7 +4,7 @@ from __future__ import annotations
 
 import array
 import ctypes
-from typing import Any, NamedTuple, Optional, Tuple
+from typing import Any, Dict, NamedTuple, Optional, Tuple
 
 from pzic import _library as c
 from pzic._timezone import TimeZone
@@ -14,23 +14,11 @@ DAYLIGHT = 1
 #: The flag of an instant at which the file leaves local time open.
 OPEN = 2
 
-#: The checks of a TZif file, by number.
-REASONS = (
-    "Short",
-    "Magic",
-    "Version",
-    "HeadersDiffer",
-    "Counts",
-    "LeapSeconds",
-    "TimesNotRising",
-    "TypeIndex",
-    "Designation",
-    "TypeRecord",
-    "Indicators",
-    "Footer",
-    "TrailingBytes",
-    "TooLarge",
-)
+#: A span is kept for the instants near the one at which it was asked for: those with the same bits
+#: above these, 48 days.
+_SLOT_BITS = 22
+#: The most spans that are kept.
+_MOST_SPANS = 4096
 
 
 class BadFile(ValueError):
@@ -61,12 +49,6 @@ class Span(NamedTuple):
     last: int
 
 
-def _instant(instant: int) -> int:
-    if not c.MIN_INSTANT <= instant <= c.MAX_INSTANT:
-        raise OverflowError("an instant has 64 bits with a sign")
-    return instant
-
-
 class Zone:
     """A zone, read from the bytes of a TZif file.
 
@@ -74,18 +56,17 @@ class Zone:
     by any number of threads.
     """
 
-    __slots__ = ("_first", "_handle", "_last", "_state", "__weakref__")
+    __slots__ = ("_handle", "_spans", "__weakref__")
 
     def __init__(self, data: bytes) -> None:
         self._handle = c.Handle()
-        self._state = c.CState()
-        self._first = ctypes.c_int64()
-        self._last = ctypes.c_int64()
+        #: Spans that were asked for, by the highest bits of an instant in them.
+        self._spans: Dict[int, Span] = {}
         data = bytes(data)
         reason = ctypes.c_uint32()
         status = c.zone_read(data, len(data), self._handle, reason)
         if status == c.BAD_FILE:
-            raise BadFile(REASONS[reason.value - 1])
+            raise BadFile(c.text_of(c.name_of_reason, reason.value).decode("ascii"))
         if status == c.NO_MEMORY:
             raise MemoryError
 
@@ -96,31 +77,41 @@ class Zone:
 
     def at(self, instant: int) -> Optional[State]:
         """Return local time at an instant, or ``None`` where the file leaves it open."""
-        state = c.CState()
-        if c.zone_at(self._handle, _instant(instant), state) == c.UNSPECIFIED:
-            return None
-        return State(state.offset, bool(state.daylight), state.name.decode("ascii"))
+        return self.span(instant).state
 
     def utcoffset(self, instant: int) -> int:
         """Return the UT offset in seconds, positive east.
 
         Raises :class:`LookupError` where the file leaves local time open.
         """
-        state = c.CState()
-        if c.zone_at(self._handle, _instant(instant), state) == c.UNSPECIFIED:
+        state = self.span(instant).state
+        if state is None:
             raise LookupError(f"local time is left open at {instant}")
         return state.offset
 
     def span(self, instant: int) -> Span:
         """Return local time at an instant, and the instants round it at which it is the same."""
+        span = self._spans.get(instant >> _SLOT_BITS)
+        if span is not None and span.first <= instant <= span.last:
+            return span
+        return self._ask(instant)
+
+    def _ask(self, instant: int) -> Span:
+        """Ask the library for a span, and keep it."""
+        if not c.MIN_INSTANT <= instant <= c.MAX_INSTANT:
+            raise OverflowError("an instant has 64 bits with a sign")
         state = c.CState()
         first = ctypes.c_int64()
         last = ctypes.c_int64()
-        status = c.zone_span(self._handle, _instant(instant), state, first, last)
+        status = c.zone_span(self._handle, instant, state, first, last)
         told = None
         if status == c.OK:
             told = State(state.offset, bool(state.daylight), state.name.decode("ascii"))
-        return Span(told, first.value, last.value)
+        span = Span(told, first.value, last.value)
+        if len(self._spans) >= _MOST_SPANS:
+            self._spans.clear()
+        self._spans[instant >> _SLOT_BITS] = span
+        return span
 
     def convert_array(
         self, instants: Any, offsets: Any = None, flags: Any = None

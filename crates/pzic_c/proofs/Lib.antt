@@ -1,3 +1,4 @@
 pub mod AsBox
 pub mod Columns
 pub mod Refusals
+pub mod Texts

@@ -2,6 +2,9 @@ pub mod code
 pub mod Column
 pub mod Files
 pub mod Handle
+pub mod Names
 pub mod Owned
+pub mod Source
 pub mod State
+pub mod Text
 pub mod Zone

@@ -1,3 +1,3 @@
 -- What only the proofs of this crate's code use. No public contract cites it.
-pub mod Cursor
+pub mod Kept
 pub mod Written

@@ -1,83 +1,17 @@
 //! The calls on the files of a source.
 
-ghost use Rattle.std.specs.Prelude.{◌≡◌, ◌∷◌, [], None, length, IfOk, MatchOption};
-ghost use Rattle.zic_base.specs.Fault.{fault_of};
-ghost use Rattle.zic_base.specs.Memory.{IfRefusal};
-ghost use Rattle.zic_bulk.specs.Build.{AreFilesOfTexts, IsFaultOfTexts};
-ghost use Rattle.pzic_c.specs.Files.{IsCompiled, IsFaultTold, IsFound, IsPartTold, IsZoneTold, overwritten};
+ghost use Rattle.std.specs.Prelude.{◌≡◌, None, length, MatchOption};
+ghost use Rattle.pzic_c.specs.Files.{IsFound, IsPartTold, IsZoneTold};
 ghost use Rattle.pzic_c.specs.Handle.{IsHandle, Keeps, files_in, held_in, zone_in};
 ghost use Rattle.pzic_c.specs.declared.status.TheConstants.{NO_HANDLE, OK};
 
+use crate::copying::copy;
 use crate::handle::Handle;
-use crate::held::{Held, hold_files, hold_member};
-use crate::status::{BAD_SOURCE, NO_HANDLE, NO_MEMORY, NO_SUCH, OK};
+use crate::held::{Held, hold_member};
+use crate::status::{NO_HANDLE, NO_MEMORY, NO_SUCH, OK};
 use std::alloc::Global;
 use std::sync::Arc;
-use zic_base::Stop;
-use zic_bulk::{Files, compile};
-use zic_source::read_source;
-
-/// The first fault of a source.
-#[repr(C)]
-#[derive(Drop)]
-pub struct SourceFault {
-    /// The number of the line, from 1.
-    pub line: u64,
-    /// The number of the kind.
-    pub kind: u32,
-}
-
-/// Returns the files of a text.
-fn files_of_text(alloc: Global, text: &[u8]) -> Result<Files, Stop>
-    ensures ok { IfOk result (AreFilesOfTexts (text.now ∷ [])) }
-    ensures err { IfRefusal fault_of result (IsFaultOfTexts (text.now ∷ [])) }
-{
-    let texts = vec![in alloc; Vec::from_slice(alloc, text)?]?;
-    let source = read_source(alloc, &texts)?;
-    compile(alloc, &source)
-}
-
-/// Tells why a text has no files.
-fn refuse_source(stop: Stop, told: &mut SourceFault) -> i32
-    ensures { IsFaultTold (fault_of stop) result told.new }
-{
-    match stop {
-        Stop::Fault(fault) => {
-            *told = SourceFault {
-                line: fault.place.line,
-                kind: u32::from(fault.kind.number()),
-            };
-            BAD_SOURCE
-        }
-        Stop::Memory => NO_MEMORY,
-    }
-}
-
-/// Compiles a source.
-#[unsafe(no_mangle)]
-pub extern "C" fn pzic_compile(
-    alloc: Global,
-    text: &[u8],
-    files: &mut Handle,
-    fault: &mut SourceFault,
-) -> i32
-    requires { IsHandle files.old }
-    ensures handle { IsHandle files.new }
-    ensures compiled { IsCompiled text.now result fault.new (files_in files.new) }
-{
-    drop(files.take(alloc));
-    let made = match files_of_text(alloc, text) {
-        Ok(made) => made,
-        Err(stop) => return refuse_source(stop, fault),
-    };
-    match hold_files(alloc, made) {
-        Ok(held) => {
-            files.put(held);
-            OK
-        }
-        Err(_) => NO_MEMORY,
-    }
-}
+use zic_bulk::Files;
 
 /// Tells how many files there are.
 #[unsafe(no_mangle)]
@@ -136,16 +70,6 @@ pub extern "C" fn pzic_files_find(
     };
     files.put(held);
     status
-}
-
-/// Copies as much as there is room for, and tells the whole length.
-fn copy(from: &[u8], room: &mut [u8], count: &mut usize)
-    ensures room { room.new ≡ overwritten room.old from.now }
-    ensures count { count.new ≡ length from.now }
-{
-    let copied = from.len().min(room.len());
-    room[..copied].copy_from_slice(&from[..copied]);
-    *count = from.len();
 }
 
 /// Tells the name of a file.

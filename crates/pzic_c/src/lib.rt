@@ -3,10 +3,13 @@
 #![tactic(auto)]
 
 mod column;
+mod compiling;
+mod copying;
 mod files;
 mod handle;
 mod held;
 mod member;
+mod names;
 mod owned;
 mod parts;
 mod sharing;

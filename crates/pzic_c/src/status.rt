@@ -14,5 +14,5 @@ pub const NO_HANDLE: i32 = 4;
 pub const LENGTHS: i32 = 5;
 /// The text is no source, or a zone of it has a fault.
 pub const BAD_SOURCE: i32 = 6;
-/// No file has the name or the number.
+/// No file has the name or the number, or no kind or reason has the number.
 pub const NO_SUCH: i32 = 7;

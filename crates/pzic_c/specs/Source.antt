@@ -1,0 +1,32 @@
+-- What the call that compiles a source tells. Own choice.
+use Rattle.std.specs.Prelude.{◌≡◌, ◌≢◌, ℕ, ℤ, ◌⊎◌, List, [], ◌∷◌, length, take, drop, Option, Some, None, IfSome}
+use Rattle.std.specs.List.{sum}
+use Rattle.zic_base.specs.Fault.{kind_number}
+use Rattle.zic_base.specs.declared.fault.Fault.{Fault}
+use Rattle.zic_files.specs.File.{File}
+use Rattle.zic_bulk.specs.Build.{AreFilesOfTexts, IsFaultOfTexts}
+use Rattle.pzic_c.specs.declared.compiling.SourceFault.{SourceFault}
+use Rattle.pzic_c.specs.declared.status.TheConstants.{OK, NO_MEMORY, BAD_SOURCE, LENGTHS}
+
+-- the texts of these lengths, which lie one after another
+abbrev pub texts_in : List ℕ → List ℕ → List (List ℕ)
+texts_in [] bytes = []
+texts_in (n ∷ lengths) bytes = take n bytes ∷ texts_in lengths (drop n bytes)
+
+-- The status and the fault tell why texts have no files: a fault's text, line and kind, or that memory ran out.
+abbrev pub IsFaultTold : Option Fault → ℤ → SourceFault → Type 0
+IsFaultTold (Some fault) status told =
+    (status ≡ BAD_SOURCE) × (told.text ≡ fault.place.text) × (told.line ≡ fault.place.line) × (told.kind ≡ kind_number fault.kind)
+IsFaultTold None status told = status ≡ NO_MEMORY
+
+-- The texts were compiled, and the handle holds their files; or they weren't, the handle holds nothing, and the first fault is told, or that memory ran
+-- out, which may come at any time.
+abbrev pub IsCompiled : List (List ℕ) → ℤ → SourceFault → Option (List File) → Type 0
+IsCompiled texts status told (Some files) = (status ≡ OK) × AreFilesOfTexts texts files
+IsCompiled texts status told None = (fault : Option Fault) × IfSome fault (IsFaultOfTexts texts) × IsFaultTold fault status told
+
+-- The texts of these lengths were compiled, or not; or the lengths aren't those of texts that lie one after another here.
+abbrev pub AreCompiled : List ℕ → List ℕ → ℤ → SourceFault → Option (List File) → Type 0
+AreCompiled bytes lengths status told files =
+    ((sum lengths ≡ length bytes) × IsCompiled (texts_in lengths bytes) status told files)
+    ⊎ ((sum lengths ≢ length bytes) × (status ≡ LENGTHS) × (files ≡ None))
