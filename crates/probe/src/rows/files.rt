@@ -7,16 +7,20 @@ use zic_tzif::{Answer, ReadStop, Zone, read};
 
 /// Appends the answer to a call: the reason why the text is no file, or what the file answers.
 pub fn answer(alloc: Global, call: &Call<'_>, answers: &mut Vec<u8>) -> io::Result<()> {
-    let zone = match read(alloc, call.text()?) {
-        Ok(zone) => zone,
-        Err(ReadStop::Bad(reason)) => return writeln!(answers, "{reason:?}"),
-        Err(ReadStop::Memory) => return Err(io::Error::from(ErrorKind::OutOfMemory)),
-    };
+    match read(alloc, call.text()?) {
+        Ok(zone) => answer_of(&zone, call, answers),
+        Err(ReadStop::Bad(reason)) => writeln!(answers, "{reason:?}"),
+        Err(ReadStop::Memory) => Err(io::Error::from(ErrorKind::OutOfMemory)),
+    }
+}
+
+/// Appends what a file answers to a call.
+fn answer_of(zone: &Zone, call: &Call<'_>, answers: &mut Vec<u8>) -> io::Result<()> {
     match call.name {
-        "read" => push_zone(&zone, answers),
-        "at" => push_answers(&zone, call, answers),
-        "spans" => push_spans(&zone, call, answers),
-        "states" => push_states(&zone, answers),
+        "read" => push_zone(zone, answers),
+        "at" => push_answers(zone, call, answers),
+        "spans" => push_spans(zone, call, answers),
+        "states" => push_states(zone, answers),
         _ => Err(bad_argument()),
     }
 }

@@ -19,15 +19,21 @@ pub fn answer(alloc: Global, call: &Call<'_>, answers: &mut Vec<u8>) -> Result<(
 }
 
 fn line(alloc: Global, awaited: bool, text: &[u8], answers: &mut Vec<u8>) -> Result<(), Refusal> {
+    match entry_of(alloc, awaited, text)? {
+        Some(entry) => Ok(push_entry(&entry, answers)?),
+        None => Ok(writeln!(answers, "nothing")?),
+    }
+}
+
+/// Returns the entry of a line, if it has fields.
+fn entry_of(alloc: Global, awaited: bool, text: &[u8]) -> Result<Option<Entry>, Refusal> {
     let mut fields = Fields::new(alloc);
     fields.take_line(alloc, PLACE, text)?;
     if fields.len() == 0 {
-        writeln!(answers, "nothing")?;
-        return Ok(());
+        return Ok(None);
     }
     let entry = line_entry(alloc, awaited, PLACE, &fields)?;
-    push_entry(&entry, answers)?;
-    Ok(())
+    Ok(Some(entry))
 }
 
 fn push_entry(entry: &Entry, answers: &mut Vec<u8>) -> io::Result<()> {

@@ -14,7 +14,7 @@ pub fn answer(alloc: Global, call: &Call<'_>, answers: &mut Vec<u8>) -> io::Resu
         "version_3" => push_printed(alloc, footer_of(alloc, call.text()?, 3)?, answers),
         "parts" => push_parts(&wide_footer(alloc, call)?, answers),
         "states" => push_states(&wide_footer(alloc, call)?, call, answers),
-        "spans" => push_spans(alloc, call, answers),
+        "spans" => spans(alloc, call, answers),
         "prepared" => push_prepared(&PreparedFooter::new(wide_footer(alloc, call)?), answers),
         "contains" => contains(call, answers),
         _ => Err(bad_argument()),
@@ -78,9 +78,18 @@ fn push_states(footer: &Footer, call: &Call<'_>, answers: &mut Vec<u8>) -> io::R
 
 /// `spans INSTANT..`: appends the span of a footer round each instant, its flag, and whether the
 /// prepared footer answers the same.
-fn push_spans(alloc: Global, call: &Call<'_>, answers: &mut Vec<u8>) -> io::Result<()> {
+fn spans(alloc: Global, call: &Call<'_>, answers: &mut Vec<u8>) -> io::Result<()> {
     let footer = wide_footer(alloc, call)?;
     let prepared = PreparedFooter::new(wide_footer(alloc, call)?);
+    push_spans(&footer, &prepared, call, answers)
+}
+
+fn push_spans(
+    footer: &Footer,
+    prepared: &PreparedFooter,
+    call: &Call<'_>,
+    answers: &mut Vec<u8>,
+) -> io::Result<()> {
     for number in 0..call.words.len() {
         let t = call.instant(number)?;
         let span = footer.span(t);

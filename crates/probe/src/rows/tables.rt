@@ -18,24 +18,66 @@ pub fn answer(
     answers: &mut Vec<u8>,
 ) -> Result<(), Refusal> {
     match call.name {
-        "table" => push_table(&table_of(alloc, source)?, answers)?,
-        "counts" => push_counts(&table_of(alloc, source)?, answers)?,
-        "written" => {
-            let octets = write(alloc, &table_of(alloc, source)?)?;
-            writeln!(answers, "{}", hex::encode(alloc, &octets)?)?;
-        }
-        "bytes" => {
-            let found = image(alloc, source, 0)?;
-            writeln!(answers, "{}", hex::encode(alloc, found.octets())?)?;
-        }
-        "image" => push_image(
-            &image(alloc, source, call.number(0, 0, 9)? as usize)?,
-            answers,
-        )?,
-        "at" => push_answers(image(alloc, source, 0)?.zone(), call, answers)?,
-        _ => return Err(bad_call()),
+        "table" => table_text(alloc, source, answers),
+        "counts" => counts(alloc, source, answers),
+        "written" => written(alloc, source, answers),
+        "bytes" => bytes(alloc, source, answers),
+        "image" => image_text(alloc, source, call.number(0, 0, 9)? as usize, answers),
+        "at" => at(alloc, source, call, answers),
+        _ => Err(bad_call()),
     }
-    Ok(())
+}
+
+fn table_text(alloc: Global, source: &Source, answers: &mut Vec<u8>) -> Result<(), Refusal> {
+    let made = table_of(alloc, source)?;
+    Ok(push_table(&made, answers)?)
+}
+
+fn counts(alloc: Global, source: &Source, answers: &mut Vec<u8>) -> Result<(), Refusal> {
+    let made = table_of(alloc, source)?;
+    Ok(push_counts(&made, answers)?)
+}
+
+/// Appends the bytes that `write` gives, in hex.
+fn written(alloc: Global, source: &Source, answers: &mut Vec<u8>) -> Result<(), Refusal> {
+    let octets = octets_of(alloc, source)?;
+    Ok(push_hex(alloc, &octets, answers)?)
+}
+
+fn octets_of(alloc: Global, source: &Source) -> Result<Vec<u8>, Refusal> {
+    let made = table_of(alloc, source)?;
+    Ok(write(alloc, &made)?)
+}
+
+/// Appends the bytes of the file of the first zone, in hex.
+fn bytes(alloc: Global, source: &Source, answers: &mut Vec<u8>) -> Result<(), Refusal> {
+    let found = image(alloc, source, 0)?;
+    Ok(push_hex(alloc, found.octets(), answers)?)
+}
+
+fn push_hex(alloc: Global, octets: &[u8], answers: &mut Vec<u8>) -> io::Result<()> {
+    let text = hex::encode(alloc, octets)?;
+    writeln!(answers, "{text}")
+}
+
+fn image_text(
+    alloc: Global,
+    source: &Source,
+    zone: usize,
+    answers: &mut Vec<u8>,
+) -> Result<(), Refusal> {
+    let found = image(alloc, source, zone)?;
+    Ok(push_image(&found, answers)?)
+}
+
+fn at(
+    alloc: Global,
+    source: &Source,
+    call: &Call<'_>,
+    answers: &mut Vec<u8>,
+) -> Result<(), Refusal> {
+    let found = image(alloc, source, 0)?;
+    Ok(push_answers(found.zone(), call, answers)?)
 }
 
 /// Returns the table of the first zone.

@@ -1,5 +1,7 @@
 //! Periods, changes, tails and footers of the only zone of a source.
 
+ghost use Rattle.std.specs.Prelude.{◌≡◌, length};
+
 use super::call::{Call, Refusal, bad_call, push_state, text_of};
 use std::alloc::Global;
 use std::io::{self, Write};
@@ -19,21 +21,55 @@ pub fn answer(
         return Err(bad_call());
     }
     match call.name {
-        "changes" => push_changes(&timeline(alloc, source, 0)?, answers)?,
-        "tail" => push_tail(timeline(alloc, source, 0)?.tail(), answers)?,
-        "footer" => {
-            let found = timeline(alloc, source, 0)?;
-            let footer = make(alloc, source.line(0, 0).place, &found)?;
-            writeln!(answers, "{}", text_of(&print(alloc, &footer)?))?;
-        }
-        "periods" => {
-            let zone = Zone { source, number: 0 };
-            push_zone(zone, answers)?;
-            push_periods(&periods(alloc, zone)?, call, answers)?;
-        }
-        _ => return Err(bad_call()),
+        "changes" => changes(alloc, source, answers),
+        "tail" => tail(alloc, source, answers),
+        "footer" => footer(alloc, source, answers),
+        "periods" => zone_periods(alloc, source, call, answers),
+        _ => Err(bad_call()),
     }
-    Ok(())
+}
+
+fn changes(alloc: Global, source: &Source, answers: &mut Vec<u8>) -> Result<(), Refusal>
+    requires { length source.now.zones ≡ 1 }
+{
+    let found = timeline(alloc, source, 0)?;
+    Ok(push_changes(&found, answers)?)
+}
+
+fn tail(alloc: Global, source: &Source, answers: &mut Vec<u8>) -> Result<(), Refusal>
+    requires { length source.now.zones ≡ 1 }
+{
+    let found = timeline(alloc, source, 0)?;
+    Ok(push_tail(found.tail(), answers)?)
+}
+
+fn footer(alloc: Global, source: &Source, answers: &mut Vec<u8>) -> Result<(), Refusal>
+    requires { length source.now.zones ≡ 1 }
+{
+    let text = footer_text(alloc, source)?;
+    Ok(writeln!(answers, "{}", text_of(&text))?)
+}
+
+fn footer_text(alloc: Global, source: &Source) -> Result<Vec<u8>, Refusal>
+    requires { length source.now.zones ≡ 1 }
+{
+    let found = timeline(alloc, source, 0)?;
+    let footer = make(alloc, source.line(0, 0).place, &found)?;
+    Ok(print(alloc, &footer)?)
+}
+
+fn zone_periods(
+    alloc: Global,
+    source: &Source,
+    call: &Call<'_>,
+    answers: &mut Vec<u8>,
+) -> Result<(), Refusal>
+    requires { length source.now.zones ≡ 1 }
+{
+    let zone = Zone { source, number: 0 };
+    push_zone(zone, answers)?;
+    let found = periods(alloc, zone)?;
+    Ok(push_periods(&found, call, answers)?)
 }
 
 /// Appends the place of the zone and that of its first line, and the number of its lines.

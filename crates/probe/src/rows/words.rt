@@ -1,7 +1,7 @@
 //! Words of source lines.
 
 use super::call::{Call, bad_argument, text_of};
-use std::alloc::Global;
+use std::alloc::{AllocError, Global};
 use std::io::{self, Write};
 use zic_words::{
     Letter, Name, SetName, clock_time, ends_before, is_dash, is_one_leap_year, last_year, offset,
@@ -71,19 +71,28 @@ fn name(alloc: Global, text: &[u8], answers: &mut Vec<u8>) -> io::Result<()> {
 
 /// Prints the name of a set, and whether its copy and the set `EU` are equal.
 fn set_name(alloc: Global, text: &[u8], answers: &mut Vec<u8>) -> io::Result<()> {
-    let (Some(found), Some(europe)) = (SetName::parse(alloc, text), SetName::parse(alloc, b"EU"))
-    else {
+    let Some(name) = SetName::parse(alloc, text) else {
         return writeln!(answers, "None");
     };
-    let (name, europe) = (found?, europe?);
+    push_set_name(alloc, &name?, answers)
+}
+
+fn push_set_name(alloc: Global, name: &SetName, answers: &mut Vec<u8>) -> io::Result<()> {
+    let (copied, europe) = (is_copied(name)?, is_europe(alloc, name)?);
+    writeln!(answers, "[{}] {copied} {europe}", text_of(name.octets()))
+}
+
+/// Returns whether a copy is the same.
+fn is_copied(name: &SetName) -> Result<bool, AllocError> {
     let copy = name.clone()?;
-    writeln!(
-        answers,
-        "[{}] {} {}",
-        text_of(name.octets()),
-        name == copy,
-        name == europe
-    )
+    Ok(*name == copy)
+}
+
+fn is_europe(alloc: Global, name: &SetName) -> Result<bool, AllocError> {
+    match SetName::parse(alloc, b"EU") {
+        Some(europe) => Ok(*name == europe?),
+        None => Ok(false),
+    }
 }
 
 /// Prints a letter.
