@@ -131,7 +131,7 @@ fn write_with(
     }
 }
 
-/// Returns room for the answers of any zone, of which none is kept yet.
+/// Returns room for the answers of any zone. It holds no answer yet.
 fn nothing_kept() -> [Kept; SLOTS]
     ensures { (content : Content) → All (IsKept content) result }
 {
