@@ -83,8 +83,8 @@ IsFaultName number name =
 abbrev pub IsReasonName : ℕ → List ℕ → Type 0
 IsReasonName number name = (r : Reason) × (reason_number r ≡ number) × (name ≡ reason_word r)
 
--- The name is told, or there is none.
-abbrev pub IsNameTold : (List ℕ → Type 0) → ℤ → List ℕ → List ℕ → ℕ → Type 0
-IsNameTold Is status before after count =
+-- The name is told, or there is none, and nothing is written.
+abbrev pub IsNameTold : (List ℕ → Type 0) → ℤ → List ℕ → List ℕ → ℕ → ℕ → Type 0
+IsNameTold Is status before after count_before count =
     ((name : List ℕ) × Is name × IsTextTold name status before after count)
-    ⊎ ((status ≡ NO_SUCH) × ((name : List ℕ) → Is name → ⊥))
+    ⊎ ((status ≡ NO_SUCH) × (after ≡ before) × (count ≡ count_before) × ((name : List ℕ) → Is name → ⊥))

@@ -13,20 +13,21 @@ abbrev pub texts_in : List ℕ → List ℕ → List (List ℕ)
 texts_in [] bytes = []
 texts_in (n ∷ lengths) bytes = take n bytes ∷ texts_in lengths (drop n bytes)
 
--- The status and the fault tell why texts have no files: a fault's text, line and kind, or that memory ran out.
-abbrev pub IsFaultTold : Option Fault → ℤ → SourceFault → Type 0
-IsFaultTold (Some fault) status told =
+-- The status and the fault tell why texts have no files: a fault's text, line and kind, or that memory ran out, and then the fault stays as it was.
+abbrev pub IsFaultTold : Option Fault → ℤ → SourceFault → SourceFault → Type 0
+IsFaultTold (Some fault) status before told =
     (status ≡ BAD_SOURCE) × (told.text ≡ fault.place.text) × (told.line ≡ fault.place.line) × (told.kind ≡ kind_number fault.kind)
-IsFaultTold None status told = status ≡ NO_MEMORY
+IsFaultTold None status before told = (status ≡ NO_MEMORY) × (told ≡ before)
 
 -- The texts were compiled, and the handle holds their files; or they weren't, the handle holds nothing, and the first fault is told, or that memory ran
 -- out, which may come at any time.
-abbrev pub IsCompiled : List (List ℕ) → ℤ → SourceFault → Option (List File) → Type 0
-IsCompiled texts status told (Some files) = (status ≡ OK) × AreFilesOfTexts texts files
-IsCompiled texts status told None = (fault : Option Fault) × IfSome fault (IsFaultOfTexts texts) × IsFaultTold fault status told
+abbrev pub IsCompiled : List (List ℕ) → ℤ → SourceFault → SourceFault → Option (List File) → Type 0
+IsCompiled texts status before told (Some files) = (status ≡ OK) × (told ≡ before) × AreFilesOfTexts texts files
+IsCompiled texts status before told None =
+    (fault : Option Fault) × IfSome fault (IsFaultOfTexts texts) × IsFaultTold fault status before told
 
 -- The texts of these lengths were compiled, or not; or the lengths aren't those of texts that lie one after another here.
-abbrev pub AreCompiled : List ℕ → List ℕ → ℤ → SourceFault → Option (List File) → Type 0
-AreCompiled bytes lengths status told files =
-    ((sum lengths ≡ length bytes) × IsCompiled (texts_in lengths bytes) status told files)
-    ⊎ ((sum lengths ≢ length bytes) × (status ≡ LENGTHS) × (files ≡ None))
+abbrev pub AreCompiled : List ℕ → List ℕ → ℤ → SourceFault → SourceFault → Option (List File) → Type 0
+AreCompiled bytes lengths status before told files =
+    ((sum lengths ≡ length bytes) × IsCompiled (texts_in lengths bytes) status before told files)
+    ⊎ ((sum lengths ≢ length bytes) × (status ≡ LENGTHS) × (told ≡ before) × (files ≡ None))

@@ -71,7 +71,7 @@ fn files_of_texts(alloc: Global, texts: &[u8], lengths: &[usize]) -> Result<File
 
 /// Tells why texts have no files.
 fn refuse_source(stop: Stop, told: &mut SourceFault) -> i32
-    ensures { IsFaultTold (fault_of stop) result told.new }
+    ensures { IsFaultTold (fault_of stop) result told.old told.new }
 {
     match stop {
         Stop::Fault(fault) => {
@@ -97,7 +97,8 @@ pub extern "C" fn pzic_compile(
 ) -> i32
     requires { IsHandle files.old }
     ensures handle { IsHandle files.new }
-    ensures compiled { AreCompiled texts.now lengths.now result fault.new (files_in files.new) }
+    ensures compiled { AreCompiled texts.now lengths.now result
+        fault.old fault.new (files_in files.new) }
 {
     drop(files.take(alloc));
     if !is_whole(lengths, texts.len()) {

@@ -193,7 +193,8 @@ fn name_of_reason(number: u32) -> Option<&'static str>
 
 /// Copies a name, if there is one, as much as there is room for.
 fn tell(name: Option<&str>, room: &mut [u8], count: &mut usize) -> i32
-    ensures { MatchOption name.entry (result ≡ NO_SUCH)
+    ensures { MatchOption name.entry
+        ((result ≡ NO_SUCH) × (room.new ≡ room.old) × (count.new ≡ count.old))
         (λ text. IsTextTold text.now result room.old room.new count.new) }
 {
     match name {
@@ -208,7 +209,8 @@ fn tell(name: Option<&str>, room: &mut [u8], count: &mut usize) -> i32
 /// Copies the name of a fault's kind, as much as there is room for.
 #[unsafe(no_mangle)]
 pub extern "C" fn pzic_name_of_fault(kind: u32, room: &mut [u8], count: &mut usize) -> i32
-    ensures { IsNameTold (IsFaultName kind) result room.old room.new count.new }
+    ensures { IsNameTold (IsFaultName kind) result
+        room.old room.new count.old count.new }
 {
     tell(name_of_fault(kind), room, count)
 }
@@ -216,7 +218,8 @@ pub extern "C" fn pzic_name_of_fault(kind: u32, room: &mut [u8], count: &mut usi
 /// Copies the name of a reason, as much as there is room for.
 #[unsafe(no_mangle)]
 pub extern "C" fn pzic_name_of_reason(reason: u32, room: &mut [u8], count: &mut usize) -> i32
-    ensures { IsNameTold (IsReasonName reason) result room.old room.new count.new }
+    ensures { IsNameTold (IsReasonName reason) result
+        room.old room.new count.old count.new }
 {
     tell(name_of_reason(reason), room, count)
 }
