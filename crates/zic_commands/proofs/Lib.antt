@@ -1,10 +1,7 @@
 pub mod ConvertingLemmas
-pub mod InputLemmas
 pub mod LinkLemmas
-pub mod ListLemmas
 pub mod ListingLemmas
 pub mod NameLemmas
 pub mod OutputLemmas
 pub mod ReadingLemmas
-pub mod SourceLemmas
 pub mod TreeLemmas

@@ -24,13 +24,14 @@ use Rattle.zic_files.specs.Sound.{AreSoundFiles}
 use Rattle.zic_bulk.specs.Build.{AreFilesOfTexts}
 use Rattle.zic_bulk.specs.Files.{AreFilesOf, IsFileAt}
 use Rattle.zic_bulk.proofs.SoundFiles.{files_are_sound}
-use Rattle.zic_commands.proofs.ListLemmas.{taken, parts}
+use Rattle.zic_io.proofs.ListLemmas.{taken, parts}
 use Rattle.zic_commands.proofs.TreeLemmas.{file_more, file_stop, gains_and_none, gains_both, gains_none}
 use Rattle.zic_commands.specs.Failing.{IsFailureOfFolder, IsUnplaced}
 use Rattle.zic_commands.specs.Linking.{AreBuiltLinked, IsFailureOfLinked, IsFailureOfLinks, IsFileNamed, IsLinkOf, IsUnlinked}
-use Rattle.zic_commands.specs.Tree.{Gains, in_folder, Linked, Placed}
-use Rattle.zic_commands.specs.declared.failure.Failure.{Failure}
-use Rattle.zic_commands.specs.declared.link_kind.LinkedFolder.{LinkedFolder}
+use Rattle.zic_io.specs.Tree.{Gains, Linked, Placed}
+use Rattle.zic_commands.specs.Tree.{in_folder}
+use Rattle.zic_io.specs.declared.failure.Failure.{Failure}
+use Rattle.zic_io.specs.declared.link_kind.LinkedFolder.{LinkedFolder}
 
 -- ---- lists
 

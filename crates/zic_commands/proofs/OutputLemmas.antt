@@ -3,9 +3,9 @@ use Rattle.std.proofs.Common.{◌≡◌, ◌⊎◌, List, ℕ, inr, Option, Resu
 use Rattle.std.specs.Prelude.{IfErr, OnErr}
 use Rattle.zic_counted.specs.Counts.{Counts}
 use Rattle.zic_counted.specs.Written.{FailsWithin}
-use Rattle.zic_commands.specs.Failing.{IsFailureOfOutput}
-use Rattle.zic_commands.specs.declared.failure.Failure.{Failure}
-use Rattle.zic_commands.specs.declared.failure.Failure.TheVariants as failures
+use Rattle.zic_io.specs.Failing.{IsFailureOfOutput}
+use Rattle.zic_io.specs.declared.failure.Failure.{Failure}
+use Rattle.zic_io.specs.declared.failure.Failure.TheVariants as failures
 
 -- a failed write of output is the last of two reasons
 pub unwritten : {T W : Type 0} (result : Result T Failure) (IsBefore : Failure → Type 0) (contents : W → Option (List ℕ)) (IsOutput : List ℕ → Type 0) (old new : Counts W) (bytes : List ℕ)

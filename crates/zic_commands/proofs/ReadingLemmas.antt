@@ -5,8 +5,8 @@ use Rattle.zic_tzif.specs.Reading.{IsFault, reason_of}
 use Rattle.zic_tzif.specs.declared.reason.ReadStop.{ReadStop}
 use Rattle.zic_tzif.specs.declared.reason.ReadStop.TheVariants as stop
 use Rattle.zic_tzif.specs.declared.reason.Reason.{Reason}
-use Rattle.zic_commands.specs.Failing.{read_failure}
-use Rattle.zic_commands.specs.declared.failure.Failure.TheVariants as failures
+use Rattle.zic_io.specs.Failing.{read_failure}
+use Rattle.zic_io.specs.declared.failure.Failure.TheVariants as failures
 
 -- the failure tells the fault of the bytes, or want of memory
 pub read_stop : (bytes : List ℕ) (e : ReadStop) → IfSome (reason_of e) (IsFault bytes)

@@ -4,10 +4,11 @@ use Rattle.std.specs.Prelude.{IfSome, slice_get}
 use Rattle.std.proofs.lemmas.List.{map-append}
 use Rattle.std.proofs.lemmas.Option.{slice_get_cases}
 use Rattle.zic_files.specs.File.{File}
-use Rattle.zic_commands.proofs.ListLemmas.{taken, parts}
+use Rattle.zic_io.proofs.ListLemmas.{taken, parts}
 use Rattle.zic_commands.specs.Failing.{IsFailureOfFolder, IsUnplaced}
-use Rattle.zic_commands.specs.Tree.{Gains, in_folder, Placed}
-use Rattle.zic_commands.specs.declared.failure.Failure.{Failure}
+use Rattle.zic_io.specs.Tree.{Gains, Placed}
+use Rattle.zic_commands.specs.Tree.{in_folder}
+use Rattle.zic_io.specs.declared.failure.Failure.{Failure}
 
 -- a tree that is as it was gained nothing
 pub gains_none : {A : Type 0} (tree : Option (List A)) → Gains tree tree []

@@ -9,9 +9,10 @@ use Rattle.zic_plan.specs.declared.stop.RunStop.{RunStop}
 use Rattle.zic_convert.specs.Column.{ConvertsBodyTo}
 use Rattle.zic_convert.specs.Convert.{IsCauseOf, WritesAll, WritesAllOf, WritesAt, WritesAtOf}
 use Rattle.zic_counted.specs.Counts.{Counts, HasFailedSince}
-use Rattle.zic_commands.specs.Failing.{IsFailureOfTexts, run_failure}
-use Rattle.zic_commands.specs.declared.failure.Failure.{Failure}
-use Rattle.zic_commands.specs.declared.failure.Failure.TheVariants as failures
+use Rattle.zic_io.specs.Failing.{run_failure}
+use Rattle.zic_commands.specs.Failing.{IsFailureOfTexts}
+use Rattle.zic_io.specs.declared.failure.Failure.{Failure}
+use Rattle.zic_io.specs.declared.failure.Failure.TheVariants as failures
 
 -- The reader and the writer of a conversion, before it and after it, the column that the reader
 -- had left, and what the writer held and holds, where these are known.

@@ -1,8 +1,5 @@
 pub mod Text
-pub mod Output
-pub mod Sources
 pub mod Tree
 pub mod Linking
-pub mod Words
 pub mod Failing
 pub mod Converting

@@ -8,13 +8,15 @@ use Rattle.zic_source.specs.Links.{EndsAt}
 use Rattle.zic_source.specs.Source.{SourceLines, ZoneLines, zone_at}
 use Rattle.zic_files.specs.File.{File}
 use Rattle.zic_bulk.specs.Files.{AreFilesOf}
-use Rattle.zic_commands.specs.declared.failure.Failure.{Failure}
-use Rattle.zic_commands.specs.declared.failure.Failure.TheVariants as failures
-use Rattle.zic_commands.specs.declared.link_kind.LinkKind.{LinkKind}
-use Rattle.zic_commands.specs.declared.link_kind.LinkKind.TheVariants as kinds
-use Rattle.zic_commands.specs.declared.link_kind.LinkedFolder.{LinkedFolder}
-use Rattle.zic_commands.specs.Failing.{IsCannotWrite, IsFailureOfFolder}
-use Rattle.zic_commands.specs.Tree.{Gains, in_folder, Linked, Placed}
+use Rattle.zic_io.specs.declared.failure.Failure.{Failure}
+use Rattle.zic_io.specs.declared.failure.Failure.TheVariants as failures
+use Rattle.zic_io.specs.declared.link_kind.LinkKind.{LinkKind}
+use Rattle.zic_io.specs.declared.link_kind.LinkKind.TheVariants as kinds
+use Rattle.zic_io.specs.declared.link_kind.LinkedFolder.{LinkedFolder}
+use Rattle.zic_io.specs.Failing.{IsCannotWrite}
+use Rattle.zic_commands.specs.Failing.{IsFailureOfFolder}
+use Rattle.zic_io.specs.Tree.{Gains, Linked, Placed}
+use Rattle.zic_commands.specs.Tree.{in_folder}
 
 -- the way from the folder of a name's file up to the folder of the tree: `../` for each slash
 abbrev pub way_up : List ℕ → List ℕ

@@ -4,15 +4,15 @@ ghost use Rattle.std.specs.Prelude.{◌≡◌, ◌≢◌, ◌<◌, ◌⊎◌, []
 ghost use Rattle.zic_words.specs.Name.{is_name};
 ghost use Rattle.zic_source.specs.Texts.{texts_of};
 ghost use Rattle.zic_commands.specs.Failing.{IsFailureOfFiles, IsFailureOfFolder, IsFailureOfTexts, IsUnplaced};
-ghost use Rattle.zic_commands.specs.Tree.{in_folder, AreBuilt, Gains};
+ghost use Rattle.zic_io.specs.Tree.{Gains};
+ghost use Rattle.zic_commands.specs.Tree.{in_folder, AreBuilt};
 
 use crate::compiler::files_of;
-use crate::failure::Failure;
-use crate::tree::{Tree, Unplaced};
 use std::alloc::{AllocError, Global};
 use std::sync::Wait;
 use std::thread::Threads;
 use zic_bulk::{Files, Plan};
+use zic_io::{Failure, Tree, Unplaced};
 
 /// Compiles the texts, by the plan's workers, and places each file in the folder of a tree under
 /// its name, in the order of the texts and their lines. Nothing is placed where there is no file.

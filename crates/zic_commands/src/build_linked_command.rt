@@ -10,17 +10,16 @@ ghost use Rattle.zic_bulk.specs.Files.{AreFilesOf};
 ghost use Rattle.zic_files.specs.File.{File};
 ghost use Rattle.zic_commands.specs.Failing.{IsFailureOfFolder, IsFailureOfTexts};
 ghost use Rattle.zic_commands.specs.Linking.{target_of, way_up, AreBuiltLinked, IsFailureOfLinked, IsFailureOfLinks, IsFileNamed, IsLinkOf, IsUnlinked};
-ghost use Rattle.zic_commands.specs.Tree.{in_folder, Gains, Linked};
+ghost use Rattle.zic_io.specs.Tree.{Gains, Linked};
+ghost use Rattle.zic_commands.specs.Tree.{in_folder};
 
 use crate::build_command::{path_of, place_file, with_name};
 use crate::compiler::{files_of, source_of};
-use crate::failure::Failure;
-use crate::link_kind::{LinkKind, LinkedFolder};
-use crate::tree::{Tree, Unplaced};
 use std::alloc::{AllocError, Global};
 use std::sync::Wait;
 use std::thread::Threads;
 use zic_bulk::{Files, Plan};
+use zic_io::{Failure, LinkKind, LinkedFolder, Tree, Unplaced};
 use zic_source::Source;
 
 /// Compiles the texts, by the plan's workers, and places the file of each zone in the folder of a

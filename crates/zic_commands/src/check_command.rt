@@ -4,18 +4,17 @@ ghost use Rattle.std.specs.Prelude.{◌≡◌, ◌<◌, ◌++◌, length, slice_
 ghost use Rattle.std.specs.List.{flat_map};
 ghost use Rattle.zic_source.specs.Texts.{texts_of};
 ghost use Rattle.zic_commands.specs.Failing.{IsFailureOfCheck, IsFailureOfListing};
-ghost use Rattle.zic_commands.specs.Output.{WritesOutput};
+ghost use Rattle.zic_io.specs.Output.{WritesOutput};
 ghost use Rattle.zic_commands.specs.Text.{check_line, IsListing};
 
 use crate::compiler::files_of;
-use crate::failure::Failure;
-use crate::output::write_output;
 use std::alloc::{AllocError, Global};
 use std::io::Write;
 use std::sync::Wait;
 use std::thread::Threads;
 use zic_bulk::{Files, Plan};
 use zic_counted::Counted;
+use zic_io::{Failure, write_output};
 
 /// Compiles the texts, by the plan's workers, and writes for each file a line with its name, its
 /// number of bytes and its footer, in the order of the texts and their lines.

@@ -6,11 +6,11 @@ ghost use Rattle.zic_source.specs.Texts.{texts_of};
 ghost use Rattle.zic_bulk.specs.Build.{AreFilesOfTexts};
 ghost use Rattle.zic_commands.specs.Failing.{IsFailureOfTexts};
 
-use crate::failure::{Failure, run_failure};
 use std::alloc::Global;
 use std::sync::Wait;
 use std::thread::Threads;
 use zic_bulk::{Files, Plan, RunStop, build};
+use zic_io::{Failure, run_failure};
 use zic_pieces::Open;
 use zic_source::{Source, read_source};
 

@@ -6,16 +6,16 @@ ghost use Rattle.zic_counted.specs.Counts.{HasFailedSince};
 ghost use Rattle.zic_counted.specs.Written.{FailsWithin, Writes};
 ghost use Rattle.zic_commands.specs.Converting.{ConvertsAll, ConvertsBody, conversion};
 ghost use Rattle.zic_commands.specs.Converting.{IsFailureOfConvert, IsFailureOfConvertBody, header_line};
-ghost use Rattle.zic_commands.specs.declared.failure.Failure.TheVariants.{CannotWriteRows};
+ghost use Rattle.zic_io.specs.declared.failure.Failure.TheVariants.{CannotWriteRows};
 
 use crate::compiler::files_of;
-use crate::failure::{Failure, run_failure};
 use std::alloc::Global;
 use std::io::{Read, Write};
 use std::sync::Wait;
 use std::thread::Threads;
 use zic_bulk::Plan;
 use zic_counted::{Counted, WriteFailed, write_all};
+use zic_io::{Failure, run_failure};
 use zic_pieces::Open;
 
 /// The line before the rows of a column that has a header.

@@ -3,14 +3,13 @@
 ghost use Rattle.std.specs.Prelude.{OnOk, IfErr};
 ghost use Rattle.zic_dump.specs.Text.{IsDump};
 ghost use Rattle.zic_commands.specs.Failing.{IsFailureOfTelling};
-ghost use Rattle.zic_commands.specs.Output.{WritesOutput};
+ghost use Rattle.zic_io.specs.Output.{WritesOutput};
 
-use crate::failure::Failure;
-use crate::output::write_output;
 use std::alloc::Global;
 use std::io::Write;
 use zic_counted::Counted;
 use zic_dump::Years;
+use zic_io::{Failure, write_output};
 
 /// Writes the text of `zdump -i` for the bytes of a file at a path: what the file answers at the
 /// start of the first year, and each change up to the start of the second.

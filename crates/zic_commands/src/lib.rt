@@ -1,9 +1,8 @@
 //! The commands of the program, over texts, bytes, readers, writers and a tree of files that the
 //! caller gives: compile texts and list their files, or place them in a folder; convert a column
 //! of instants by them; and tell what a file says of an instant, or its changes of local time.
-//! Beside them stands what reads the texts and files that words name. The tests stand in
-//! `program_tests`. A module has the word `command` where the function that it is named for may
-//! not share its name.
+//! `zic_io` reads the texts and files that words name. The tests stand in `program_tests`. A module
+//! has the word `command` where the function that it is named for may not share its name.
 #![tactic(auto)]
 
 mod build_command;
@@ -12,27 +11,14 @@ mod check_command;
 mod compiler;
 mod convert_command;
 mod dump_command;
-mod failure;
-mod input;
-mod link_kind;
-mod names;
-mod output;
-mod progress;
 mod show_command;
-mod sources;
-mod tree;
 
 pub use build_command::build;
 pub use build_linked_command::build_linked;
 pub use check_command::check;
 pub use convert_command::{convert, convert_with_header};
 pub use dump_command::dump;
-pub use failure::Failure;
-pub use input::{MAX_SOURCE, read_file_bytes, read_source_text};
-pub use link_kind::{LinkKind, LinkedFolder};
-pub use names::{kind_name, reason_name, row_kind_name};
-pub use progress::{Progress, Told};
 pub use show_command::show;
-pub use sources::{read_file, read_sources};
-pub use tree::{Disk, Tree, Unplaced};
+pub use zic_io::{Disk, Failure, LinkKind, LinkedFolder, MAX_SOURCE, Progress, Told, Tree, Unplaced};
+pub use zic_io::{read_file, read_file_bytes, read_source_text, read_sources};
 pub use zic_plan::{STANDARD_INPUT, parse_instant_word};

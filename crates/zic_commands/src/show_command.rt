@@ -6,15 +6,14 @@ ghost use Rattle.zic_base.specs.declared.limit.TheConstants.{FARTHEST_FILE_OFFSE
 ghost use Rattle.zic_dump.specs.Changes.{told};
 ghost use Rattle.zic_tzif.specs.Answer.{answered};
 ghost use Rattle.zic_commands.specs.Failing.{IsFailureOfFile, IsFailureOfTelling};
-ghost use Rattle.zic_commands.specs.Output.{WritesOutput};
+ghost use Rattle.zic_io.specs.Output.{WritesOutput};
 ghost use Rattle.zic_commands.specs.Text.{answer_line, state_line, IsShowing};
 
-use crate::failure::Failure;
-use crate::output::write_output;
 use std::alloc::{AllocError, Global};
 use std::io::Write;
 use zic_base::{State, offset_text};
 use zic_counted::Counted;
+use zic_io::{Failure, write_output};
 use zic_tzif::{Answer, read};
 
 /// Writes the UT offset, daylight flag and abbreviation that the bytes of a file give at an

@@ -2,8 +2,8 @@
 use Rattle.std.specs.Prelude.{ℕ}
 use Rattle.zic_command_line.specs.declared.no_request.NoRequest.{NoRequest}
 use Rattle.zic_command_line.specs.declared.no_request.NoRequest.TheVariants as reasons
-use Rattle.zic_commands.specs.declared.failure.Failure.TheVariants.{Memory}
-use Rattle.zic_commands.specs.Words.{status_of}
+use Rattle.zic_io.specs.declared.failure.Failure.TheVariants.{Memory}
+use Rattle.zic_io.specs.Words.{status_of}
 use Rattle.zic_main.specs.declared.failure.Refusal.{Refusal}
 use Rattle.zic_main.specs.declared.failure.Refusal.TheVariants as refusals
 

@@ -6,7 +6,8 @@ use crate::failure::Refusal;
 use std::alloc::{AllocError, Global};
 use std::fs::Files;
 use zic_command_line::Request;
-use zic_commands::{Failure, kind_name, reason_name, row_kind_name};
+use zic_io::Failure;
+use zic_names::{kind_name, reason_name, row_kind_name};
 use zic_explain::{entries, expectation, line_place, nearest_zone, row_place};
 use zic_plan::RowKind;
 

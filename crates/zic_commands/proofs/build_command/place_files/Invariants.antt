@@ -1,5 +1,6 @@
 use Rattle.std.proofs.Common.{◌≢◌, ◌<◌, [], map, take}
-use Rattle.zic_commands.specs.Tree.{Gains, in_folder}
+use Rattle.zic_io.specs.Tree.{Gains}
+use Rattle.zic_commands.specs.Tree.{in_folder}
 use Rattle.zic_commands.proofs.build_command.place_files.Given as goal
 
 abbrev pub invariant-loop-file : goal.invariant-loop-file

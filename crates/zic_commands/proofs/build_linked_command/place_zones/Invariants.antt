@@ -1,5 +1,5 @@
 use Rattle.std.proofs.Common.{◌≢◌, ◌<◌, []}
-use Rattle.zic_commands.specs.Tree.{Gains}
+use Rattle.zic_io.specs.Tree.{Gains}
 use Rattle.zic_commands.proofs.LinkLemmas.{AreZonesSoFar}
 use Rattle.zic_commands.proofs.build_linked_command.place_zones.Given as goal
 

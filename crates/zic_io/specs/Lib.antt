@@ -1,0 +1,5 @@
+pub mod Output
+pub mod Sources
+pub mod Tree
+pub mod Words
+pub mod Failing

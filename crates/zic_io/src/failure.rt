@@ -1,0 +1,168 @@
+//! Why a command gives up, and the status that the program then ends with.
+
+ghost use Rattle.std.specs.Prelude.{◌≡◌, ◌⊎◌};
+ghost use Rattle.zic_io.specs.declared.failure.Failure.TheVariants.{CannotWriteOutput, Memory};
+ghost use Rattle.zic_io.specs.Failing.{fault_failure, run_failure, IsCannotRead};
+ghost use Rattle.zic_io.specs.Words.{status_of};
+
+use std::alloc::{AllocError, AllocFailed, Global};
+use std::{error, fmt};
+use zic_base::{Fault, Kind};
+use zic_counted::WriteFailed;
+use zic_names::{kind_name, reason_name, row_kind_name};
+use zic_plan::{RowKind, RunStop};
+use zic_tzif::{ReadStop, Reason};
+
+/// Why a command gives up. Its text is what the program prints on standard error.
+#[derive(Debug, Drop)]
+pub enum Failure {
+    /// The first fault of a source that is one text: `line L: NAME`.
+    Line { line: u64, kind: Kind },
+    /// The first fault of a source that is several texts: `text T line L: NAME`.
+    TextLine { text: u64, line: u64, kind: Kind },
+    /// The first row with a fault: `row N: NAME`.
+    Row { row: u64, kind: RowKind },
+    /// A column has more bytes than it may: `column: ColumnTooLong`.
+    ColumnTooLong,
+    /// The first check that a file fails: `file: REASON`.
+    File(Reason),
+    /// A source or a file, by the word that names it: `cannot read PATH`.
+    CannotRead(String),
+    /// `cannot read column`.
+    CannotReadColumn,
+    /// A file that is to be written: `cannot write PATH`.
+    CannotWrite(String),
+    /// `cannot write rows`.
+    CannotWriteRows,
+    /// `cannot write output`.
+    CannotWriteOutput,
+    /// Memory ran out: `out of memory`.
+    Memory,
+    /// No thread could be started: `no thread`. Never answered.
+    NoThread,
+}
+
+impl Failure {
+    /// Returns the status of a program that ends with the failure: 1 for a fault of what is read,
+    /// 3 for what can't be read or written, 4 where memory ran out or no thread could be started.
+    pub fn status(&self) -> u8
+        ensures { result ≡ status_of self.now }
+    {
+        match self {
+            Failure::Line { .. } | Failure::TextLine { .. } | Failure::Row { .. } => 1,
+            Failure::ColumnTooLong | Failure::File(_) => 1,
+            Failure::CannotRead(_) | Failure::CannotReadColumn => 3,
+            Failure::CannotWrite(_) | Failure::CannotWriteRows | Failure::CannotWriteOutput => 3,
+            Failure::Memory | Failure::NoThread => 4,
+        }
+    }
+}
+
+impl fmt::Display for Failure {
+    ghost use Rattle.std.specs.Prelude.{Some};
+    ghost use Rattle.zic_io.specs.Words.{failure_text};
+
+    ghost output = { λ f. Some (failure_text f) };
+
+    fn fmt<W: fmt::Write>(&self, f: &mut fmt::Formatter<W>) -> fmt::Result {
+        match self {
+            Failure::Line { line, kind } => write!(f, "line {line}: {}", kind_name(*kind)),
+            Failure::TextLine { text, line, kind } => {
+                write!(f, "text {text} line {line}: {}", kind_name(*kind))
+            }
+            Failure::Row { row, kind } => write!(f, "row {row}: {}", row_kind_name(*kind)),
+            Failure::ColumnTooLong => write!(f, "column: ColumnTooLong"),
+            Failure::File(reason) => write!(f, "file: {}", reason_name(*reason)),
+            Failure::CannotRead(path) => write!(f, "cannot read {path}"),
+            Failure::CannotReadColumn => write!(f, "cannot read column"),
+            Failure::CannotWrite(path) => write!(f, "cannot write {path}"),
+            Failure::CannotWriteRows => write!(f, "cannot write rows"),
+            Failure::CannotWriteOutput => write!(f, "cannot write output"),
+            Failure::Memory => write!(f, "out of memory"),
+            Failure::NoThread => write!(f, "no thread"),
+        }
+    }
+}
+
+impl error::Error for Failure {}
+
+impl From<AllocError> for Failure {
+    ghost from_gives = { λ _ e. e ≡ Memory };
+
+    fn from(_e: AllocError) -> Failure {
+        Failure::Memory
+    }
+}
+
+impl<T: Drop> From<AllocFailed<T>> for Failure {
+    ghost from_gives = { λ _ e. e ≡ Memory };
+
+    fn from(_e: AllocFailed<T>) -> Failure {
+        Failure::Memory
+    }
+}
+
+impl From<WriteFailed> for Failure {
+    ghost from_gives = { λ _ e. e ≡ CannotWriteOutput };
+
+    fn from(_e: WriteFailed) -> Failure {
+        Failure::CannotWriteOutput
+    }
+}
+
+impl From<ReadStop> for Failure {
+    ghost use Rattle.zic_io.specs.Failing.{read_failure};
+
+    ghost from_gives = { λ stop e. e ≡ read_failure stop };
+
+    fn from(stop: ReadStop) -> Failure {
+        match stop {
+            ReadStop::Bad(reason) => Failure::File(reason),
+            ReadStop::Memory => Failure::Memory,
+        }
+    }
+}
+
+/// Returns the failure of a run over a source of this number of texts.
+pub fn run_failure(stop: RunStop, texts: usize) -> Failure
+    ensures { result ≡ run_failure stop texts }
+{
+    match stop {
+        RunStop::Source(fault) => fault_failure(fault, texts),
+        RunStop::Row { row, kind } => Failure::Row { row, kind },
+        RunStop::ReadFailed => Failure::CannotReadColumn,
+        RunStop::WriteFailed => Failure::CannotWriteRows,
+        RunStop::ColumnTooLong => Failure::ColumnTooLong,
+        RunStop::Memory => Failure::Memory,
+        RunStop::NoThread => Failure::NoThread,
+    }
+}
+
+/// Returns the failure for the fault of a source of this number of texts.
+fn fault_failure(fault: Fault, texts: usize) -> Failure
+    ensures { result ≡ fault_failure fault texts }
+{
+    let (place, kind) = (fault.place, fault.kind);
+    if texts == 1 {
+        Failure::Line {
+            line: place.line,
+            kind,
+        }
+    } else {
+        Failure::TextLine {
+            text: place.text,
+            line: place.line,
+            kind,
+        }
+    }
+}
+
+/// Returns the failure for a source or a file that can't be read, or that memory ran out.
+pub(crate) fn cannot_read(alloc: Global, path: &str) -> Failure
+    ensures { (result ≡ Memory) ⊎ IsCannotRead path.now result }
+{
+    match String::from_str(alloc, path) {
+        Ok(path) => Failure::CannotRead(path),
+        Err(_) => Failure::Memory,
+    }
+}

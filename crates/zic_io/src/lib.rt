@@ -1,0 +1,20 @@
+//! What the commands read and write: sources and files that words name, output, a tree of files,
+//! and how far the writing of rows is. Beside them stands why a command gives up, with the text and
+//! the status that tell it. The tests stand in `program_tests`.
+#![tactic(auto)]
+
+mod failure;
+mod input;
+mod link_kind;
+mod output;
+mod progress;
+mod sources;
+mod tree;
+
+pub use failure::{Failure, run_failure};
+pub use input::{MAX_SOURCE, read_file_bytes, read_source_text};
+pub use link_kind::{LinkKind, LinkedFolder};
+pub use output::write_output;
+pub use progress::{Progress, Told};
+pub use sources::{read_file, read_sources};
+pub use tree::{Disk, Tree, Unplaced};
