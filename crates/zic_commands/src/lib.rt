@@ -19,6 +19,8 @@ pub use check_command::check;
 pub use convert_command::{convert, convert_with_header};
 pub use dump_command::dump;
 pub use show_command::show;
-pub use zic_io::{Disk, Failure, LinkKind, LinkedFolder, MAX_SOURCE, Progress, Told, Tree, Unplaced};
-pub use zic_io::{read_file, read_file_bytes, read_source_text, read_sources};
+pub use zic_io::{
+    Disk, Failure, LinkKind, LinkedFolder, MAX_SOURCE, Progress, Told, Tree, Unplaced, read_file,
+    read_file_bytes, read_source_text, read_sources,
+};
 pub use zic_plan::{STANDARD_INPUT, parse_instant_word};
