@@ -6,9 +6,9 @@ use crate::failure::Refusal;
 use std::alloc::{AllocError, Global};
 use std::fs::Files;
 use zic_command_line::Request;
+use zic_explain::{entries, expectation, line_place, nearest_zone, row_place};
 use zic_io::Failure;
 use zic_names::{kind_name, reason_name, row_kind_name};
-use zic_explain::{entries, expectation, line_place, nearest_zone, row_place};
 use zic_plan::RowKind;
 
 /// What is kept of a request and of what was read, to explain a failure.
