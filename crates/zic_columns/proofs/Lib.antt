@@ -17,3 +17,5 @@ pub mod RecordCounts
 pub mod Pairs
 pub mod Passing
 pub mod PairFacts
+pub mod Exchanges
+pub mod Fields

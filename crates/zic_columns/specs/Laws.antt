@@ -1,6 +1,8 @@
 -- Laws about the records of a column.
-use Rattle.std.specs.Prelude.{◌≡◌, ℕ, List}
+use Rattle.std.specs.Prelude.{◌≡◌, ℕ, List, map}
+use Rattle.csv.specs.Reading.{strip_bom}
 use Rattle.zic_columns.specs.Column.{AreColumnRecords, AreWholeRecords, HasNoQuote, StandsBeforeRecord, column_records, plain_records}
+use Rattle.zic_columns.specs.Exchange.{AreDelimitedRecords, CanDelimit, exchanged}
 
 -- a CSV reader gives bytes these records
 abbrev pub ColumnRecordsAreRead : Type 0
@@ -18,3 +20,9 @@ PlainRecordsAreRead = (bytes : List ℕ) → HasNoQuote bytes → column_records
 -- those after.
 abbrev pub RecordsAreCut : Type 0
 RecordsAreCut = (bytes : List ℕ) → StandsBeforeRecord bytes → AreWholeRecords bytes
+
+-- The records of a column with another delimiter are those of the column in which it and the comma
+-- stand in each other's place, with the two put back in their fields.
+abbrev pub RecordsAreExchanged : Type 0
+RecordsAreExchanged = (delimiter : ℕ) (column : List ℕ) → CanDelimit delimiter
+    → AreDelimitedRecords delimiter (strip_bom column) (map (map (exchanged delimiter)) (column_records (strip_bom (exchanged delimiter column))))

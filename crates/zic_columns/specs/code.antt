@@ -7,5 +7,6 @@ pub mod Range
 pub mod Cutting
 pub mod Hand
 pub mod Split
+pub mod Wide
 pub mod Block
 pub mod Pair

@@ -1,6 +1,7 @@
 //! Laws of the definitions that the contracts of this crate cite. These functions do nothing.
 
-ghost use Rattle.zic_columns.specs.Laws.{ColumnRecordsAreRead, PlainRecordsAreRead, RecordsAreCut, RecordsAreOne};
+ghost use Rattle.zic_columns.specs.Laws.{ColumnRecordsAreRead, PlainRecordsAreRead, RecordsAreCut};
+ghost use Rattle.zic_columns.specs.Laws.{RecordsAreExchanged, RecordsAreOne};
 
 /// States that a CSV reader gives bytes their records.
 pub fn column_records_are_read()
@@ -21,4 +22,10 @@ pub fn plain_records_are_read()
 /// before and those after.
 pub fn records_are_cut()
     ensures { RecordsAreCut }
+{}
+
+/// States that a column with another delimiter has the records of the column in which the delimiter
+/// and the comma stand in each other's place.
+pub fn records_are_exchanged()
+    ensures { RecordsAreExchanged }
 {}

@@ -10,6 +10,7 @@
 mod blocks;
 mod buffer;
 mod columns;
+mod delimiter;
 mod entry;
 mod first;
 mod hand;
@@ -25,9 +26,12 @@ mod quote;
 mod quoted;
 mod rounds;
 mod splits;
+mod wide;
 
 pub use columns::{Column, Unread};
+pub use delimiter::{Exchanged, exchange};
 pub use entry::Record;
 pub use pieces::MAX_ROUND_PIECES;
 pub use rounds::Round;
 pub use splits::{Records, Split};
+pub use wide::{WideRecord, WideRecords, WideSplit};

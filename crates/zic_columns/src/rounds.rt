@@ -6,6 +6,7 @@ ghost use Rattle.zic_columns.specs.Column.{column_records};
 
 use crate::pieces::PieceRange;
 use crate::splits::Split;
+use crate::wide::WideSplit;
 use std::alloc::{AllocError, Global};
 use std::marker::Model;
 
@@ -70,5 +71,18 @@ impl<'a> Round<'a> {
             (λ split. IfSome (slice_get self.now index) (λ piece. split ≡ column_records piece)) }
     {
         Split::new(alloc, self.piece(index))
+    }
+
+    /// Divides the piece with this index into records of any number of fields.
+    ///
+    /// # Errors
+    ///
+    /// Fails where memory is refused.
+    pub fn split_wide(&self, alloc: Global, index: usize) -> Result<WideSplit<'a>, AllocError>
+        requires { index < length self.now }
+        ensures { IfOk result
+            (λ split. IfSome (slice_get self.now index) (λ piece. split ≡ column_records piece)) }
+    {
+        WideSplit::new(alloc, self.piece(index))
     }
 }

@@ -6,14 +6,15 @@ use Rattle.std.proofs.lemmas.Bool.{cases_Bool}
 use Rattle.std.proofs.lemmas.List.Folds.{concat-append}
 use Rattle.std.proofs.lemmas.List.{append-nil, length-append}
 use Rattle.zic_files.specs.File.{File}
+use Rattle.zic_plan.specs.declared.layout.Layout.{Layout}
 use Rattle.zic_plan.specs.declared.stop.RowKind.{RowKind}
-use Rattle.zic_convert.specs.Rows.{ComeTo, IsTextOf, fault_of}
+use Rattle.zic_convert.specs.LayoutRows.{ComeToBy, IsTextBy, fault_by}
 use Rattle.zic_convert.specs.code.Row.{AreRowsOf, RowsOf}
 use Rattle.zic_convert.specs.code.Pieces.{followed_by}
 
-module _ (files : List File) (most : ℕ) where
+module _ (layout : Layout) (files : List File) (most : ℕ) where
   -- a row without a fault is one of so many
-  pub within : (number : ℕ) (fields : List (List ℕ)) → fault_of files most number fields ≡ None → number ≤ most
+  pub within : (number : ℕ) (fields : List (List ℕ)) → fault_by layout files most number fields ≡ None → number ≤ most
   within number fields e =
       elim (cases_Bool (nat_le number most)) [
         | inl is ↦ grind (arith, is)
@@ -22,39 +23,39 @@ module _ (files : List File) (most : ℕ) where
 
   -- rows without a fault, and the rows of the records after theirs
   pub come_after : (number : ℕ) (xs ys : List (List (List ℕ))) (ts us : List (List ℕ)) (fault : Option RowKind)
-      → ComeTo files most number xs ts None → ComeTo files most (number + length ts) ys us fault → ComeTo files most number (xs ++ ys) (ts ++ us) fault
+      → ComeToBy layout files most number xs ts None → ComeToBy layout files most (number + length ts) ys us fault → ComeToBy layout files most number (xs ++ ys) (ts ++ us) fault
   come_after number [] ys [] us fault before after =
       let at : number + 0 ≡ number = omega arith in
-      subst (λ (n : ℕ). ComeTo files most n ys us fault) at after
+      subst (λ (n : ℕ). ComeToBy layout files most n ys us fault) at after
   come_after number [] ys (t ∷ ts) us fault before after = absurd cc
   come_after number (x ∷ xs) ys [] us fault before after = absurd cc
   come_after number (x ∷ xs) ys (t ∷ ts) us fault before after =
       let at : number + suc (length ts) ≡ number + 1 + length ts = omega arith in
-      (before.0, before.1, come_after (number + 1) xs ys ts us fault before.2 (subst (λ (n : ℕ). ComeTo files most n ys us fault) at after))
+      (before.0, before.1, come_after (number + 1) xs ys ts us fault before.2 (subst (λ (n : ℕ). ComeToBy layout files most n ys us fault) at after))
 
   -- records after a row with a fault change nothing
   pub come_more : (number : ℕ) (xs ys : List (List (List ℕ))) (ts : List (List ℕ)) (kind : RowKind)
-      → ComeTo files most number xs ts (Some kind) → ComeTo files most number (xs ++ ys) ts (Some kind)
+      → ComeToBy layout files most number xs ts (Some kind) → ComeToBy layout files most number (xs ++ ys) ts (Some kind)
   come_more number [] ys ts kind come = absurd cc
   come_more number (x ∷ xs) ys [] kind come = come
   come_more number (x ∷ xs) ys (t ∷ ts) kind come = (come.0, come.1, come_more (number + 1) xs ys ts kind come.2)
 
   -- each row has a record
-  pub few_texts : (number : ℕ) (xs : List (List (List ℕ))) (ts : List (List ℕ)) (fault : Option RowKind) → ComeTo files most number xs ts fault → length ts ≤ length xs
+  pub few_texts : (number : ℕ) (xs : List (List (List ℕ))) (ts : List (List ℕ)) (fault : Option RowKind) → ComeToBy layout files most number xs ts fault → length ts ≤ length xs
   few_texts number [] [] fault come = omega arith
   few_texts number [] (t ∷ ts) fault come = absurd cc
   few_texts number (x ∷ xs) [] fault come = omega arith
   few_texts number (x ∷ xs) (t ∷ ts) fault come = omega (arith, few_texts (number + 1) xs ts fault come.2)
 
   -- without a fault each record has a row
-  pub all_texts : (number : ℕ) (xs : List (List (List ℕ))) (ts : List (List ℕ)) → ComeTo files most number xs ts None → length ts ≡ length xs
+  pub all_texts : (number : ℕ) (xs : List (List (List ℕ))) (ts : List (List ℕ)) → ComeToBy layout files most number xs ts None → length ts ≡ length xs
   all_texts number [] [] come = refl
   all_texts number [] (t ∷ ts) come = absurd cc
   all_texts number (x ∷ xs) [] come = absurd cc
   all_texts number (x ∷ xs) (t ∷ ts) come = ap suc (all_texts (number + 1) xs ts come.2)
 
   -- and there are no more rows than there may be
-  pub all_within : (number : ℕ) (xs : List (List (List ℕ))) (ts : List (List ℕ)) → ComeTo files most number xs ts None → number ≤ most + 1 → number + length ts ≤ most + 1
+  pub all_within : (number : ℕ) (xs : List (List (List ℕ))) (ts : List (List ℕ)) → ComeToBy layout files most number xs ts None → number ≤ most + 1 → number + length ts ≤ most + 1
   all_within number xs [] come h = omega (arith, h)
   all_within number [] (t ∷ ts) come h = absurd cc
   all_within number (x ∷ xs) (t ∷ ts) come h =
@@ -63,12 +64,12 @@ module _ (files : List File) (most : ℕ) where
       omega (arith, rest)
 
   -- no records
-  pub no_rows : (number : ℕ) → AreRowsOf files most number [] (record { text = []; count = 0; fault = None })
+  pub no_rows : (number : ℕ) → AreRowsOf layout files most number [] (record { text = []; count = 0; fault = None })
   no_rows number = record { texts = []; come = (refl, refl); text = refl; count = refl }
 
   -- some rows, and those of the records after theirs
-  pub rows_followed : (number : ℕ) (xs ys : List (List (List ℕ))) (rows others : RowsOf) (fault : Option RowKind) → rows.fault ≡ fault → AreRowsOf files most number xs rows
-      → (rows.fault ≡ None → AreRowsOf files most (number + length xs) ys others) → AreRowsOf files most number (xs ++ ys) (followed_by rows others fault)
+  pub rows_followed : (number : ℕ) (xs ys : List (List (List ℕ))) (rows others : RowsOf) (fault : Option RowKind) → rows.fault ≡ fault → AreRowsOf layout files most number xs rows
+      → (rows.fault ≡ None → AreRowsOf layout files most (number + length xs) ys others) → AreRowsOf layout files most number (xs ++ ys) (followed_by rows others fault)
   rows_followed number xs ys rows others (Some kind) e are next = record {
     texts = are.texts;
     come = rw e (come_more number xs ys are.texts kind (rw e at are.come));
@@ -82,17 +83,17 @@ module _ (files : List File) (most : ℕ) where
       record {
         texts = are.texts ++ after.texts;
         come = come_after number xs ys are.texts after.texts others.fault come
-            (subst (λ (n : ℕ). ComeTo files most (number + n) ys after.texts others.fault) (sym long) after.come);
+            (subst (λ (n : ℕ). ComeToBy layout files most (number + n) ys after.texts others.fault) (sym long) after.come);
         text = rw (are.text, after.text) (sym (concat-append are.texts after.texts));
         count = omega (arith, are.count, after.count, length-append are.texts after.texts);
       }
 
   -- rows, and the row of one record more
   pub one_more : (number : ℕ) (xs : List (List (List ℕ))) (text : List ℕ) (count : ℕ) (fields : List (List ℕ)) (last : List ℕ)
-      → AreRowsOf files most number xs (record { text = text; count = count; fault = None }) → fault_of files most (number + count) fields ≡ None → IsTextOf files fields last
-      → AreRowsOf files most number (xs ++ fields ∷ []) (record { text = text ++ last; count = count + 1; fault = None })
+      → AreRowsOf layout files most number xs (record { text = text; count = count; fault = None }) → fault_by layout files most (number + count) fields ≡ None → IsTextBy layout files fields last
+      → AreRowsOf layout files most number (xs ++ fields ∷ []) (record { text = text ++ last; count = count + 1; fault = None })
   one_more number xs text count fields last are none is =
-      let at = subst (λ (n : ℕ). fault_of files most (number + n) fields ≡ None) are.count none in
+      let at = subst (λ (n : ℕ). fault_by layout files most (number + n) fields ≡ None) are.count none in
       record {
         texts = are.texts ++ last ∷ [];
         come = come_after number xs (fields ∷ []) are.texts (last ∷ []) None are.come (at, is, (refl, refl));
@@ -102,14 +103,14 @@ module _ (files : List File) (most : ℕ) where
 
   -- rows, and a record with a fault, after which more may come
   pub one_fault : (number : ℕ) (xs : List (List (List ℕ))) (text : List ℕ) (count : ℕ) (fields : List (List ℕ)) (more : List (List (List ℕ))) (kind : RowKind)
-      → AreRowsOf files most number xs (record { text = text; count = count; fault = None }) → fault_of files most (number + count) fields ≡ Some kind
-      → AreRowsOf files most number (xs ++ fields ∷ more) (record { text = text; count = count; fault = Some kind })
+      → AreRowsOf layout files most number xs (record { text = text; count = count; fault = None }) → fault_by layout files most (number + count) fields ≡ Some kind
+      → AreRowsOf layout files most number (xs ++ fields ∷ more) (record { text = text; count = count; fault = Some kind })
   one_fault number xs text count fields more kind are is =
-      let at = subst (λ (n : ℕ). fault_of files most (number + n) fields ≡ Some kind) are.count is in
+      let at = subst (λ (n : ℕ). fault_by layout files most (number + n) fields ≡ Some kind) are.count is in
       let come = come_after number xs (fields ∷ more) are.texts [] (Some kind) are.come (sym at, refl) in
       record {
         texts = are.texts;
-        come = subst (λ (l : List (List ℕ)). ComeTo files most number (xs ++ fields ∷ more) l (Some kind)) (append-nil are.texts) come;
+        come = subst (λ (l : List (List ℕ)). ComeToBy layout files most number (xs ++ fields ∷ more) l (Some kind)) (append-nil are.texts) come;
         text = are.text;
         count = are.count;
       }

@@ -13,24 +13,25 @@ use Rattle.zic_files.specs.File.{File}
 use Rattle.zic_convert.specs.code.Row.{AreRowsOf, RowsOf}
 use Rattle.zic_convert.specs.code.Written.{EndsInRound, WritesRound}
 use Rattle.zic_counted.specs.Counts.{Counts}
+use Rattle.zic_plan.specs.declared.layout.Layout.{Layout}
 use Rattle.zic_plan.specs.declared.stop.RunStop.{RunStop}
 use Rattle.zic_convert.specs.code.Pieces.{ArePieces, AreRowsOfPiece, IsOutcomeOf, Pieces, joined}
 use Rattle.zic_plan.specs.declared.stop.RowKind.{RowKind}
-use Rattle.zic_convert.specs.Rows.{ComeTo}
+use Rattle.zic_convert.specs.LayoutRows.{ComeToBy}
 use Rattle.zic_convert.proofs.Coming.{come_more, no_rows, rows_followed}
 
-module _ (files : List File) (most size : ℕ) where
+module _ (layout : Layout) (files : List File) (most size : ℕ) where
   -- the rows of pieces, by those of each
   abbrev AreRowsOfEach : ℕ → List (List ℕ) → List RowsOf → Type 0
   AreRowsOfEach first pieces values =
-      (i : ℕ) (x : RowsOf) → get_elem? values i ≡ some x → IfSome (slice_get pieces i) (λ piece. AreRowsOf files most (first + i * size) (column_records piece) x)
+      (i : ℕ) (x : RowsOf) → get_elem? values i ≡ some x → IfSome (slice_get pieces i) (λ piece. AreRowsOf layout files most (first + i * size) (column_records piece) x)
 
   -- those of the first piece
   first_rows : (first : ℕ) (piece : List ℕ) (pieces : List (List ℕ)) (x : RowsOf) (values : List RowsOf) → AreRowsOfEach first (piece ∷ pieces) (x ∷ values)
-      → AreRowsOf files most first (column_records piece) x
+      → AreRowsOf layout files most first (column_records piece) x
   first_rows first piece pieces x values each =
       let at : first + 0 * size ≡ first = omega arith in
-      subst (λ (n : ℕ). AreRowsOf files most n (column_records piece) x) at (each 0 x refl)
+      subst (λ (n : ℕ). AreRowsOf layout files most n (column_records piece) x) at (each 0 x refl)
 
   -- those of the pieces after it
   later_rows : (first : ℕ) (piece : List ℕ) (pieces : List (List ℕ)) (x : RowsOf) (values : List RowsOf) → AreRowsOfEach first (piece ∷ pieces) (x ∷ values)
@@ -38,26 +39,26 @@ module _ (files : List File) (most size : ℕ) where
   later_rows first piece pieces x values each =
       λ i y e.
       let at : first + suc i * size ≡ first + size + i * size = grind arith in
-      subst (λ (n : ℕ). IfSome (slice_get pieces i) (λ piece. AreRowsOf files most n (column_records piece) y)) at (each (suc i) y e)
+      subst (λ (n : ℕ). IfSome (slice_get pieces i) (λ piece. AreRowsOf layout files most n (column_records piece) y)) at (each (suc i) y e)
 
   -- the rows of all, where each piece but the last is full
   rows_of_all : (first : ℕ) (pieces : List (List ℕ)) (values : List RowsOf) → ArePiecesOf size pieces → length values ≡ length pieces → AreRowsOfEach first pieces values
-      → AreRowsOf files most first (records_of pieces) (joined values)
-  rows_of_all first [] [] cut long each = no_rows files most first
+      → AreRowsOf layout files most first (records_of pieces) (joined values)
+  rows_of_all first [] [] cut long each = no_rows layout files most first
   rows_of_all first [] (x ∷ values) cut long each = absurd (omega (arith, long))
   rows_of_all first (p ∷ ps) [] cut long each = absurd (omega (arith, long))
   rows_of_all first (p ∷ []) (x ∷ y ∷ values) cut long each = absurd (omega (arith, long))
   rows_of_all first (p ∷ []) (x ∷ []) cut long each =
-      rows_followed files most first (column_records p) [] x (joined []) x.fault refl (first_rows first p [] x [] each) (λ none. no_rows files most (first + length (column_records p)))
+      rows_followed layout files most first (column_records p) [] x (joined []) x.fault refl (first_rows first p [] x [] each) (λ none. no_rows layout files most (first + length (column_records p)))
   rows_of_all first (p ∷ q ∷ ps) (x ∷ values) cut long each =
       let after = rows_of_all (first + size) (q ∷ ps) values cut.1 (omega (arith, long)) (later_rows first p (q ∷ ps) x values each) in
-      rows_followed files most first (column_records p) (records_of (q ∷ ps)) x (joined values) x.fault refl (first_rows first p (q ∷ ps) x values each)
-      (λ none. subst (λ (n : ℕ). AreRowsOf files most (first + n) (records_of (q ∷ ps)) (joined values)) (sym cut.0) after)
+      rows_followed layout files most first (column_records p) (records_of (q ∷ ps)) x (joined values) x.fault refl (first_rows first p (q ∷ ps) x values each)
+      (λ none. subst (λ (n : ℕ). AreRowsOf layout files most (first + n) (records_of (q ∷ ps)) (joined values)) (sym cut.0) after)
 
 -- the rows of all pieces of a round
 pub joined_round : (p : Pieces) (values : List RowsOf) → ArePieces p → AreValues (IsOutcomeOf p) (length p.pieces) values
-    → AreRowsOf p.files p.most p.first (records_of p.pieces) (joined values)
-joined_round p values sound are = rows_of_all p.files p.most p.size p.first p.pieces values sound.cut are.0 (λ i rows at. (are.1 i rows at).0)
+    → AreRowsOf p.layout p.files p.most p.first (records_of p.pieces) (joined values)
+joined_round p values sound are = rows_of_all p.layout p.files p.most p.size p.first p.pieces values sound.cut are.0 (λ i rows at. (are.1 i rows at).0)
 
 -- a piece has no more records than a full one
 pub piece_few : (size : ℕ) (pieces : List (List ℕ)) (i : ℕ) (piece : List ℕ) → slice_get pieces i ≡ Some piece → ArePiecesOf size pieces → length (column_records piece) ≤ size
@@ -126,9 +127,9 @@ front_records size (p ∷ q ∷ ps) (suc i) piece cut e =
       ap (λ (r : List (List (List ℕ))). column_records p ++ r) later.2 ∙ sym (append_assoc (column_records p) later.0 (column_records piece)),
     )
 
-module _ (files : List File) (most : ℕ) where
+module _ (layout : Layout) (files : List File) (most : ℕ) where
   -- records don't come to rows with a fault and without
-  one_way : (number : ℕ) (xs : List (List (List ℕ))) (t u : List (List ℕ)) (fault : Option RowKind) → ComeTo files most number xs t None → ComeTo files most number xs u fault → IsSome fault → ⊥
+  one_way : (number : ℕ) (xs : List (List (List ℕ))) (t u : List (List ℕ)) (fault : Option RowKind) → ComeToBy layout files most number xs t None → ComeToBy layout files most number xs u fault → IsSome fault → ⊥
   one_way number [] t u None first second has = cc has
   one_way number [] t u (Some kind) first second has = cc second.1
   one_way number (x ∷ xs) [] u fault first second has = cc first.1
@@ -137,18 +138,18 @@ module _ (files : List File) (most : ℕ) where
   one_way number (x ∷ xs) (t ∷ ts) (u ∷ us) fault first second has = one_way (number + 1) xs ts us fault first.2 second.2 has
 
   -- nor do some that come after others
-  clash : (number : ℕ) (xs ys : List (List (List ℕ))) (t u : List (List ℕ)) (fault : Option RowKind) → ComeTo files most number (xs ++ ys) t None
-      → ComeTo files most (number + length xs) ys u fault → IsSome fault → ⊥
+  clash : (number : ℕ) (xs ys : List (List (List ℕ))) (t u : List (List ℕ)) (fault : Option RowKind) → ComeToBy layout files most number (xs ++ ys) t None
+      → ComeToBy layout files most (number + length xs) ys u fault → IsSome fault → ⊥
   clash number [] ys t u fault first second has =
       let at : number + 0 ≡ number = omega arith in
-      one_way number ys t u fault first (subst (λ (n : ℕ). ComeTo files most n ys u fault) at second) has
+      one_way number ys t u fault first (subst (λ (n : ℕ). ComeToBy layout files most n ys u fault) at second) has
   clash number (x ∷ xs) ys [] u fault first second has = cc first.1
   clash number (x ∷ xs) ys (t ∷ ts) u fault first second has =
       let at : number + suc (length xs) ≡ number + 1 + length xs = omega arith in
-      clash (number + 1) xs ys ts u fault first.2 (subst (λ (n : ℕ). ComeTo files most n ys u fault) at second) has
+      clash (number + 1) xs ys ts u fault first.2 (subst (λ (n : ℕ). ComeToBy layout files most n ys u fault) at second) has
 
 -- the rows up to a piece that has a fault have one
-pub front_faults : (p : Pieces) (i : ℕ) (rows found : RowsOf) → ArePieces p → i < length p.pieces → AreRowsOf p.files p.most p.first (records_of (take (i + 1) p.pieces)) rows
+pub front_faults : (p : Pieces) (i : ℕ) (rows found : RowsOf) → ArePieces p → i < length p.pieces → AreRowsOf p.layout p.files p.most p.first (records_of (take (i + 1) p.pieces)) rows
     → AreRowsOfPiece p i found → IsSome found.fault → rows.fault ≡ None → ⊥
 front_faults p i rows found sound lt are of_piece has none =
     let piece = get_or p.pieces i [] in
@@ -158,18 +159,18 @@ front_faults p i rows found sound lt are of_piece has none =
     let at : i + 1 ≡ suc i = omega arith in
     let all : records_of (take (i + 1) p.pieces) ≡ parts.0 ++ column_records piece = ap (λ (n : ℕ). records_of (take n p.pieces)) at ∙ parts.2 in
     let come = rw (none, all) at are.come in
-    clash p.files p.most p.first parts.0 (column_records piece) are.texts here.texts found.fault come
-    (subst (λ (n : ℕ). ComeTo p.files p.most (p.first + n) (column_records piece) here.texts found.fault) (sym parts.1) here.come) has
+    clash p.layout p.files p.most p.first parts.0 (column_records piece) are.texts here.texts found.fault come
+    (subst (λ (n : ℕ). ComeToBy p.layout p.files p.most (p.first + n) (column_records piece) here.texts found.fault) (sym parts.1) here.come) has
 
 -- rows up to a fault are those of all
-pub front_of_all : (p : Pieces) (i : ℕ) (rows : RowsOf) (kind : RowKind) → AreRowsOf p.files p.most p.first (records_of (take (i + 1) p.pieces)) rows → rows.fault ≡ Some kind
-    → AreRowsOf p.files p.most p.first (records_of p.pieces) rows
+pub front_of_all : (p : Pieces) (i : ℕ) (rows : RowsOf) (kind : RowKind) → AreRowsOf p.layout p.files p.most p.first (records_of (take (i + 1) p.pieces)) rows → rows.fault ≡ Some kind
+    → AreRowsOf p.layout p.files p.most p.first (records_of p.pieces) rows
 front_of_all p i rows kind are has =
     let all : records_of p.pieces ≡ records_of (take (i + 1) p.pieces) ++ records_of (drop (i + 1) p.pieces) =
     ap records_of (sym (take-append-drop (i + 1) p.pieces)) ∙ flat_map-append column_records (take (i + 1) p.pieces) (drop (i + 1) p.pieces) in
     record {
       texts = are.texts;
-      come = rw (all, has) (come_more p.files p.most p.first (records_of (take (i + 1) p.pieces)) (records_of (drop (i + 1) p.pieces)) are.texts kind (rw has at are.come));
+      come = rw (all, has) (come_more p.layout p.files p.most p.first (records_of (take (i + 1) p.pieces)) (records_of (drop (i + 1) p.pieces)) are.texts kind (rw has at are.come));
       text = are.text;
       count = are.count;
     }
@@ -182,7 +183,7 @@ module _ (p : Pieces) (i : ℕ) (found : RowsOf) (sound : ArePieces p) (lt : i <
     pub again_ok : (count : ℕ) → WritesRound (record p { pieces = take (i + 1) p.pieces; stops = false }) contents old new count → ⊥
     again_ok count wrote = front_faults p i wrote.0 found sound lt wrote.1 of_piece has wrote.2.0
 
-    by_fault : (rows : RowsOf) (fault : Option RowKind) → rows.fault ≡ fault → AreRowsOf p.files p.most p.first (records_of (take (i + 1) p.pieces)) rows → AreRowsOf p.files p.most p.first (records_of p.pieces) rows
+    by_fault : (rows : RowsOf) (fault : Option RowKind) → rows.fault ≡ fault → AreRowsOf p.layout p.files p.most p.first (records_of (take (i + 1) p.pieces)) rows → AreRowsOf p.layout p.files p.most p.first (records_of p.pieces) rows
     by_fault rows None e are = absurd (front_faults p i rows found sound lt are of_piece has e)
     by_fault rows (Some kind) e are = front_of_all p i rows kind are e
 
@@ -192,11 +193,11 @@ module _ (p : Pieces) (i : ℕ) (found : RowsOf) (sound : ArePieces p) (lt : i <
     again_err why (inr ends) = inr (ends.0, by_fault ends.0 ends.0.fault refl ends.1, ends.2)
 
 -- the rows of a round that was taken
-pub rows_of_round : (p : Pieces) (files : List File) (most first size : ℕ) (given taken : List (List ℕ)) → p ≡ record { files = files; pieces = given; first = first; most = most; size = size; stops = true }
-    → given ≡ taken → (rows : RowsOf) → AreRowsOf p.files p.most p.first (records_of p.pieces) rows → AreRowsOf files most first (records_of taken) rows
-rows_of_round p files most first size given taken is same rows are =
-    let all = is ∙ ap (λ (l : List (List ℕ)). record { files = files; pieces = l; first = first; most = most; size = size; stops = true }) same in
-    subst (λ (q : Pieces). AreRowsOf q.files q.most q.first (records_of q.pieces) rows) all are
+pub rows_of_round : (p : Pieces) (layout : Layout) (files : List File) (most first size : ℕ) (given taken : List (List ℕ)) → p ≡ record { layout = layout; files = files; pieces = given; first = first; most = most; size = size; stops = true }
+    → given ≡ taken → (rows : RowsOf) → AreRowsOf p.layout p.files p.most p.first (records_of p.pieces) rows → AreRowsOf layout files most first (records_of taken) rows
+rows_of_round p layout files most first size given taken is same rows are =
+    let all = is ∙ ap (λ (l : List (List ℕ)). record { layout = layout; files = files; pieces = l; first = first; most = most; size = size; stops = true }) same in
+    subst (λ (q : Pieces). AreRowsOf q.layout q.files q.most q.first (records_of q.pieces) rows) all are
 
 -- what holds of a value where more does
 pub on_ok : {X E : Type 0} (r : Result X E) (P Q : X → Type 0) → ((x : X) → P x → Q x) → IfOk r P → IfOk r Q
@@ -213,10 +214,10 @@ if_map (Some x) P Q f is = f x is
 
 -- the rows of the records of a piece are those of the piece
 pub rows_of_piece : (p : Pieces) (i : ℕ) (split : List (List (List ℕ))) (rows : RowsOf) → IfSome (slice_get p.pieces i) (λ piece. split ≡ column_records piece)
-    → AreRowsOf p.files p.most (p.first + i * p.size) split rows → AreRowsOfPiece p i rows
+    → AreRowsOf p.layout p.files p.most (p.first + i * p.size) split rows → AreRowsOfPiece p i rows
 rows_of_piece p i split rows is are =
-    if_map (slice_get p.pieces i) (λ piece. split ≡ column_records piece) (λ piece. AreRowsOf p.files p.most (p.first + i * p.size) (column_records piece) rows)
-    (λ piece same. subst (λ (rs : List (List (List ℕ))). AreRowsOf p.files p.most (p.first + i * p.size) rs rows) same are) is
+    if_map (slice_get p.pieces i) (λ piece. split ≡ column_records piece) (λ piece. AreRowsOf p.layout p.files p.most (p.first + i * p.size) (column_records piece) rows)
+    (λ piece same. subst (λ (rs : List (List (List ℕ))). AreRowsOf p.layout p.files p.most (p.first + i * p.size) rs rows) same are) is
 
 -- the numbers of a piece's rows are no great ones
 pub few_of_piece : (p : Pieces) (i : ℕ) (split : List (List (List ℕ))) → ArePieces p → i < length p.pieces → IfSome (slice_get p.pieces i) (λ piece. split ≡ column_records piece)

@@ -5,6 +5,9 @@ pub mod Faults
 pub mod Sounds
 pub mod Ready
 pub mod Caches
+pub mod Plain
+pub mod Delimited
+pub mod CountedRows
 pub mod SoFar
 pub mod Writings
 pub mod Totals

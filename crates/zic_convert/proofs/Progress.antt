@@ -1,6 +1,6 @@
 -- How far a conversion has come.
 use Rattle.std.proofs.Common.{◌≡◌, ◌+◌, ℕ, List, [], ◌++◌, drop, length, Option, Some, None, refl, sym, ap, subst, ◌∙◌, append_assoc, arith}
-use Rattle.std.specs.Prelude.{All, IfErr, IfOk, IfSome, Result, Ok, Err}
+use Rattle.std.specs.Prelude.{All, IfErr, IfOk, IfSome, Result, Ok, Err, option_map}
 use Rattle.std.specs.List.{concat}
 use Rattle.std.specs.Io.{StartsWith}
 use Rattle.std.specs.Io.KnownBytes.{Appends}
@@ -12,8 +12,9 @@ use Rattle.zic_columns.specs.Column.{column_records}
 use Rattle.zic_columns.specs.Round.{HasNoRecord}
 use Rattle.zic_columns.proofs.SomeRecords.{are_read}
 use Rattle.zic_files.specs.File.{File}
+use Rattle.zic_plan.specs.declared.layout.Layout.{Layout}
 use Rattle.zic_plan.specs.declared.stop.RowKind.{RowKind}
-use Rattle.zic_convert.specs.Rows.{ComeTo}
+use Rattle.zic_convert.specs.LayoutRows.{ComeToBy}
 use Rattle.zic_convert.specs.Column.{ConvertsBodyTo, ConvertsTo}
 use Rattle.zic_convert.specs.Convert.{Outcome, WritesAllOf, WritesAtOf, WritesPartOf, WritesUpToOf}
 use Rattle.zic_plan.specs.declared.stop.RunStop.{RunStop}
@@ -22,8 +23,12 @@ use Rattle.zic_convert.specs.declared.halt.Halt.{Halt}
 use Rattle.zic_convert.specs.declared.halt.Halt.TheVariants as halt
 use Rattle.zic_convert.specs.code.Halt.{WritesAtHalt}
 use Rattle.zic_convert.specs.code.Row.{AreRowsOf, RowsOf}
-use Rattle.zic_convert.specs.code.Progress.{ComeNext, IsSoFar, RowsOfRecords, Takes}
+use Rattle.zic_convert.specs.code.Progress.{BeginsRows, ComeNext, IsSoFar, RowsOfColumn, RowsOfRecords, Takes}
+use Rattle.zic_plan.specs.Layout.{HasPlainRows, records_before}
+use Rattle.zic_plan.specs.declared.layout.Header.{Header}
+use Rattle.zic_plan.specs.declared.layout.Header.TheVariants as header
 use Rattle.zic_convert.proofs.Bytes.{starts_later}
+use Rattle.zic_convert.proofs.Plain.{come_plainly}
 use Rattle.zic_convert.proofs.Coming.{come_after, come_more, no_rows}
 use Rattle.zic_convert.proofs.Sounds.{IsKnown}
 use Rattle.zic_convert.proofs.Totals.{all_come, come_to_more}
@@ -40,9 +45,9 @@ for_some o P x h e = rw e at h
 pub taken_come_next : (old new : Option (List ℕ)) (rs : List (List (List ℕ))) → Takes old new rs → ComeNext old rs
 taken_come_next old new rs takes = if_some old _ (λ bytes e. (let t = for_some old _ bytes takes e in (column_records t.0, t.2)))
 
-module _ (files : List File) (most : ℕ) (all : List (List (List ℕ))) where
+module _ (layout : Layout) (files : List File) (most : ℕ) (all : List (List (List ℕ))) where
   -- nothing yet
-  pub at_start : (known held : Option (List ℕ)) (bytes : List ℕ) → known ≡ Some bytes → all ≡ column_records bytes → IsSoFar files most all known 0 held held
+  pub at_start : (known held : Option (List ℕ)) (bytes : List ℕ) → known ≡ Some bytes → all ≡ column_records bytes → IsSoFar layout files most all known 0 held held
   at_start known held bytes is same = record {
     records = [];
     texts = [];
@@ -55,34 +60,34 @@ module _ (files : List File) (most : ℕ) (all : List (List (List ℕ))) where
   }
 
   -- no record is left
-  pub all_written : (left : Option (List ℕ)) (n : ℕ) (old new : Option (List ℕ)) → IsSoFar files most all left n old new → HasNoRecord left → WritesAllOf (RowsOfRecords files most all) n old new
+  pub all_written : (left : Option (List ℕ)) (n : ℕ) (old new : Option (List ℕ)) → IsSoFar layout files most all left n old new → HasNoRecord left → WritesAllOf (RowsOfRecords layout files most all) n old new
   all_written left n old new far none =
       let last = for_some left _ far.rest none far.bytes in
       let same = far.goes_on ∙ ap (λ (r : List (List (List ℕ))). far.records ++ r) last ∙ append-nil far.records in
       record {
         texts = far.texts;
-        converts = subst (λ (r : List (List (List ℕ))). ComeTo files most 1 r far.texts None) (sym same) far.come;
+        converts = subst (λ (r : List (List (List ℕ))). ComeToBy layout files most 1 r far.texts None) (sym same) far.come;
         count = far.counted;
         wrote = far.wrote;
       }
 
-  module _ (left : Option (List ℕ)) (n : ℕ) (old mid new : Option (List ℕ)) (far : IsSoFar files most all left n old mid) where
+  module _ (left : Option (List ℕ)) (n : ℕ) (old mid new : Option (List ℕ)) (far : IsSoFar layout files most all left n old mid) where
     number : n + 1 ≡ 1 + length far.texts
     number = omega (arith, far.counted)
 
     -- the rows so far, and those of the records that come next
-    come_on : (rs : List (List (List ℕ))) (us : List (List ℕ)) (last : Option RowKind) → ComeTo files most (n + 1) rs us last
-        → ComeTo files most 1 (far.records ++ rs) (far.texts ++ us) last
-    come_on rs us last come = come_after files most 1 far.records rs far.texts us last far.come (subst (λ (k : ℕ). ComeTo files most k rs us last) number come)
+    come_on : (rs : List (List (List ℕ))) (us : List (List ℕ)) (last : Option RowKind) → ComeToBy layout files most (n + 1) rs us last
+        → ComeToBy layout files most 1 (far.records ++ rs) (far.texts ++ us) last
+    come_on rs us last come = come_after layout files most 1 far.records rs far.texts us last far.come (subst (λ (k : ℕ). ComeToBy layout files most k rs us last) number come)
 
     wrote_on : (us : List (List ℕ)) (bytes : List ℕ) → bytes ≡ concat us → Appends mid new bytes → Appends old new (concat (far.texts ++ us))
     wrote_on us bytes e wrote =
         subst (λ (l : List ℕ). Appends old new l) (ap (λ (l : List ℕ). concat far.texts ++ l) e ∙ sym (concat-append far.texts us))
         (appends-more old mid new (concat far.texts) bytes far.wrote wrote)
 
-    module _ (rs : List (List (List ℕ))) (rows : RowsOf) (are : AreRowsOf files most (n + 1) rs rows) where
+    module _ (rs : List (List (List ℕ))) (rows : RowsOf) (are : AreRowsOf layout files most (n + 1) rs rows) where
       -- more rows
-      pub later : (next : Option (List ℕ)) → rows.fault ≡ None → Takes left next rs → Appends mid new rows.text → IsSoFar files most all next (n + rows.count) old new
+      pub later : (next : Option (List ℕ)) → rows.fault ≡ None → Takes left next rs → Appends mid new rows.text → IsSoFar layout files most all next (n + rows.count) old new
       later next none takes wrote =
           let t = for_some left _ far.rest takes far.bytes in
           record {
@@ -102,22 +107,22 @@ module _ (files : List File) (most : ℕ) (all : List (List (List ℕ))) where
 
       module _ (come : ComeNext left rs) where
         -- the rows up to a fault
-        pub up_to_fault : (kind : RowKind) → rows.fault ≡ Some kind → Appends mid new rows.text → WritesUpToOf (RowsOfRecords files most all) (n + 1 + rows.count) kind old new
+        pub up_to_fault : (kind : RowKind) → rows.fault ≡ Some kind → Appends mid new rows.text → WritesUpToOf (RowsOfRecords layout files most all) (n + 1 + rows.count) kind old new
         up_to_fault kind some wrote =
             let (more, next) = for_some left _ far.rest come far.bytes in
             record {
               texts = far.texts ++ are.texts;
               converts = rw (read_on more next)
-                  (come_on (rs ++ more) are.texts (Some kind) (come_more files most (n + 1) rs more are.texts kind (rw some at are.come)));
+                  (come_on (rs ++ more) are.texts (Some kind) (come_more layout files most (n + 1) rs more are.texts kind (rw some at are.come)));
               number = omega (arith, far.counted, are.count, length-append far.texts are.texts);
               wrote = wrote_on are.texts rows.text are.text wrote;
             }
 
         -- a part of the rows
-        pub part_written : All IsKnown files → (part : List ℕ) → StartsWith rows.text part → Appends mid new part → WritesPartOf (RowsOfRecords files most all) old new
+        pub part_written : All IsKnown files → (part : List ℕ) → StartsWith rows.text part → Appends mid new part → WritesPartOf (RowsOfRecords layout files most all) old new
         part_written known part starts wrote =
             let (more, next) = for_some left _ far.rest come far.bytes in
-            let others = come_to_more files most known (n + 1) rs more rows are in
+            let others = come_to_more layout files most known (n + 1) rs more rows are in
             let joined = sym (concat-append far.texts others.0 ∙ ap (λ (l : List ℕ). concat far.texts ++ l) others.4 ∙ sym (append_assoc (concat far.texts) rows.text others.3)) in
             record {
               texts = far.texts ++ others.0;
@@ -129,7 +134,7 @@ module _ (files : List File) (most : ℕ) (all : List (List (List ℕ))) where
             }
 
   -- what is left changes, where no record was taken
-  pub none_taken : (left next : Option (List ℕ)) (n : ℕ) (old new : Option (List ℕ)) → Takes left next [] → IsSoFar files most all left n old new → IsSoFar files most all next n old new
+  pub none_taken : (left next : Option (List ℕ)) (n : ℕ) (old new : Option (List ℕ)) → Takes left next [] → IsSoFar layout files most all left n old new → IsSoFar layout files most all next n old new
   none_taken left next n old new takes far =
       let t = for_some left _ far.rest takes far.bytes in
       record {
@@ -144,10 +149,10 @@ module _ (files : List File) (most : ℕ) (all : List (List (List ℕ))) where
       }
 
   -- where a column can't be read on
-  pub unread_part : (left : Option (List ℕ)) (n : ℕ) (old mid : Option (List ℕ)) → IsSoFar files most all left n old mid → All IsKnown files → WritesPartOf (RowsOfRecords files most all) old mid
+  pub unread_part : (left : Option (List ℕ)) (n : ℕ) (old mid : Option (List ℕ)) → IsSoFar layout files most all left n old mid → All IsKnown files → WritesPartOf (RowsOfRecords layout files most all) old mid
   unread_part left n old mid far known =
       let come : ComeNext left [] = if_some left _ (λ bytes e. (column_records bytes, refl)) in
-      part_written left n old mid mid far [] (record { text = []; count = 0; fault = None }) (no_rows files most (n + 1)) come known [] refl (appends-none mid)
+      part_written left n old mid mid far [] (record { text = []; count = 0; fault = None }) (no_rows layout files most (n + 1)) come known [] refl (appends-none mid)
 
 -- ---- what records come to, told as what a column converts to
 
@@ -171,52 +176,85 @@ module _ (C D : Outcome) (same : (texts : List (List ℕ)) (fault : Option RowKi
   halt_as halt.Unread w = part_as w
   halt_as (halt.Stop why) w = stop_as why w
 
--- the rows of a column are those of its records
-pub as_column : (files : List File) (most : ℕ) (column : List ℕ) (texts : List (List ℕ)) (fault : Option RowKind)
-    → RowsOfRecords files most (column_records (strip_bom column)) texts fault → ConvertsTo files most column texts fault
-as_column files most column texts fault come = record { records = column_records (strip_bom column); are = are_read (strip_bom column); rows = come }
+-- the rows of a plain column are those of its records
+pub as_column : (layout : Layout) (files : List File) (most : ℕ) → HasPlainRows layout → layout.header ≡ header.Absent → (column : List ℕ) (texts : List (List ℕ)) (fault : Option RowKind)
+    → RowsOfColumn layout files most column texts fault → ConvertsTo files most column texts fault
+as_column layout files most plain none column texts fault come = record {
+  records = column_records (strip_bom column);
+  are = are_read (strip_bom column);
+  rows = come_plainly layout plain files most 1 (column_records (strip_bom column)) texts fault
+      (subst (λ (h : Header). ComeToBy layout files most 1 (drop (records_before h) (column_records (strip_bom column))) texts fault) none come);
+}
 
--- what holds of the bytes that are left, where they are known, holds of those that they are made of
-module _ {A : Type 0} (known left : Option (List ℕ)) (P Q : A → List ℕ → Type 0) (f : List ℕ → List ℕ) (is : IfSome known (λ bytes. left ≡ Some (f bytes))) where
-  some_as : (a : A) → ((bytes : List ℕ) → P a (f bytes) → Q a bytes) → IfSome left (P a) → IfSome known (Q a)
-  some_as a same p = if_some known _ (λ bytes e. same bytes (for_some left _ (f bytes) p (for_some known _ bytes is e)))
-
-  module _ {E : Type 0} where
-    pub if_ok_some : (result : Result A E) → ((a : A) (bytes : List ℕ) → P a (f bytes) → Q a bytes) → IfOk result (λ a. IfSome left (P a)) → IfOk result (λ a. IfSome known (Q a))
-    if_ok_some (Ok a) same p = some_as a (same a) p
-    if_ok_some (Err e) same p = tt
-
-    pub if_err_some : (result : Result E A) → ((a : A) (bytes : List ℕ) → P a (f bytes) → Q a bytes) → IfErr result (λ a. IfSome left (P a)) → IfErr result (λ a. IfSome known (Q a))
-    if_err_some (Ok e) same p = tt
-    if_err_some (Err a) same p = some_as a (same a) p
-
--- the rows of a column with a header are those of its other records
-pub as_body : (files : List File) (most : ℕ) (column : List ℕ) (texts : List (List ℕ)) (fault : Option RowKind)
-    → RowsOfRecords files most (drop 1 (column_records (strip_bom column))) texts fault → ConvertsBodyTo files most column texts fault
-as_body files most column texts fault come = record { records = column_records (strip_bom column); are = are_read (strip_bom column); rows = come }
+-- the rows of a plain column with a header are those of its other records
+pub as_body : (layout : Layout) (files : List File) (most : ℕ) → HasPlainRows layout → layout.header ≡ header.First → (column : List ℕ) (texts : List (List ℕ)) (fault : Option RowKind)
+    → RowsOfColumn layout files most column texts fault → ConvertsBodyTo files most column texts fault
+as_body layout files most plain one column texts fault come = record {
+  records = column_records (strip_bom column);
+  are = are_read (strip_bom column);
+  rows = come_plainly layout plain files most 1 (drop 1 (column_records (strip_bom column))) texts fault
+      (subst (λ (h : Header). ComeToBy layout files most 1 (drop (records_before h) (column_records (strip_bom column))) texts fault) one come);
+}
 
 -- nothing is written of any records
-pub unread_from : (files : List File) (most : ℕ) (all : List (List (List ℕ))) (held : Option (List ℕ)) → All IsKnown files → WritesPartOf (RowsOfRecords files most all) held held
-unread_from files most all held known =
-    let come = all_come files most known 1 all in
+pub unread_from : (layout : Layout) (files : List File) (most : ℕ) (all : List (List (List ℕ))) (held : Option (List ℕ)) → All IsKnown files → WritesPartOf (RowsOfRecords layout files most all) held held
+unread_from layout files most all held known =
+    let come = all_come layout files most known 1 all in
     record { texts = come.0; fault = come.1; converts = come.2; part = []; starts = refl; wrote = appends-none held }
 
--- what holds of the records that are left after the first, where the bytes are known
-module _ {A : Type 0} (known left next : Option (List ℕ)) (P : A → List (List (List ℕ)) → Type 0) (Q : A → List ℕ → Type 0) (f : List ℕ → List ℕ)
-    (is : IfSome known (λ bytes. left ≡ Some (f bytes)))
-    (passes : IfSome left (λ bytes. (rest : List ℕ) × (next ≡ Some rest) × (column_records rest ≡ drop 1 (column_records bytes)))) where
-  body_as : (a : A) → ((bytes : List ℕ) → P a (drop 1 (column_records (f bytes))) → Q a bytes) → IfSome next (λ bytes. P a (column_records bytes)) → IfSome known (Q a)
-  body_as a same p = if_some known _ (λ bytes e.
-      let (rest, at, others) = for_some left _ (f bytes) passes (for_some known _ bytes is e) in
-      same bytes (subst (P a) others (for_some next _ rest p at)))
+-- a column begins after its header
+pub begun : (header : Header) (known left next : Option (List ℕ)) → IfSome known (λ bytes. left ≡ Some (strip_bom bytes))
+    → IfSome left (λ bytes. (rest : List ℕ) × (next ≡ Some rest) × (column_records rest ≡ drop (records_before header) (column_records bytes)))
+    → IfSome known (λ bytes. BeginsRows header bytes next)
+begun header known left next is passes = if_some known _ (λ bytes e. for_some left _ (strip_bom bytes) passes (for_some known _ bytes is e))
+
+-- what holds of the records that are left, where the bytes are known, holds of those of the column
+module _ {A : Type 0} (known left : Option (List ℕ)) (P : A → List (List (List ℕ)) → Type 0) (header : Header) (is : IfSome known (λ bytes. BeginsRows header bytes left)) where
+  begun_as : (a : A) → IfSome left (λ bytes. P a (column_records bytes)) → IfSome known (λ bytes. P a (drop (records_before header) (column_records (strip_bom bytes))))
+  begun_as a p = if_some known _ (λ bytes e.
+      let (rest, at, same) = for_some known _ bytes is e in
+      subst (P a) same (for_some left _ rest p at))
 
   module _ {E : Type 0} where
-    pub if_ok_body : (result : Result A E) → ((a : A) (bytes : List ℕ) → P a (drop 1 (column_records (f bytes))) → Q a bytes)
-        → IfOk result (λ a. IfSome next (λ bytes. P a (column_records bytes))) → IfOk result (λ a. IfSome known (Q a))
-    if_ok_body (Ok a) same p = body_as a (same a) p
-    if_ok_body (Err e) same p = tt
+    pub if_ok_begun : (result : Result A E) → IfOk result (λ a. IfSome left (λ bytes. P a (column_records bytes)))
+        → IfOk result (λ a. IfSome known (λ bytes. P a (drop (records_before header) (column_records (strip_bom bytes)))))
+    if_ok_begun (Ok a) p = begun_as a p
+    if_ok_begun (Err e) p = tt
 
-    pub if_err_body : (result : Result E A) → ((a : A) (bytes : List ℕ) → P a (drop 1 (column_records (f bytes))) → Q a bytes)
-        → IfErr result (λ a. IfSome next (λ bytes. P a (column_records bytes))) → IfErr result (λ a. IfSome known (Q a))
-    if_err_body (Ok e) same p = tt
-    if_err_body (Err a) same p = body_as a (same a) p
+    pub if_err_begun : (result : Result E A) → IfErr result (λ a. IfSome left (λ bytes. P a (column_records bytes)))
+        → IfErr result (λ a. IfSome known (λ bytes. P a (drop (records_before header) (column_records (strip_bom bytes)))))
+    if_err_begun (Ok e) p = tt
+    if_err_begun (Err a) p = begun_as a p
+
+-- where one thing holds of what is known, so does another
+module _ {A : Type 0} (known : Option (List ℕ)) (P Q : A → List ℕ → Type 0) (same : (a : A) (bytes : List ℕ) → P a bytes → Q a bytes) where
+  known_as : (a : A) → IfSome known (P a) → IfSome known (Q a)
+  known_as a p = if_some known _ (λ bytes e. same a bytes (for_some known _ bytes p e))
+
+  module _ {E : Type 0} where
+    pub if_ok_known : (result : Result A E) → IfOk result (λ a. IfSome known (P a)) → IfOk result (λ a. IfSome known (Q a))
+    if_ok_known (Ok a) p = known_as a p
+    if_ok_known (Err e) p = tt
+
+    pub if_err_known : (result : Result E A) → IfErr result (λ a. IfSome known (P a)) → IfErr result (λ a. IfSome known (Q a))
+    if_err_known (Ok e) p = tt
+    if_err_known (Err a) p = known_as a p
+
+-- and so it does where the bytes that are left are made of those that are known
+module _ {A : Type 0} (known left : Option (List ℕ)) (f : List ℕ → List ℕ) (is : left ≡ option_map f known) (P Q : A → List ℕ → Type 0)
+    (same : (a : A) (bytes : List ℕ) → P a (f bytes) → Q a bytes) where
+  made_of : (o : Option (List ℕ)) (a : A) → IfSome (option_map f o) (P a) → IfSome o (Q a)
+  made_of None a p = tt
+  made_of (Some bytes) a p = same a bytes p
+
+  made_as : (a : A) → IfSome left (P a) → IfSome known (Q a)
+  made_as a p = made_of known a (subst (λ (o : Option (List ℕ)). IfSome o (P a)) is p)
+
+  module _ {E : Type 0} where
+    pub if_ok_made : (result : Result A E) → IfOk result (λ a. IfSome left (P a)) → IfOk result (λ a. IfSome known (Q a))
+    if_ok_made (Ok a) p = made_as a p
+    if_ok_made (Err e) p = tt
+
+    pub if_err_made : (result : Result E A) → IfErr result (λ a. IfSome left (P a)) → IfErr result (λ a. IfSome known (Q a))
+    if_err_made (Ok e) p = tt
+    if_err_made (Err a) p = made_as a p

@@ -1,6 +1,6 @@
 -- That all records come to rows, up to the first fault.
 use Rattle.std.proofs.Common.{◌≡◌, ◌+◌, ℕ, Bool, true, false, List, [], ◌∷◌, ◌++◌, length, Option, Some, None, inl, inr, refl, sym, ap, ◌∙◌, arith}
-use Rattle.std.specs.Prelude.{All, Contains, bytes_eq, is_some}
+use Rattle.std.specs.Prelude.{All, Contains, bytes_eq, is_some, option_map}
 use Rattle.std.specs.List.{concat}
 use Rattle.std.specs.Cmp.Lexicographic.{bytes_decides}
 use Rattle.std.proofs.lemmas.Bool.{cases_Bool}
@@ -8,10 +8,13 @@ use Rattle.std.proofs.lemmas.List.{append-nil}
 use Rattle.std.proofs.lemmas.List.Elements.{All-contains, Contains-append_right, Contains-get_or}
 use Rattle.std.proofs.lemmas.List.Folds.{concat-append}
 use Rattle.zic_base.specs.Check.{check, first_failed}
-use Rattle.zic_rows.specs.Row.{row_text}
+use Rattle.zic_rows.specs.Count.{counted_row_text, second_of}
+use Rattle.zic_columns.specs.Exchange.{exchanged}
 use Rattle.zic_files.specs.File.{File}
+use Rattle.zic_plan.specs.declared.layout.Layout.{Layout}
 use Rattle.zic_plan.specs.declared.stop.RowKind.{RowKind}
-use Rattle.zic_convert.specs.Rows.{ComeTo, IsTextOf, fault_of, instant_in, is_named, is_row_instant, name_in}
+use Rattle.zic_convert.specs.Rows.{is_named, is_row_instant}
+use Rattle.zic_convert.specs.LayoutRows.{ComeToBy, IsTextBy, count_in, fault_by, zone_in}
 use Rattle.zic_convert.specs.code.Row.{AreRowsOf, RowsOf}
 use Rattle.zic_convert.proofs.Coming.{come_after, come_more}
 use Rattle.zic_convert.proofs.Sounds.{IsKnown}
@@ -40,43 +43,47 @@ the_named (f ∷ files) name h =
           (rest.0, Contains-append_right (f ∷ []) files rest.0 rest.1, rest.2)
     ]
 
-module _ (files : List File) (most : ℕ) (known : All IsKnown files) where
+module _ (layout : Layout) (files : List File) (most : ℕ) (known : All IsKnown files) where
   -- the text of a row without a fault
-  have_text : (number : ℕ) (fields : List (List ℕ)) → fault_of files most number fields ≡ None → (text : List ℕ) × IsTextOf files fields text
+  have_text : (number : ℕ) (fields : List (List ℕ)) → fault_by layout files most number fields ≡ None → (text : List ℕ) × IsTextBy layout files fields text
   have_text number fields none =
-      let (named, says) = passed _ _ (is_named files (name_in fields)) (is_some (instant_in fields)) (is_row_instant (instant_in fields)) _ _ _ _ _ none in
-      let (file, among, name) = the_named files (name_in fields) named in
-      let (t, at) = the_some (instant_in fields) says in
-      let (state, answers) = All-contains IsKnown files file known among t in
-      (row_text file.name t state, record { file = file; among = among; named = name; instant = t; says = at; state = state; answers = answers; is = refl })
+      let zone = zone_in layout.zone fields in
+      let counted = count_in layout fields in
+      let (named, says) = passed _ _ (is_named files zone) (is_some counted) (is_row_instant (option_map (second_of layout.unit) counted)) _ _ _ _ _ none in
+      let (file, among, name) = the_named files zone named in
+      let (count, at) = the_some counted says in
+      let (state, answers) = All-contains IsKnown files file known among (second_of layout.unit count) in (
+        exchanged layout.delimiter (counted_row_text layout.unit file.name count state),
+        record { file = file; among = among; named = name; count = count; says = at; state = state; answers = answers; is = refl },
+      )
 
-  row_first : (number : ℕ) (fields : List (List ℕ)) (records : List (List (List ℕ))) (fault : Option RowKind) → fault_of files most number fields ≡ fault
-      → ((texts : List (List ℕ)) × (last : Option RowKind) × ComeTo files most (number + 1) records texts last)
-      → (texts : List (List ℕ)) × (last : Option RowKind) × ComeTo files most number (fields ∷ records) texts last
+  row_first : (number : ℕ) (fields : List (List ℕ)) (records : List (List (List ℕ))) (fault : Option RowKind) → fault_by layout files most number fields ≡ fault
+      → ((texts : List (List ℕ)) × (last : Option RowKind) × ComeToBy layout files most (number + 1) records texts last)
+      → (texts : List (List ℕ)) × (last : Option RowKind) × ComeToBy layout files most number (fields ∷ records) texts last
   row_first number fields records (Some k) e rest = ([], Some k, (sym e, refl))
   row_first number fields records None e rest =
       let (text, is) = have_text number fields e in
       (text ∷ rest.0, rest.1, (e, is, rest.2))
 
   -- what all records come to
-  pub all_come : (number : ℕ) (records : List (List (List ℕ))) → (texts : List (List ℕ)) × (last : Option RowKind) × ComeTo files most number records texts last
+  pub all_come : (number : ℕ) (records : List (List (List ℕ))) → (texts : List (List ℕ)) × (last : Option RowKind) × ComeToBy layout files most number records texts last
   all_come number [] = ([], None, (refl, refl))
-  all_come number (fields ∷ records) = row_first number fields records (fault_of files most number fields) refl (all_come (number + 1) records)
+  all_come number (fields ∷ records) = row_first number fields records (fault_by layout files most number fields) refl (all_come (number + 1) records)
 
-  more_by : (number : ℕ) (rs more : List (List (List ℕ))) (rows : RowsOf) (fault : Option RowKind) → rows.fault ≡ fault → AreRowsOf files most number rs rows
-      → (texts : List (List ℕ)) × (last : Option RowKind) × ComeTo files most number (rs ++ more) texts last × (z : List ℕ) × (concat texts ≡ rows.text ++ z)
+  more_by : (number : ℕ) (rs more : List (List (List ℕ))) (rows : RowsOf) (fault : Option RowKind) → rows.fault ≡ fault → AreRowsOf layout files most number rs rows
+      → (texts : List (List ℕ)) × (last : Option RowKind) × ComeToBy layout files most number (rs ++ more) texts last × (z : List ℕ) × (concat texts ≡ rows.text ++ z)
   more_by number rs more rows (Some k) e are =
-      (are.texts, Some k, come_more files most number rs more are.texts k (rw e at are.come), [], sym are.text ∙ sym (append-nil rows.text))
+      (are.texts, Some k, come_more layout files most number rs more are.texts k (rw e at are.come), [], sym are.text ∙ sym (append-nil rows.text))
   more_by number rs more rows None e are =
       let (texts, last, come) = all_come (number + length are.texts) more in (
         are.texts ++ texts,
         last,
-        come_after files most number rs more are.texts texts last (rw e at are.come) come,
+        come_after layout files most number rs more are.texts texts last (rw e at are.come) come,
         concat texts,
         concat-append are.texts texts ∙ ap (λ (l : List ℕ). l ++ concat texts) (sym are.text),
       )
 
   -- rows of the first records, and what all come to
-  pub come_to_more : (number : ℕ) (rs more : List (List (List ℕ))) (rows : RowsOf) → AreRowsOf files most number rs rows
-      → (texts : List (List ℕ)) × (last : Option RowKind) × ComeTo files most number (rs ++ more) texts last × (z : List ℕ) × (concat texts ≡ rows.text ++ z)
+  pub come_to_more : (number : ℕ) (rs more : List (List (List ℕ))) (rows : RowsOf) → AreRowsOf layout files most number rs rows
+      → (texts : List (List ℕ)) × (last : Option RowKind) × ComeToBy layout files most number (rs ++ more) texts last × (z : List ℕ) × (concat texts ≡ rows.text ++ z)
   come_to_more number rs more rows are = more_by number rs more rows rows.fault refl are

@@ -2,9 +2,13 @@
 use Rattle.std.specs.Prelude.{ℕ, List, drop, Option}
 use Rattle.csv.specs.Reading.{strip_bom}
 use Rattle.zic_columns.specs.Column.{AreColumnRecords}
+use Rattle.zic_columns.specs.Exchange.{AreDelimitedRecords}
 use Rattle.zic_files.specs.File.{File}
+use Rattle.zic_plan.specs.Layout.{records_before}
+use Rattle.zic_plan.specs.declared.layout.Layout.{Layout}
 use Rattle.zic_plan.specs.declared.stop.RowKind.{RowKind}
 use Rattle.zic_convert.specs.Rows.{ComeTo}
+use Rattle.zic_convert.specs.LayoutRows.{ComeToBy}
 
 -- The texts of a column's rows up to the first that has a fault, and that fault, or none. Rows count from 1, and there may be at most
 -- this number. The records are those of CSV with commas and double quotes, without a header row. A byte order mark at the start is none
@@ -19,3 +23,10 @@ pub record ConvertsBodyTo (files : List File) (most : ℕ) (column : List ℕ) (
   pub records : List (List (List ℕ))
   pub are : AreColumnRecords (strip_bom column) records
   pub rows : ComeTo files most 1 (drop 1 records) texts fault
+
+-- The same of a column with a layout: the records are those of CSV with the layout's delimiter and double quotes, and those before the
+-- rows, if it has a header, make none.
+pub record ConvertsBy (files : List File) (layout : Layout) (most : ℕ) (column : List ℕ) (texts : List (List ℕ)) (fault : Option RowKind) : Type 0 where
+  pub records : List (List (List ℕ))
+  pub are : AreDelimitedRecords layout.delimiter (strip_bom column) records
+  pub rows : ComeToBy layout files most 1 (drop (records_before layout.header) records) texts fault

@@ -1,5 +1,6 @@
 pub mod code
 pub mod Rows
+pub mod LayoutRows
 pub mod Column
 pub mod Convert
 pub mod Laws

@@ -5,10 +5,10 @@ ghost use Rattle.zic_plan.specs.Plan.{IsPlan};
 ghost use Rattle.zic_counted.specs.Counts.{HasFailedSince};
 ghost use Rattle.zic_columns.specs.Column.{column_records};
 ghost use Rattle.zic_columns.specs.Round.{unread};
-ghost use Rattle.zic_convert.specs.Column.{ConvertsBodyTo, ConvertsTo};
+ghost use Rattle.zic_convert.specs.Column.{ConvertsBodyTo, ConvertsBy, ConvertsTo};
 ghost use Rattle.zic_convert.specs.Convert.{IsCauseOf, WritesAll, WritesAllOf};
 ghost use Rattle.zic_convert.specs.Convert.{WritesAt, WritesAtOf};
-ghost use Rattle.zic_convert.specs.code.Progress.{RowsOfRecords};
+ghost use Rattle.zic_convert.specs.code.Progress.{BeginsRows, RowsOfColumn, RowsOfRecords};
 ghost use Rattle.zic_convert.specs.code.Halt.{IsCauseOfHalt, IsReadingStop, WritesAtHalt};
 
 use crate::halt::Halt;
@@ -20,11 +20,12 @@ use std::alloc::Global;
 use std::io::{Read, Write};
 use std::sync::Wait;
 use std::thread::Threads;
-use zic_columns::Column;
+use zic_columns::laws::records_are_exchanged;
+use zic_columns::{Column, Exchanged, Unread};
 use zic_counted::Counted;
 use zic_files::Files;
 use zic_pieces::{Gate, Open};
-use zic_plan::{Plan, RunStop};
+use zic_plan::{Header, Layout, Plan, RunStop};
 use zic_tzif::laws::files_answer_once;
 
 /// The least number of bytes of a round, if the column has them at once.
@@ -64,15 +65,18 @@ fn round_len(plan: &Plan) -> usize {
 /// `Unread` where the column can't be read on, `Memory`, or what ends a round.
 fn convert_rounds<T: Threads + Wait + Sync, R: Read + Drop, W: Write, G: Gate + Sync>(
     setting: &Setting<'_, T, G>,
+    layout: &Layout,
     mut column: Column<R>,
     writer: &mut Counted<W>,
 ) -> Result<u64, Halt>
     ensures all { IfOk result (λ n. IfSome (unread R.remaining column) (λ bytes. WritesAllOf
-        (RowsOfRecords setting.now.files.now setting.now.plan.now.max_rows (column_records bytes))
+        (RowsOfRecords layout.now setting.now.files.now setting.now.plan.now.max_rows
+        (column_records bytes))
         n (W.contents writer.old.inner) (W.contents writer.new.inner))) }
     ensures flushed { IfOk result (λ _. writer.new.failures ≡ writer.old.failures) }
     ensures halt { IfErr result (λ halt. IfSome (unread R.remaining column) (λ bytes. WritesAtHalt
-        (RowsOfRecords setting.now.files.now setting.now.plan.now.max_rows (column_records bytes))
+        (RowsOfRecords layout.now setting.now.files.now setting.now.plan.now.max_rows
+        (column_records bytes))
         halt (W.contents writer.old.inner) (W.contents writer.new.inner))) }
     ensures cause { IfErr result (IsCauseOfHalt writer.old writer.new) }
 {
@@ -85,7 +89,7 @@ fn convert_rounds<T: Threads + Wait + Sync, R: Read + Drop, W: Write, G: Gate + 
     let files = RowFiles::new(setting.alloc, setting.files)?;
     let mut count = 0;
     while column.turn(setting.alloc, wanted, size)? {
-        let pieces = RowPieces::new(&files, column.round(), count + 1, setting.plan);
+        let pieces = RowPieces::new(layout, &files, column.round(), count + 1, setting.plan);
         count += convert_round(
             setting.rt,
             setting.alloc,
@@ -97,6 +101,56 @@ fn convert_rounds<T: Threads + Wait + Sync, R: Read + Drop, W: Write, G: Gate + 
     }
     flush(writer)?;
     Ok(count)
+}
+
+/// Begins a column after its header, if it has one.
+///
+/// # Errors
+///
+/// `Unread` where the column can't be read on.
+fn begin_column<T: Threads + Wait + Sync, R: Read + Drop, G: Gate + Sync>(
+    setting: &Setting<'_, T, G>,
+    layout: &Layout,
+    reader: R,
+) -> Result<Column<R>, Unread>
+    ensures { IfOk result (λ column. IfSome (R.remaining reader)
+        (λ bytes. BeginsRows layout.now.header bytes (unread R.remaining column))) }
+{
+    let mut column = Column::new(setting.alloc, reader, setting.plan.max_bytes())?;
+    match layout.header {
+        Header::Absent => Ok(column),
+        Header::First => {
+            column.pass_record(setting.alloc, round_len(setting.plan))?;
+            Ok(column)
+        }
+    }
+}
+
+/// Converts a column by a layout, but for its delimiter: the records are those with commas. Returns
+/// the number of rows.
+///
+/// # Errors
+///
+/// As [`convert_rounds`].
+fn convert_records<T: Threads + Wait + Sync, R: Read + Drop, W: Write, G: Gate + Sync>(
+    setting: &Setting<'_, T, G>,
+    layout: &Layout,
+    reader: R,
+    writer: &mut Counted<W>,
+) -> Result<u64, Halt>
+    ensures all { IfOk result (λ n. IfSome (R.remaining reader) (λ column. WritesAllOf
+        (RowsOfColumn layout.now setting.now.files.now setting.now.plan.now.max_rows column) n
+        (W.contents writer.old.inner) (W.contents writer.new.inner))) }
+    ensures flushed { IfOk result (λ _. writer.new.failures ≡ writer.old.failures) }
+    ensures halt { IfErr result (λ halt. IfSome (R.remaining reader) (λ column. WritesAtHalt
+        (RowsOfColumn layout.now setting.now.files.now setting.now.plan.now.max_rows column) halt
+        (W.contents writer.old.inner) (W.contents writer.new.inner))) }
+    ensures cause { IfErr result (IsCauseOfHalt writer.old writer.new) }
+{
+    prove!(setting.files.len() <= usize::MAX);
+    files_answer_once();
+    let column = begin_column(setting, layout, reader)?;
+    convert_rounds(setting, layout, column, writer)
 }
 
 /// Converts a whole column. Returns the number of rows.
@@ -118,10 +172,7 @@ fn convert_column<T: Threads + Wait + Sync, R: Read + Drop, W: Write, G: Gate + 
         (W.contents writer.old.inner) (W.contents writer.new.inner))) }
     ensures cause { IfErr result (IsCauseOfHalt writer.old writer.new) }
 {
-    prove!(setting.files.len() <= usize::MAX);
-    files_answer_once();
-    let column = Column::new(setting.alloc, reader, setting.plan.max_bytes())?;
-    convert_rounds(setting, column, writer)
+    convert_records(setting, &Layout::plain(Header::Absent), reader, writer)
 }
 
 /// Converts a column whose first record is a header. Returns the number of rows.
@@ -143,11 +194,34 @@ fn convert_body<T: Threads + Wait + Sync, R: Read + Drop, W: Write, G: Gate + Sy
         (W.contents writer.old.inner) (W.contents writer.new.inner))) }
     ensures cause { IfErr result (IsCauseOfHalt writer.old writer.new) }
 {
+    convert_records(setting, &Layout::plain(Header::First), reader, writer)
+}
+
+/// Converts a column by a layout. Returns the number of rows.
+///
+/// # Errors
+///
+/// As [`convert_rounds`].
+fn convert_delimited<T: Threads + Wait + Sync, R: Read + Drop, W: Write, G: Gate + Sync>(
+    setting: &Setting<'_, T, G>,
+    layout: &Layout,
+    reader: R,
+    writer: &mut Counted<W>,
+) -> Result<u64, Halt>
+    ensures all { IfOk result (λ n. IfSome (R.remaining reader) (λ column. WritesAllOf
+        (ConvertsBy setting.now.files.now layout.now setting.now.plan.now.max_rows column) n
+        (W.contents writer.old.inner) (W.contents writer.new.inner))) }
+    ensures flushed { IfOk result (λ _. writer.new.failures ≡ writer.old.failures) }
+    ensures halt { IfErr result (λ halt. IfSome (R.remaining reader) (λ column. WritesAtHalt
+        (ConvertsBy setting.now.files.now layout.now setting.now.plan.now.max_rows column) halt
+        (W.contents writer.old.inner) (W.contents writer.new.inner))) }
+    ensures cause { IfErr result (IsCauseOfHalt writer.old writer.new) }
+{
+    // The names of files have no byte that is a delimiter, as `len` tells.
     prove!(setting.files.len() <= usize::MAX);
-    files_answer_once();
-    let mut column = Column::new(setting.alloc, reader, setting.plan.max_bytes())?;
-    column.pass_record(setting.alloc, round_len(setting.plan))?;
-    convert_rounds(setting, column, writer)
+    records_are_exchanged();
+    let delimiter = layout.delimiter.byte();
+    convert_records(setting, layout, Exchanged::new(reader, delimiter), writer)
 }
 
 /// Returns why reading the column ended. The reader had counted `failures` failures and `taken`
@@ -278,6 +352,68 @@ pub fn convert_after_header<T: Threads + Wait + Sync, R: Read, W: Write>(
         gate: &Open,
     };
     match convert_body(&setting, &mut *reader, writer) {
+        Ok(_) if reader.has_failed_since(failures) => Err(RunStop::ReadFailed),
+        Ok(_) if reader.taken().saturating_sub(taken) > plan.max_bytes() => {
+            Err(RunStop::ColumnTooLong)
+        }
+        Ok(count) => Ok(count),
+        Err(Halt::Stop(stop)) => Err(stop),
+        Err(Halt::Unread) => Err(reading_stop(reader, failures, taken, plan.max_bytes())),
+    }
+}
+
+/// How a column is converted: how work is shared and how long the column may be, and what it has.
+#[derive(Clone, Copy, Drop)]
+pub struct ColumnOrder<'a> {
+    pub plan: &'a Plan,
+    pub layout: &'a Layout,
+}
+
+/// Converts a column by a layout, as [`convert`] does one of two plain fields. Returns the number of
+/// rows, without a header.
+///
+/// The layout says which bytes stand between fields, of records and of rows; whether the first
+/// record is a header, which makes no row and isn't counted; where a row's zone and its instant come
+/// from, and how many fields a record has; and what an instant counts. An instant is an optional `-`
+/// and 1 to 18 digits, and as many more as a fraction of a second has. A row shows local time of its
+/// whole second, rounded down, and with that fraction. The workers pass no gate.
+///
+/// # Errors
+///
+/// As [`convert`]. A record of another number of fields than the layout's is `RowFields`, and a
+/// whole second out of range `RowRange`.
+pub fn convert_by<T: Threads + Wait + Sync, R: Read, W: Write>(
+    rt: &T,
+    alloc: Global,
+    files: &Files,
+    reader: &mut Counted<R>,
+    writer: &mut Counted<W>,
+    order: &ColumnOrder<'_>,
+) -> Result<u64, RunStop>
+    ensures ok { IfOk result (λ n. IfSome (R.remaining reader.old.inner) (λ column. WritesAllOf
+        (ConvertsBy files.now order.now.layout.now order.now.plan.now.max_rows column) n
+        (W.contents writer.old.inner) (W.contents writer.new.inner))) }
+    ensures within { IfOk result
+        (λ _. reader.new.taken ≤ reader.old.taken + order.now.plan.now.max_bytes) }
+    ensures unfailed { IfOk result (λ _. HasFailedSince reader.new reader.old.failures → ⊥) }
+    ensures flushed { IfOk result (λ _. writer.new.failures ≡ writer.old.failures) }
+    ensures err { IfErr result (λ stop. IfSome (R.remaining reader.old.inner) (λ column. WritesAtOf
+        (ConvertsBy files.now order.now.layout.now order.now.plan.now.max_rows column) stop
+        (W.contents writer.old.inner) (W.contents writer.new.inner))) }
+    ensures cause { IfErr result (IsCauseOf order.now.plan.now.max_bytes
+        reader.old reader.new writer.old writer.new) }
+{
+    let failures = reader.failures();
+    let taken = reader.taken();
+    let plan = order.plan;
+    let setting = Setting {
+        rt,
+        alloc,
+        files,
+        plan,
+        gate: &Open,
+    };
+    match convert_delimited(&setting, order.layout, &mut *reader, writer) {
         Ok(_) if reader.has_failed_since(failures) => Err(RunStop::ReadFailed),
         Ok(_) if reader.taken().saturating_sub(taken) > plan.max_bytes() => {
             Err(RunStop::ColumnTooLong)

@@ -14,4 +14,4 @@ mod row;
 mod row_files;
 mod zone_cache;
 
-pub use conversion::{convert, convert_after_header};
+pub use conversion::{ColumnOrder, convert, convert_after_header, convert_by};

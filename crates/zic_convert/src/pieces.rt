@@ -1,18 +1,18 @@
 //! The records of a round, in pieces for several workers.
 
-ghost use Rattle.std.specs.Prelude.{◌≡◌, ◌≤◌, ◌<◌, ◌+◌, true, false, length, take};
+ghost use Rattle.std.specs.Prelude.{◌≡◌, ◌≤◌, ◌<◌, ◌+◌, true, false, IfOk, length, take};
 ghost use Rattle.zic_columns.specs.Round.{ArePiecesOf};
 ghost use Rattle.zic_columns.specs.declared.pieces.TheConstants.{MAX_ROUND_PIECES};
 ghost use Rattle.zic_plan.specs.declared.plan.TheConstants.{MAX_ROWS};
-ghost use Rattle.zic_convert.specs.code.Pieces.{ArePieces};
+ghost use Rattle.zic_convert.specs.code.Pieces.{ArePieces, AreRowsOfPiece};
 
-use crate::row::{Rows, rows_of};
+use crate::row::{RowOrder, Rows, rows_by, rows_of};
 use crate::row_files::RowFiles;
-use std::alloc::Global;
+use std::alloc::{AllocError, Global};
 use std::marker::Model;
 use zic_columns::Round;
 use zic_pieces::{PieceStop, Task};
-use zic_plan::Plan;
+use zic_plan::{Layout, Plan};
 
 /// The least room for the text of a piece that is taken at once, in bytes.
 const LEAST_ROOM: usize = 256;
@@ -24,6 +24,7 @@ const GREATEST_ROOM: usize = 4_194_304;
 /// first row. Clauses see the bytes of each piece.
 #[derive(Drop)]
 pub(crate) struct RowPieces<'a, 's> {
+    layout: &'a Layout,
     files: &'a RowFiles<'s>,
     round: Round<'a>,
     first: u64,
@@ -42,6 +43,7 @@ impl<'a, 's> Model for RowPieces<'a, 's> {
     ghost Value = { Pieces };
 
     ghost view = { λ p. record {
+      layout = p.layout.now;
       files = p.files.now;
       pieces = p.round;
       first = p.first;
@@ -51,6 +53,7 @@ impl<'a, 's> Model for RowPieces<'a, 's> {
     } };
 
     ghost invariant = { λ p. ArePieces (record {
+      layout = p.layout.now;
       files = p.files.now;
       pieces = p.round;
       first = p.first;
@@ -64,6 +67,7 @@ impl<'a, 's> RowPieces<'a, 's> {
     /// Returns the pieces of a round, cut as the plan says, as a task that stops at a fault. The
     /// first record is the row of this number.
     pub(crate) fn new(
+        layout: &'a Layout,
         files: &'a RowFiles<'s>,
         round: Round<'a>,
         first: u64,
@@ -73,6 +77,7 @@ impl<'a, 's> RowPieces<'a, 's> {
         requires few { length round ≤ MAX_ROUND_PIECES }
         requires cut { ArePiecesOf plan.now.row_piece round }
         ensures pieces { result ≡ record {
+          layout = layout.now;
           files = files.now;
           pieces = round.entry;
           first = first;
@@ -83,6 +88,7 @@ impl<'a, 's> RowPieces<'a, 's> {
         ensures sound { ArePieces result }
     {
         RowPieces {
+            layout,
             files,
             round,
             first,
@@ -109,6 +115,7 @@ impl<'a, 's> RowPieces<'a, 's> {
         } }
     {
         RowPieces {
+            layout: self.layout,
             files: self.files,
             round: self.round.front(i as usize + 1),
             first: self.first,
@@ -116,6 +123,27 @@ impl<'a, 's> RowPieces<'a, 's> {
             size: self.size,
             stops: false,
         }
+    }
+
+    /// Returns the rows of the piece with this index, up to the first that has a fault.
+    fn piece_rows(&self, alloc: Global, i: u64) -> Result<Rows, AllocError>
+        requires { i < length self.now.pieces }
+        ensures { IfOk result (AreRowsOfPiece self.now i) }
+    {
+        let first = self.first + i * self.size;
+        let room = room_for(self.round.piece(i as usize).len());
+        if self.layout.has_plain_rows() {
+            let split = self.round.split(alloc, i as usize)?;
+            return rows_of(alloc, self.files, self.most, first, room, split.records());
+        }
+        let wide = self.round.split_wide(alloc, i as usize)?;
+        let order = RowOrder {
+            files: self.files,
+            layout: self.layout,
+            most: self.most,
+            first,
+        };
+        rows_by(alloc, &order, room, wide.records())
     }
 }
 
@@ -136,12 +164,7 @@ impl<'a, 's> Task for RowPieces<'a, 's> {
     }
 
     fn perform(&self, alloc: Global, i: u64) -> Result<Rows, PieceStop<()>> {
-        let Ok(split) = self.round.split(alloc, i as usize) else {
-            return Err(PieceStop::Memory);
-        };
-        let first = self.first + i * self.size;
-        let room = room_for(self.round.piece(i as usize).len());
-        let Ok(rows) = rows_of(alloc, self.files, self.most, first, room, split.records()) else {
+        let Ok(rows) = self.piece_rows(alloc, i) else {
             return Err(PieceStop::Memory);
         };
         if self.stops && rows.fault.is_some() {

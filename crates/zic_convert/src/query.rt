@@ -1,10 +1,12 @@
 //! The queries of records.
 
 ghost use Rattle.std.specs.Prelude.{◌≡◌, MatchResult};
-ghost use Rattle.zic_convert.specs.code.Query.{IsAsked, IsFaultOfField};
+ghost use Rattle.zic_rows.specs.Count.{second_of};
+ghost use Rattle.zic_rows.specs.Instant.{IsRowInstant};
+ghost use Rattle.zic_convert.specs.code.Query.{IsAsked, IsCounted, IsFaultOfCount, IsFaultOfField};
 
-use zic_plan::RowKind;
-use zic_rows::{FIRST_INSTANT, LAST_INSTANT, parse_instant};
+use zic_plan::{RowKind, Unit};
+use zic_rows::{FIRST_INSTANT, LAST_INSTANT, moment_of, parse_count, parse_instant};
 
 /// The query of a record: local time of the zone of a name, at an instant that a row may have. The
 /// field names the instant.
@@ -33,4 +35,33 @@ pub(crate) fn row_instant(field: &[u8]) -> Result<i64, RowKind>
         return Err(RowKind::RowRange);
     }
     Ok(instant)
+}
+
+/// The query of a record: local time of the zone of a name, at the whole second of a count that a
+/// row may have.
+#[derive(Clone, Copy)]
+pub(crate) struct CountQuery<'a> {
+    pub(crate) name: &'a [u8],
+    pub(crate) count: i128,
+    pub(crate) unit: Unit,
+    ghost asked: { IsRowInstant (second_of unit count) },
+}
+
+/// Returns the count of a field.
+///
+/// # Errors
+///
+/// `RowInstant` where the field has none, and `RowRange` where no row may have it.
+pub(crate) fn row_count(field: &[u8], unit: Unit) -> Result<i128, RowKind>
+    ensures { MatchResult result (λ count. IsCounted unit field.now count)
+        (IsFaultOfCount unit field.now) }
+{
+    let Some(count) = parse_count(field, unit) else {
+        return Err(RowKind::RowInstant);
+    };
+    let second = moment_of(count, unit).second;
+    if second < i128::from(FIRST_INSTANT) || i128::from(LAST_INSTANT) < second {
+        return Err(RowKind::RowRange);
+    }
+    Ok(count)
 }

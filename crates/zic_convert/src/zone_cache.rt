@@ -7,6 +7,8 @@ ghost use Rattle.zic_convert.specs.Rows.{fault_of};
 ghost use Rattle.zic_convert.specs.code.ZoneCache.{IsShown};
 ghost use Rattle.zic_convert.specs.code.Query.{fields_in};
 
+mod counted;
+
 use crate::query::{Query, row_instant};
 use crate::ready_zone::ReadyZone;
 use crate::row_files::RowFiles;

@@ -3,3 +3,4 @@ pub mod DigitPairs
 pub mod LocalTime
 pub mod PlainInstants
 pub mod RowTexts
+pub mod Counts

@@ -166,3 +166,17 @@ row_joined old named parted numbered new name digits instant s with_name with_co
     with_rest ∙ ap (λ (l : List ℕ). l ++ R) (with_digits ∙ ap (λ (l : List ℕ). parted ++ l) are
     ∙ ap (λ (l : List ℕ). l ++ D) (with_comma ∙ ap (λ (l : List ℕ). l ++ 44 ∷ []) with_name)) in
     all ∙ simp append_assoc
+
+-- the local time of an instant, by the date that is kept, and what follows it
+pub local_kept : (instant offset : ℤ) (seconds day : ℕ) (more : List ℕ) → pos seconds ≡ instant +ℤ offset +ℤ pos (719_162 * 86_400) → day ≡ seconds / 86_400
+    → let second = seconds % 86_400 in
+    kept_date day ++ (clock_text second ++ more) ≡ 44 ∷ (local_text instant offset ++ more)
+unfolding local_text local_time kept_date
+local_kept instant offset seconds day more counted of_day =
+    let t = instant +ℤ offset in
+    let second = seconds % 86_400 in
+    let at = pos (seconds / 86_400) -ℤ pos 719_162 in
+    let P : ℤ → ℕ → List ℕ = λ d s. 44 ∷ (civil_text (civil_of d s) ++ more) in
+    let here : P at second ≡ 44 ∷ (date_text (civil_of at 0) ++ 84 ∷ []) ++ (clock_text second ++ more) = simp append_assoc in
+    ap (λ (n : ℕ). kept_date n ++ (clock_text second ++ more)) of_day
+    ∙ sym (ap (λ (d : ℤ). P d (second_at t)) (day_at-counted t seconds (sym counted)) ∙ ap (λ (s : ℕ). P at s) (second_at-counted t seconds (sym counted)) ∙ here)

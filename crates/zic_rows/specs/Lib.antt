@@ -1,4 +1,5 @@
 pub mod Instant
 pub mod Local
 pub mod Row
+pub mod Count
 pub mod code

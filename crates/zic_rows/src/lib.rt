@@ -2,6 +2,7 @@
 //! tests stand in `program_tests`.
 #![tactic(auto)]
 
+mod count;
 mod date;
 mod digits;
 mod instant;
@@ -11,6 +12,7 @@ mod rest;
 mod row;
 mod state_text;
 
+pub use count::{Moment, moment_of, parse_count};
 pub use instant::{is_plain, parse_instant};
 pub use limit::{FARTHEST_OFFSET, FIRST_INSTANT, LAST_INSTANT, MAX_DIGITS};
 pub use row::{RowWriter, push_row};

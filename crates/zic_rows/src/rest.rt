@@ -5,14 +5,17 @@ ghost use Rattle.zic_base.specs.Digits.{clock_text};
 ghost use Rattle.zic_base.specs.State.{shown};
 ghost use Rattle.zic_rows.specs.Instant.{IsRowOffset};
 ghost use Rattle.zic_rows.specs.Row.{state_text};
+ghost use Rattle.zic_rows.specs.Count.{fraction_text, units_of_second};
 ghost use Rattle.zic_rows.specs.code.Kept.{kept_date, IsRestOf};
 
+use crate::count::push_fraction;
 use crate::date::write_date;
 use crate::digits::time_text;
 use crate::limit::{DAY, DAYS, REST_ROOM};
 use crate::state_text::StateText;
 use std::alloc::AllocError;
 use zic_base::State;
+use zic_plan::Unit;
 
 /// The rest of a row, kept for rows of one day and one state: a comma, the date and a `T`, eight
 /// bytes for the time of day, and the text of the state.
@@ -87,6 +90,27 @@ impl<'a> KeptRest<'a> {
         text.extend_from_slice(&self.octets)?;
         text[start + 12..start + 20].copy_from_slice(&time_text(second));
         text.truncate(start + 20 + self.len);
+        Ok(())
+    }
+
+    /// Appends the rest of a row at this second of the day, and as many units after it.
+    pub(crate) fn push_counted(
+        &self,
+        text: &mut Vec<u8>,
+        second: u32,
+        unit: Unit,
+        fraction: u32,
+    ) -> Result<(), AllocError>
+        requires time { second < DAY }
+        requires fraction { fraction < units_of_second unit }
+        ensures { OnOk result (text.new.items ≡ text.old.items ++ (kept_date self.now.day
+            ++ (clock_text second ++ (fraction_text unit fraction
+            ++ state_text (shown self.now.state))))) }
+    {
+        text.extend_from_slice(&self.octets[..12])?;
+        text.extend_from_slice(&time_text(second))?;
+        push_fraction(text, unit, fraction)?;
+        text.extend_from_slice(&self.octets[20..20 + self.len])?;
         Ok(())
     }
 }

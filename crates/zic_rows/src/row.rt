@@ -4,7 +4,9 @@ ghost use Rattle.std.specs.Prelude.{◌≡◌, ◌+ℤ◌, ◌*◌, ◌<◌, ◌
 ghost use Rattle.zic_base.specs.State.{shown};
 ghost use Rattle.zic_rows.specs.Instant.{IsRowInstant, IsRowOffset};
 ghost use Rattle.zic_rows.specs.Row.{row_text, rest_text, IsRowState};
+ghost use Rattle.zic_rows.specs.Count.{counted_rest_text, counted_row_text, second_of};
 
+use crate::count::moment_of;
 use crate::limit::{DAY, DAYS, DAYS_TO_1970};
 use crate::rest::KeptRest;
 use crate::state_text::StateText;
@@ -12,6 +14,10 @@ use itoa::Buffer;
 use std::alloc::AllocError;
 use std::marker::Model;
 use zic_base::State;
+use zic_plan::Unit;
+
+/// What stands between fields.
+const COMMA: u8 = b',';
 
 /// Appends the text of a row: the name, the instant in plain decimals, its local time, the UT
 /// offset, the daylight flag and the abbreviation, between commas, and a newline. The instant is
@@ -99,6 +105,46 @@ impl<'a> RowWriter<'a> {
         let seconds = local_seconds(instant, self.rest.offset());
         self.rest.turn_to((seconds / DAY as u64) as u32);
         self.rest.push(text, (seconds % DAY as u64) as u32)
+    }
+
+    /// Appends the text of a row of a count of units, whose whole second is one that a row may have.
+    /// Where memory runs out, a part of the row may be there.
+    pub fn push_counted(
+        &mut self,
+        text: &mut Vec<u8>,
+        name: &[u8],
+        count: i128,
+        unit: Unit,
+    ) -> Result<(), AllocError>
+        requires { IsRowInstant (second_of unit count) }
+        ensures state { self.new ≡ self.old }
+        ensures ok { OnOk result (text.new.items
+            ≡ text.old.items ++ counted_row_text unit name.now count self.old) }
+    {
+        text.extend_from_slice(name)?;
+        text.push(COMMA)?;
+        text.extend_from_slice(Buffer::new().format(count).as_bytes())?;
+        self.push_counted_rest(text, count, unit)
+    }
+
+    /// Appends the rest of the text of a row after a count of units, whose whole second is one that
+    /// a row may have. Where memory runs out, a part may be there.
+    pub fn push_counted_rest(
+        &mut self,
+        text: &mut Vec<u8>,
+        count: i128,
+        unit: Unit,
+    ) -> Result<(), AllocError>
+        requires { IsRowInstant (second_of unit count) }
+        ensures state { self.new ≡ self.old }
+        ensures ok { OnOk result
+            (text.new.items ≡ text.old.items ++ counted_rest_text unit count self.old) }
+    {
+        let moment = moment_of(count, unit);
+        let seconds = local_seconds(moment.second as i64, self.rest.offset());
+        self.rest.turn_to((seconds / DAY as u64) as u32);
+        let second = (seconds % DAY as u64) as u32;
+        self.rest.push_counted(text, second, unit, moment.fraction)
     }
 }
 

@@ -4,13 +4,15 @@ use Rattle.zic_columns.specs.Column.{column_records}
 use Rattle.zic_columns.specs.Round.{ArePiecesOf}
 use Rattle.zic_columns.specs.declared.pieces.TheConstants.{MAX_ROUND_PIECES}
 use Rattle.zic_files.specs.File.{File}
+use Rattle.zic_plan.specs.declared.layout.Layout.{Layout}
 use Rattle.zic_plan.specs.declared.stop.RowKind.{RowKind}
 use Rattle.zic_plan.specs.declared.plan.TheConstants.{MAX_OF_PIECE, MAX_ROWS}
 use Rattle.zic_convert.specs.code.Row.{AreRowsOf, RowsOf}
 
--- the bytes of each piece, the number of the first record as a row, how many rows there may be, how many records a piece has (the last
--- may have fewer), and whether a piece with a fault stops the task
+-- the layout, the files, the bytes of each piece, the number of the first record as a row, how many rows there may be, how many records a
+-- piece has (the last may have fewer), and whether a piece with a fault stops the task
 pub record Pieces : Type 0 where
+  pub layout : Layout
   pub files : List File
   pub pieces : List (List ℕ)
   pub first : ℕ
@@ -28,7 +30,7 @@ pub record ArePieces (p : Pieces) : Type 0 where
 
 -- the rows of a piece's records
 abbrev pub AreRowsOfPiece : Pieces → ℕ → RowsOf → Type 0
-AreRowsOfPiece p i rows = IfSome (slice_get p.pieces i) (λ piece. AreRowsOf p.files p.most (p.first + i * p.size) (column_records piece) rows)
+AreRowsOfPiece p i rows = IfSome (slice_get p.pieces i) (λ piece. AreRowsOf p.layout p.files p.most (p.first + i * p.size) (column_records piece) rows)
 
 -- The outcome of a piece: its rows, up to the first that has a fault, or, where that is to stop the task, a fault.
 abbrev pub IsOutcomeOf : Pieces → ℕ → Result RowsOf (Unit {0}) → Type 0

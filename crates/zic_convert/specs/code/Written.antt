@@ -25,10 +25,10 @@ EndsAtRow contents old new first rows _ = ⊥
 
 -- the rows of a round were all written, and this is their count
 abbrev pub WritesRound : {W : Type 0} → Pieces → (W → Option (List ℕ)) → Counts W → Counts W → ℕ → Type 0
-WritesRound p contents old new count = (rows : RowsOf) × AreRowsOf p.files p.most p.first (records_of p.pieces) rows × WritesRows contents old new rows count
+WritesRound p contents old new count = (rows : RowsOf) × AreRowsOf p.layout p.files p.most p.first (records_of p.pieces) rows × WritesRows contents old new rows count
 
 -- the rows of a round before one with a fault were written, or the writer failed, or memory ran out
 abbrev pub EndsInRound : {W : Type 0} → Pieces → (W → Option (List ℕ)) → Counts W → Counts W → RunStop → Type 0
 EndsInRound p contents old new why =
     ((why ≡ stop.Memory) × (new ≡ old))
-    ⊎ ((rows : RowsOf) × AreRowsOf p.files p.most p.first (records_of p.pieces) rows × EndsAtRow contents old new p.first rows why)
+    ⊎ ((rows : RowsOf) × AreRowsOf p.layout p.files p.most p.first (records_of p.pieces) rows × EndsAtRow contents old new p.first rows why)

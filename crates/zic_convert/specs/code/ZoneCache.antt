@@ -4,11 +4,16 @@ use Rattle.zic_base.specs.State.{Shown}
 use Rattle.zic_files.specs.File.{File}
 use Rattle.zic_files.specs.Sound.{IsAlwaysKnown}
 use Rattle.zic_posix.specs.declared.instants.Instants.{Instants}
+use Rattle.zic_rows.specs.Count.{counted_row_text}
 use Rattle.zic_rows.specs.Row.{row_text}
 use Rattle.zic_tzif.specs.Content.{Content}
 use Rattle.zic_tzif.specs.Answer.{AnswersThroughout}
 use Rattle.zic_convert.specs.Rows.{IsTextOf, fault_of, is_named}
+use Rattle.zic_convert.specs.LayoutRows.{IsTextBy, fault_by}
 use Rattle.zic_convert.specs.declared.query.Query.{Query}
+use Rattle.zic_convert.specs.declared.query.CountQuery.{CountQuery}
+use Rattle.zic_columns.specs.Exchange.{exchanged}
+use Rattle.zic_plan.specs.declared.layout.Layout.{Layout}
 
 -- the zone of the file of this name, which says something at every instant
 pub record IsZoneOf (files : List File) (name : List ℕ) (zone : Content) : Type 0 where
@@ -36,3 +41,8 @@ pub record IsShown (told : Told) (most number : ℕ) (fields : List (List ℕ)) 
   pub sound : fault_of told.files most number fields ≡ None
   pub two : fields ≡ query.name.now ∷ query.field.now ∷ []
   pub text : IsTextOf told.files fields (row_text query.name.now query.instant told.state)
+
+-- the same by a layout
+pub record IsShownBy (layout : Layout) (told : Told) (most number : ℕ) (fields : List (List ℕ)) (query : CountQuery) : Type 0 where
+  pub sound : fault_by layout told.files most number fields ≡ None
+  pub text : IsTextBy layout told.files fields (exchanged layout.delimiter (counted_row_text query.unit query.name.now query.count told.state))

@@ -9,7 +9,7 @@ invariant-loop-files g l = record {
   within : l.count ≤ l.fn.setting.plan.now.max_rows;
   failures : l.writer.failures ≡ l.fn.writer.failures;
   far : (bytes : List ℕ) → unread g.R.Read.remaining l.fn.column ≡ Some bytes
-      → IsSoFar l.fn.setting.files.now l.fn.setting.plan.now.max_rows (column_records bytes) (unread g.R.Read.remaining l.column) l.count (g.W.Write.contents l.fn.writer.inner) (g.W.Write.contents l.writer.inner);
+      → IsSoFar l.fn.layout l.fn.setting.files.now l.fn.setting.plan.now.max_rows (column_records bytes) (unread g.R.Read.remaining l.column) l.count (g.W.Write.contents l.fn.writer.inner) (g.W.Write.contents l.writer.inner);
 }
 
 abbrev pub decreases-loop-files : goal.decreases-loop-files

@@ -12,7 +12,7 @@ write_rows-requires g c =
     let rows = c.args.rows.now in
     let sound = c.first.ensures.sound in
     let all = joined_round p rows sound c.requires in
-    omega (arith, few p.files p.most p.first (records_of p.pieces) (joined rows) all, few_records p sound, sound.first, c.first.ensures.first)
+    omega (arith, few p.layout p.files p.most p.first (records_of p.pieces) (joined rows) all, few_records p sound, sound.first, c.first.ensures.first)
 
 pub returns-clause-ok : goal.returns-clause-ok
 returns-clause-ok g c =

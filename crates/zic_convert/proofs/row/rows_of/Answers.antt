@@ -1,13 +1,13 @@
-use Rattle.std.proofs.Common.{◌∙◌, ap}
+use Rattle.std.proofs.Common.{◌<◌, ◌+◌, ◌∙◌, ap, arith, length, rules}
 use Rattle.zic_convert.specs.code.ZoneCache.{Told}
-use Rattle.zic_convert.proofs.SoFar.{all_made, made_more, made_up_to}
+use Rattle.zic_convert.proofs.SoFar.{all_made, counted_so_far, plain_more, plain_up_to}
 use Rattle.zic_convert.proofs.row.rows_of.Goals as goal
 
 pub returns-in-Err : goal.returns-in-Err
-returns-in-Err c =
+returns-in-Err c = λ layout plain.
     let l = c.loop-record in
     let step = c.in-Some.ensures.steps in
-    made_up_to c.args.files.now c.args.most c.args.first c.args.records l.record-iterator l.text.items l.count l.invariant.1 c.in-Some.record step.0 c.next.new.self step.1 step.2 c.in-Err.kind
+    plain_up_to layout plain c.args.files.now c.args.most c.args.first c.args.records l.record-iterator l.text.items l.count (l.invariant.1 layout plain) c.in-Some.record step.0 c.next.new.self step.1 step.2 c.in-Err.kind
     (rw l.invariant.0 at c.in-Err.ensures.answer)
 
 pub loop-record-preserved : goal.loop-record-preserved
@@ -17,11 +17,26 @@ loop-record-preserved c =
     let same = c.in-Ok.ensures.files ∙ l.invariant.0 in
     let pushed = c.in_ok-push-in-Ok.ensures in (
       ap (λ (t : Told). t.files) pushed.cache ∙ same,
-      made_more c.args.files.now c.args.most c.args.first c.args.records l.record-iterator l.text.items l.count l.invariant.1 c.in-Some.record step.0 c.next.new.self step.1 step.2 c.query.new.self
-          c.in-Ok.query c.push.new.text.items same c.in-Ok.ensures.answer pushed.ok,
+      λ layout plain. plain_more layout plain c.args.files.now c.args.most c.args.first c.args.records l.record-iterator l.text.items l.count (l.invariant.1 layout plain) c.in-Some.record step.0 c.next.new.self
+          step.1 step.2 c.query.new.self c.in-Ok.query c.push.new.text.items same c.in-Ok.ensures.answer pushed.ok,
     )
 
 pub returns : goal.returns
-returns c =
+returns c = λ layout plain.
     let l = c.loop-record in
-    all_made c.args.files.now c.args.most c.args.first c.args.records l.record-iterator l.text.items l.count l.invariant.1 c.in-None.ensures.steps.0
+    all_made layout c.args.files.now c.args.most c.args.first c.args.records l.record-iterator l.text.items l.count (l.invariant.1 layout plain) c.in-None.ensures.steps.0
+
+pub overflow_add-first : goal.overflow_add-first
+overflow_add-first c =
+    let l = c.loop-record in
+    let all = counted_so_far c.args.files.now c.args.most c.args.first c.args.records l.record-iterator l.text.items l.count l.invariant.1 in
+    let fits : c.args.first + l.count < 18446744073709551616 = omega (arith, all, c.requires) in
+    search (rules, fits)
+
+pub overflow_add-count : goal.overflow_add-count
+overflow_add-count c =
+    let l = c.loop-record in
+    let all = counted_so_far c.args.files.now c.args.most c.args.first c.args.records l.record-iterator l.text.items l.count l.invariant.1 in
+    let some = ap length c.in-Some.ensures.steps.1 in
+    let fits : l.count + 1 < 18446744073709551616 = omega (arith, all, c.requires, some) in
+    search (rules, fits)

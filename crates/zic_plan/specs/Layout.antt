@@ -1,0 +1,27 @@
+-- How a column is read, and what its rows are: own choice.
+use Rattle.std.specs.Prelude.{◌≡◌, ℕ, Bool, ◌==◌, nat_le}
+use Rattle.zic_plan.specs.declared.layout.Layout.{Layout}
+use Rattle.zic_plan.specs.declared.layout.FieldCount.{FieldCount}
+use Rattle.zic_plan.specs.declared.layout.FieldCount.TheVariants as fields
+use Rattle.zic_plan.specs.declared.layout.Header.{Header}
+use Rattle.zic_plan.specs.declared.layout.Header.TheVariants as header
+use Rattle.zic_plan.specs.declared.layout.Unit.TheVariants as units
+use Rattle.zic_plan.specs.declared.layout.ZoneFrom.TheVariants as from
+
+-- a record has as many fields
+abbrev pub has_count : FieldCount → ℕ → Bool
+has_count (fields.Exactly n) count = count == n
+has_count (fields.AtLeast n) count = nat_le n count
+
+-- the number of records before those that make rows
+abbrev pub records_before : Header → ℕ
+records_before header.Absent = 0
+records_before header.First = 1
+
+-- a record has two fields, the name of a zone and seconds, with a comma between them
+pub record HasPlainRows (layout : Layout) : Type 0 where
+  pub zone : layout.zone ≡ from.Field 0
+  pub time : layout.time ≡ 1
+  pub count : layout.count ≡ fields.Exactly 2
+  pub unit : layout.unit ≡ units.Second
+  pub delimiter : layout.delimiter ≡ 44

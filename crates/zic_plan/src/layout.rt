@@ -1,0 +1,96 @@
+//! How a column is read, and what its rows are.
+
+ghost use Rattle.std.specs.Prelude.{◌≡◌, IsTrue};
+ghost use Rattle.zic_plan.specs.Layout.{HasPlainRows, has_count};
+
+use crate::delimiter::Delimiter;
+
+/// What an instant counts from 1970-01-01T00:00:00 UT, without leap seconds.
+#[derive(Clone, Copy, Debug, PartialEq, Eq)]
+pub enum Unit {
+    Second,
+    Millisecond,
+    Microsecond,
+    Nanosecond,
+}
+
+/// Where the zone of a row comes from.
+#[derive(Debug, Drop)]
+pub enum ZoneFrom {
+    /// The field with this index, from 0.
+    Field(usize),
+    /// Every row is in the zone of this name.
+    Name(String),
+}
+
+/// How many fields a record has.
+#[derive(Clone, Copy, Debug, PartialEq, Eq)]
+pub enum FieldCount {
+    Exactly(usize),
+    AtLeast(usize),
+}
+
+impl FieldCount {
+    /// Returns whether a record may have this number of fields.
+    pub fn admits(self, count: usize) -> bool
+        ensures { result ≡ has_count self count }
+    {
+        match self {
+            FieldCount::Exactly(n) => count == n,
+            FieldCount::AtLeast(n) => n <= count,
+        }
+    }
+}
+
+/// Whether the first record of a column is a header, which makes no row and isn't counted.
+#[derive(Clone, Copy, Debug, PartialEq, Eq)]
+pub enum Header {
+    Absent,
+    First,
+}
+
+/// How a column is read, and what its rows are.
+#[derive(Debug, Drop)]
+pub struct Layout {
+    /// Where a row's zone comes from.
+    pub zone: ZoneFrom,
+    /// The index of the field of the instant, from 0.
+    pub time: usize,
+    /// How many fields each record has.
+    pub count: FieldCount,
+    /// What the instants count.
+    pub unit: Unit,
+    /// What stands between fields, of records and of rows.
+    pub delimiter: Delimiter,
+    /// Whether there is a header.
+    pub header: Header,
+}
+
+impl Layout {
+    /// Returns the layout of plain columns: two fields, the name of a zone and seconds, with a
+    /// comma between them.
+    pub fn plain(header: Header) -> Layout
+        ensures rows { HasPlainRows result }
+        ensures header { result.header ≡ header }
+    {
+        Layout {
+            zone: ZoneFrom::Field(0),
+            time: 1,
+            count: FieldCount::Exactly(2),
+            unit: Unit::Second,
+            delimiter: Delimiter::comma(),
+            header,
+        }
+    }
+
+    /// Returns whether the records and the rows are those of plain columns, with a header or
+    /// without.
+    pub fn has_plain_rows(&self) -> bool
+        ensures { IsTrue result → HasPlainRows self.now }
+    {
+        let zone = matches!(&self.zone, ZoneFrom::Field(0));
+        let count = matches!(self.count, FieldCount::Exactly(2));
+        let unit = matches!(self.unit, Unit::Second);
+        zone && self.time == 1 && count && unit && self.delimiter.byte() == b','
+    }
+}

@@ -1,0 +1,64 @@
+-- Counts of seconds, and the parts of a row of a count.
+use Rattle.std.proofs.Common.{◌≡◌, ℕ, ◌*◌, ◌/◌, ◌%◌, ◌^◌, ◌<◌, FitsSigned, unsigned_abs, w64, List, [], ◌∷◌, ◌++◌, take, drop, ℤ, pos, negsuc, ◌+ℤ◌, refl, ap, ◌∙◌, append_assoc, arith}
+use Rattle.std.proofs.Math.Nat.{div-one}
+use Rattle.std.proofs.lemmas.Int.{fits_signed_from_abs, ints}
+use Rattle.std.specs.Int.{w128}
+use Rattle.std.specs.Fmt.{signed_decimal}
+use Rattle.zic_base.specs.State.{Shown}
+use Rattle.zic_base.specs.Digits.{clock_text}
+use Rattle.zic_plan.specs.declared.layout.Unit.{Unit}
+use Rattle.zic_plan.specs.declared.layout.Unit.TheVariants as unit
+use Rattle.zic_rows.specs.Instant.{IsRowInstant, instant_of}
+use Rattle.zic_rows.specs.Row.{rest_text, row_text, state_text}
+use Rattle.zic_rows.specs.code.Kept.{kept_date}
+use Rattle.zic_rows.specs.Count.{count_of, counted_rest_text, counted_row_text, fraction_of, fraction_text, second_of}
+use Rattle.zic_rows.proofs.RowTexts.{local_kept}
+
+-- the whole second of a count of seconds
+pub second_one : (t : ℤ) → second_of unit.Second t ≡ t
+second_one (pos n) = ap pos (div-one n)
+second_one (negsuc n) = ap negsuc (div-one n)
+
+-- a count of seconds is an instant
+pub count_seconds : (field : List ℕ) → count_of unit.Second field ≡ instant_of field
+unfolding count_of instant_of
+count_seconds field = refl
+
+-- and its row that of the instant
+pub counted_seconds : (name : List ℕ) (t : ℤ) (s : Shown) → counted_row_text unit.Second name t s ≡ row_text name t s
+unfolding counted_row_text counted_rest_text row_text rest_text
+counted_seconds name t s = rw (second_one t) refl
+
+-- a row of a count, appended in its parts
+pub counted_joined : (old named parted numbered new name digits : List ℕ) (u : Unit) (count : ℤ) (s : Shown) → named ≡ old ++ name → parted ≡ named ++ 44 ∷ []
+    → digits ≡ signed_decimal count → numbered ≡ parted ++ digits → new ≡ numbered ++ counted_rest_text u count s → new ≡ old ++ counted_row_text u name count s
+unfolding counted_row_text
+counted_joined old named parted numbered new name digits u count s with_name with_comma are with_digits with_rest =
+    let R = counted_rest_text u count s in
+    let D = signed_decimal count in
+    let all : new ≡ (((old ++ name) ++ 44 ∷ []) ++ D) ++ R =
+    with_rest ∙ ap (λ (l : List ℕ). l ++ R) (with_digits ∙ ap (λ (l : List ℕ). parted ++ l) are
+    ∙ ap (λ (l : List ℕ). l ++ D) (with_comma ∙ ap (λ (l : List ℕ). l ++ 44 ∷ []) with_name)) in
+    all ∙ simp append_assoc
+
+-- the rest of a row of a count, by the date that is kept
+pub counted_rest_kept : (u : Unit) (count : ℤ) (s : Shown) (seconds day : ℕ) → pos seconds ≡ second_of u count +ℤ s.offset +ℤ pos (719_162 * 86_400) → day ≡ seconds / 86_400
+    → let second = seconds % 86_400 in
+    kept_date day ++ (clock_text second ++ (fraction_text u (fraction_of u count) ++ state_text s)) ≡ counted_rest_text u count s
+unfolding counted_rest_text
+counted_rest_kept u count s seconds day counted of_day = local_kept (second_of u count) s.offset seconds day (fraction_text u (fraction_of u count) ++ state_text s) counted of_day
+
+-- the rest of a row, appended in its parts
+pub rest_appended : (old dated timed parted new octets date clock fraction text : List ℕ) (len : ℕ) → take 12 octets ≡ date → take len (drop 20 octets) ≡ text
+    → dated ≡ old ++ take 12 octets → timed ≡ dated ++ clock → parted ≡ timed ++ fraction → new ≡ parted ++ take len (drop 20 octets)
+    → new ≡ old ++ (date ++ (clock ++ (fraction ++ text)))
+rest_appended old dated timed parted new octets date clock fraction text len is_date is_text with_date with_clock with_fraction with_text =
+    let all : new ≡ (((old ++ date) ++ clock) ++ fraction) ++ text = rw (with_text, with_fraction, with_clock, with_date, is_date, is_text) refl in
+    all ∙ simp append_assoc
+
+-- a second that a row may have fits
+pub row_second_fits : (t : ℤ) → IsRowInstant t → FitsSigned w64 t × FitsSigned w128 t
+row_second_fits t may =
+    let near : unsigned_abs t < 2 ^ 63 = omega (arith, ints, may.0, may.1) in
+    let nearer : unsigned_abs t < 2 ^ 127 = omega (arith, ints, may.0, may.1) in
+    (fits_signed_from_abs w64 t near, fits_signed_from_abs w128 t nearer)

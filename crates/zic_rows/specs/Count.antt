@@ -1,0 +1,58 @@
+-- The instant of a row as a count of units, perhaps parts of a second, from 1970-01-01T00:00:00 UT, without leap seconds: own choice.
+use Rattle.std.specs.Prelude.{ℕ, ◌+◌, ◌/◌, ◌%◌, ℤ, pos, neg_ℤ, unsigned_abs, List, [], ◌∷◌, ◌++◌, drop, Option, option_map, if◌then◌else◌}
+use Rattle.std.specs.Int.{int_div_euclid, int_rem_euclid}
+use Rattle.std.specs.Fmt.{signed_decimal}
+use Rattle.zic_base.specs.Digits.{two_digits}
+use Rattle.zic_base.specs.State.{Shown}
+use Rattle.zic_plan.specs.declared.layout.Unit.{Unit}
+use Rattle.zic_plan.specs.declared.layout.Unit.TheVariants as unit
+use Rattle.zic_rows.specs.declared.limit.TheConstants.{MAX_DIGITS}
+use Rattle.zic_rows.specs.Instant.{is_negative, number}
+use Rattle.zic_rows.specs.Row.{local_text, state_text}
+
+-- the digits of a fraction of a second
+abbrev pub fraction_digits : Unit → ℕ
+fraction_digits unit.Second = 0
+fraction_digits unit.Millisecond = 3
+fraction_digits unit.Microsecond = 6
+fraction_digits unit.Nanosecond = 9
+
+-- how many make up a second
+abbrev pub units_of_second : Unit → ℕ
+units_of_second unit.Second = 1
+units_of_second unit.Millisecond = 1000
+units_of_second unit.Microsecond = 1_000_000
+units_of_second unit.Nanosecond = 1_000_000_000
+
+-- the count of a field: a number of 1 to 18 digits and those of a fraction, perhaps after a `-`
+unfoldable pub count_of : Unit → List ℕ → Option ℤ
+count_of u field =
+    if is_negative field then option_map (λ n. neg_ℤ (pos n)) (number (MAX_DIGITS + fraction_digits u) (drop 1 field))
+    else option_map pos (number (MAX_DIGITS + fraction_digits u) field)
+
+-- the whole second of a count, rounded down, also before 1970
+abbrev pub second_of : Unit → ℤ → ℤ
+second_of u count = int_div_euclid count (pos (units_of_second u))
+
+-- how many units a count lies after its whole second
+abbrev pub fraction_of : Unit → ℤ → ℕ
+fraction_of u count = unsigned_abs (int_rem_euclid count (pos (units_of_second u)))
+
+-- a number below 1,000 in three digits
+abbrev pub three_digits : ℕ → List ℕ
+three_digits n = (48 + n / 100) ∷ two_digits (n % 100)
+
+-- so many units of a second, as `.123`
+abbrev pub fraction_text : Unit → ℕ → List ℕ
+fraction_text unit.Second n = []
+fraction_text unit.Millisecond n = 46 ∷ three_digits n
+fraction_text unit.Microsecond n = 46 ∷ (three_digits (n / 1000) ++ three_digits (n % 1000))
+fraction_text unit.Nanosecond n = 46 ∷ (three_digits (n / 1_000_000) ++ three_digits (n / 1000 % 1000) ++ three_digits (n % 1000))
+
+-- the text that follows the count: its local time with a fraction, and the state, as `,1970-01-01T00:00:00.000,+00:00:00,0,UTC` and a newline
+unfoldable pub counted_rest_text : Unit → ℤ → Shown → List ℕ
+counted_rest_text u count shown = 44 ∷ (local_text (second_of u count) shown.offset ++ (fraction_text u (fraction_of u count) ++ state_text shown))
+
+-- the text of a row: its name, its count in plain decimals, and the rest
+unfoldable pub counted_row_text : Unit → List ℕ → ℤ → Shown → List ℕ
+counted_row_text u name count shown = name ++ 44 ∷ (signed_decimal count ++ counted_rest_text u count shown)
