@@ -11,3 +11,4 @@ program=crates/zic_main/out/zic_main
 "$program" build "$work/ours" "$release"
 zic -b fat -d "$work/fat" "$release"
 python3 witness/columns.py "$program" "$release" "$work" | sed 's/^/columns: /'
+python3 witness/layouts.py "$program" "$release" "$work" | sed 's/^/columns: /'

@@ -615,6 +615,62 @@ status=0
 : >../out
 told 'pzic convert --header plain >/dev/full' 3 '' 'cannot write rows'
 
+# ------------------------------------------------------------------ other columns
+
+# by_options STATUS OUT ERR TEXT WORD...: the same as expect_rows, with tabs between the fields of OUT.
+by_options() {
+    expect_rows "$1" "$(printf '%s' "$2" | tr ' ' '\t')" "${@:3}"
+}
+
+# Instants that count parts of a second: fractions also before 1970, and the range of the whole second.
+for unit in ms us ns; do
+    case $unit in ms) digits=000 ;; us) digits=000000 ;; ns) digits=000000000 ;; esac
+    nines=${digits//0/9}
+    expect_rows 0 "Etc/UTC,-1,1969-12-31T23:59:59.$nines,+00:00:00,0,UTC
+Etc/UTC,0,1970-01-01T00:00:00.$digits,+00:00:00,0,UTC
+Etc/UTC,1$digits,1970-01-01T00:00:01.$digits,+00:00:00,0,UTC
+Etc/UTC,253402214399$nines,9999-12-30T23:59:59.$nines,+00:00:00,0,UTC" '' \
+        "Etc/UTC,-1\nEtc/UTC,-0\nEtc/UTC,01$digits\nEtc/UTC,253402214399$nines\n" --unit $unit
+    for instant in "253402214400$digits" "-62135510400${digits%0}1" "999999999999999999$digits"; do
+        expect_rows 1 '' 'row 1: RowRange' "Etc/UTC,$instant" --unit $unit
+    done
+    expect_rows 1 '' 'row 1: RowInstant' "Etc/UTC,1000000000000000000$digits" --unit $unit
+    expect_rows 1 '' 'row 1: RowInstant' 'Etc/UTC,1.5' --unit $unit
+done
+expect_rows 0 "$utc" '' 'Etc/UTC,0\n' --unit s
+# Records of more fields, with other delimiters.
+by_options 0 'Etc/UTC 0 1970-01-01T00:00:00 +00:00:00 0 UTC' '' '"a\tb",c\tEtc/UTC\t"0"\n' --delimiter tab --zone-field 2 --time-field 3
+by_options 0 'Etc/UTC 0 1970-01-01T00:00:00 +00:00:00 0 UTC' '' '\xef\xbb\xbf0\tx\ty,z\tEtc/UTC\tmore\r\n' --delimiter tab --zone-field 4 --time-field 1
+expect_rows 1 "$utc" 'row 2: RowFields' '0,,Etc/UTC,x\n0,Etc/UTC\n' --zone-field 3 --time-field 1
+expect_rows 1 "${utc//,/;}" 'row 2: RowFields' 'Etc/UTC;0\nEtc/UTC,0\n' --delimiter ';'
+expect_rows 1 "${utc//,/;}" 'row 2: RowFields' 'Etc/UTC;0\nEtc/UTC;0;1\n' --delimiter ';'
+expect_rows 1 '' 'row 1: RowZone' 'Etc,UTC;0\n' --delimiter ';'
+expect_rows 1 '' 'row 1: RowInstant' 'Etc/UTC;1,5\n' --delimiter ';'
+# One zone for all rows.
+expect_rows 0 "$utc"$'\n'"$utc" '' '0\n"0"\n' --zone Etc/UTC
+expect_rows 1 "$utc" 'row 2: RowFields' '0\nEtc/UTC,0\n' --zone Etc/UTC
+expect_rows 0 "$header"$'\n'"$utc" '' 'id,time,more\n7,0,8\n' --zone Etc/UTC --time-field 2 --header
+expect_rows 0 "${header//,/|}" '' '' --zone Etc/UTC --delimiter '|' --header
+expect_rows 2 '' 'unknown zone UTC' '0\n' --zone UTC --header
+expect_rows 1 "$utc" 'row 2: TooManyRows' '0\n0\n' --zone Etc/UTC --max-rows 1
+expect_rows 1 '' 'column: ColumnTooLong' '0\n' --zone Etc/UTC --max-bytes 1
+expect 1 '' 'line 1: Keyword' convert --zone Etc/UTC faulty
+# Words that describe no column.
+expect_usage convert --zone Etc/UTC --zone-field 1 plain
+for field in 0 65537 -1 x; do
+    expect_usage convert --zone-field $field plain
+    expect_usage convert --time-field $field plain
+done
+expect_usage convert --zone-field 2 plain
+expect_usage convert --time-field 1 plain
+for delimiter in '' ',,' Tab é '"' $'\n' $'\r' a 0 + - . / : _; do expect_usage convert --delimiter "$delimiter" plain; done
+for unit in '' m S sec; do expect_usage convert --unit "$unit" plain; done
+for option in zone zone-field time-field delimiter unit; do
+    expect_usage convert --$option
+    expect_usage convert --$option 3 --$option 3 plain
+    expect_usage check --$option 3 plain
+done
+
 # ------------------------------------------------------------------ progress
 
 # expect_progress CALL ROWS ERR: checks the number of rows in the line of progress, and the lines

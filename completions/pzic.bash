@@ -12,7 +12,7 @@ _pzic() {
     case ${COMP_WORDS[1]} in
     check) options='--workers --zone-piece --explain --help' ;;
     build) options='--links --workers --zone-piece --explain --help' ;;
-    convert) options='--workers --zone-piece --row-piece --max-rows --max-bytes --header --progress --explain --help' ;;
+    convert) options='--workers --zone-piece --row-piece --max-rows --max-bytes --header --zone --zone-field --time-field --delimiter --unit --progress --explain --help' ;;
     show) options='--explain --help' ;;
     dump) options='--from --to --explain --help' ;;
     explain)
@@ -35,6 +35,12 @@ _pzic() {
         COMPREPLY=($(compgen -W 'copy hard symlink' -- "$current"))
         return
         ;;
+    --unit)
+        # shellcheck disable=SC2207
+        COMPREPLY=($(compgen -W 's ms us ns' -- "$current"))
+        return
+        ;;
+    --zone | --zone-field | --time-field | --delimiter) return ;;
     --zone-piece | --row-piece | --max-rows | --max-bytes | --from | --to) return ;;
     esac
     if [[ $current = -* ]]; then

@@ -1,6 +1,7 @@
 //! The words that the program is given.
 
 use crate::commands::commands;
+use crate::layout::layout;
 use crate::no_request::NoRequest;
 use clap::error::ErrorKind;
 use clap::{ArgMatches, Error};
@@ -9,7 +10,7 @@ use std::rt::Env;
 use std::{env, io};
 use zic_dump::Years;
 use zic_explain::{Unexplained, entries, explanation, index};
-use zic_plan::{Plan, STANDARD_INPUT, parse_instant_word};
+use zic_plan::{Layout, Plan, STANDARD_INPUT, parse_instant_word};
 
 /// What the names of Link lines are made as.
 #[derive(Clone, Copy, Debug, PartialEq, Eq)]
@@ -49,8 +50,8 @@ pub enum Request {
     Convert {
         source: String,
         plan: Plan,
-        /// Whether the column's first record is a header.
-        header: bool,
+        /// How the column is read, and what its rows are.
+        layout: Layout,
         /// Whether it tells the number of rows so far.
         progress: bool,
     },
@@ -189,7 +190,7 @@ fn convert(alloc: Global, matches: &ArgMatches<'_>) -> Result<Request, NoRequest
     Ok(Request::Convert {
         source,
         plan,
-        header: matches.get_flag("header"),
+        layout: layout(alloc, matches)?,
         progress: matches.get_flag("progress"),
     })
 }
@@ -268,7 +269,7 @@ fn word(alloc: Global, matches: &ArgMatches<'_>, id: &str) -> Result<String, NoR
 }
 
 /// Returns the refusal of words that can't be what they are.
-fn usage(alloc: Global, text: &str) -> NoRequest {
+pub(crate) fn usage(alloc: Global, text: &str) -> NoRequest {
     match format!(in alloc; "error: {text}\n\nFor more information, try 'pzic --help'.\n") {
         Ok(text) => NoRequest::Usage(text),
         Err(_) => NoRequest::Memory,

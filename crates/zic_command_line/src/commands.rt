@@ -12,6 +12,12 @@ const VERSION: &str = "0.1.0\nproved with rattle-kit-13f logic dac8208d650f15bf"
 /// The words for what the names of Link lines are made as.
 const LINK_WORDS: [&str; 3] = ["copy", "hard", "symlink"];
 
+/// The words for what an instant counts.
+const UNIT_WORDS: [&str; 4] = ["s", "ms", "us", "ns"];
+
+/// The greatest number that a field can have in an option.
+const MOST_FIELDS: i64 = 65_536;
+
 /// What a command takes.
 enum Form {
     /// A word that must be given.
@@ -26,6 +32,14 @@ enum Form {
     Number(Number),
     /// An option that is one of `LINK_WORDS`, the first by default.
     Links,
+    /// An option that is the name of a zone.
+    Zone,
+    /// An option that is the number of a field, from 1.
+    Field,
+    /// An option that says what stands between fields, a comma by default.
+    Delimiter,
+    /// An option that is one of `UNIT_WORDS`, the first by default.
+    Unit,
 }
 
 /// A number in a range.
@@ -122,7 +136,7 @@ static BUILD: [Word; 6] = [
     EXPLAIN,
 ];
 
-static CONVERT: [Word; 9] = [
+static CONVERT: [Word; 14] = [
     SOURCE,
     WORKERS,
     ZONE_PIECE,
@@ -160,6 +174,31 @@ static CONVERT: [Word; 9] = [
         name: "header",
         help: "Takes the first record for a header, and writes one",
         form: Form::Flag,
+    },
+    Word {
+        name: "zone",
+        help: "The zone of all rows, in place of a field",
+        form: Form::Zone,
+    },
+    Word {
+        name: "zone-field",
+        help: "The field of the zone, from 1 [default: 1]",
+        form: Form::Field,
+    },
+    Word {
+        name: "time-field",
+        help: "The field of the instant [default: 2, or 1 with --zone]",
+        form: Form::Field,
+    },
+    Word {
+        name: "delimiter",
+        help: "What stands between fields: a character, or tab",
+        form: Form::Delimiter,
+    },
+    Word {
+        name: "unit",
+        help: "What instants count: s, ms, us or ns",
+        form: Form::Unit,
     },
     Word {
         name: "progress",
@@ -310,15 +349,30 @@ fn argument<'a>(alloc: Global, word: &'a Word) -> Arg<'a> {
         Form::Required => argument.required(true),
         Form::Several => argument.required(true).num_args(1..),
         Form::Optional => argument,
-        Form::Flag => argument.long(word.name).action(ArgAction::SetTrue),
-        Form::Number(number) => numbered(argument.long(word.name), number),
-        Form::Links => argument
-            .long(word.name)
-            .value_name("KIND")
-            .value_parser(ValueParser::Names(&LINK_WORDS))
-            .hide_possible_values(true)
-            .default_value("copy"),
+        _ => option(argument.long(word.name), &word.form),
     }
+}
+
+/// Returns an option of this form.
+fn option<'a>(argument: Arg<'a>, form: &'a Form) -> Arg<'a> {
+    match form {
+        Form::Number(number) => numbered(argument, number),
+        Form::Links => choice(argument.value_name("KIND"), &LINK_WORDS).default_value("copy"),
+        Form::Unit => choice(argument.value_name("UNIT"), &UNIT_WORDS).default_value("s"),
+        Form::Zone => argument.value_name("NAME"),
+        Form::Delimiter => argument.value_name("C").default_value(","),
+        Form::Field => argument
+            .value_name("N")
+            .value_parser(value_parser!(u64).range(1..=MOST_FIELDS)),
+        _ => argument.action(ArgAction::SetTrue),
+    }
+}
+
+/// Returns an option that is one of these words.
+fn choice<'a>(argument: Arg<'a>, words: &'a [&'a str]) -> Arg<'a> {
+    argument
+        .value_parser(ValueParser::Names(words))
+        .hide_possible_values(true)
 }
 
 /// Returns an option with the range of its number, and its default.

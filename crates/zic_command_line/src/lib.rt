@@ -3,6 +3,7 @@
 
 mod command_line;
 mod commands;
+mod layout;
 mod no_request;
 
 pub use command_line::{Asked, Links, Request, parse, requested};

@@ -3,3 +3,4 @@ pub mod Tree
 pub mod Linking
 pub mod Failing
 pub mod Converting
+pub mod ConvertingBy

@@ -6,6 +6,8 @@ ghost use Rattle.zic_counted.specs.Counts.{HasFailedSince};
 ghost use Rattle.zic_counted.specs.Written.{FailsWithin, Writes};
 ghost use Rattle.zic_commands.specs.Converting.{ConvertsAll, ConvertsBody, conversion};
 ghost use Rattle.zic_commands.specs.Converting.{IsFailureOfConvert, IsFailureOfConvertBody, header_line};
+ghost use Rattle.zic_commands.specs.ConvertingBy.{ConvertsColumn, IsFailureOfConvertBy, header_by};
+ghost use Rattle.zic_commands.specs.ConvertingBy.{HasZone, IsFailureOfZone, line_of};
 ghost use Rattle.zic_io.specs.declared.failure.Failure.TheVariants.{CannotWriteRows};
 
 use crate::compiler::files_of;
@@ -14,9 +16,13 @@ use std::io::{Read, Write};
 use std::sync::Wait;
 use std::thread::Threads;
 use zic_bulk::Plan;
+use zic_columns::exchange;
+use zic_convert::ColumnOrder;
 use zic_counted::{Counted, WriteFailed, write_all};
-use zic_io::{Failure, run_failure};
+use zic_files::Files;
+use zic_io::{Failure, run_failure, unknown_zone};
 use zic_pieces::Open;
+use zic_plan::{Header, Layout, ZoneFrom};
 
 /// The line before the rows of a column that has a header.
 const HEADER: &[u8; 48] = b"zone,instant,local,offset,daylight,abbreviation\n";
@@ -90,6 +96,85 @@ fn write_header<W: Write>(writer: &mut Counted<W>) -> Result<(), Failure>
     ensures fails { OnErr result (FailsWithin W.contents writer.old writer.new header_line) }
 {
     match write_all(writer, HEADER) {
+        Ok(()) => Ok(()),
+        Err(WriteFailed) => Err(Failure::CannotWriteRows),
+    }
+}
+
+/// Compiles the texts, and converts a column by a layout as [`convert`] does one of two plain fields.
+/// Where the layout has a header, it first writes the line
+/// `zone,instant,local,offset,daylight,abbreviation`, with the layout's delimiter, also for a column
+/// without records. Returns the number of rows, without the header.
+///
+/// # Errors
+///
+/// As [`convert`]. Before the column is read: `UnknownZone` where all rows are to be in a zone that
+/// the texts don't have, and where the header line can't be written. Rows count from 1 after the
+/// header, and its bytes count for the plan's limit.
+pub fn convert_by<T: Threads + Wait + Sync, R: Read, W: Write>(
+    rt: &T,
+    alloc: Global,
+    order: &ColumnOrder<'_>,
+    texts: &[Vec<u8>],
+    reader: &mut Counted<R>,
+    writer: &mut Counted<W>,
+) -> Result<u64, Failure>
+    ensures ok { IfOk result (λ rows. ConvertsColumn (texts_of texts.now) order.now rows
+        (conversion R.remaining W.contents reader.old reader.new writer.old writer.new)) }
+    ensures within { IfOk result
+        (λ _. reader.new.taken ≤ reader.old.taken + order.now.plan.now.max_bytes) }
+    ensures unfailed { IfOk result (λ _. HasFailedSince reader.new reader.old.failures → ⊥) }
+    ensures flushed { IfOk result (λ _. writer.new.failures ≡ writer.old.failures) }
+    ensures err { IfErr result (IsFailureOfConvertBy (texts_of texts.now) order.now
+        (conversion R.remaining W.contents reader.old reader.new writer.old writer.new)) }
+{
+    let files = files_of(rt, alloc, order.plan, texts)?;
+    find_zone(alloc, &files, &order.layout.zone)?;
+    write_header_by(order.layout, writer)?;
+    match zic_convert::convert_by(rt, alloc, &files, reader, writer, order) {
+        Ok(rows) => Ok(rows),
+        Err(stop) => Err(run_failure(stop, texts.len())),
+    }
+}
+
+/// Tells whether there is a file of the zone that all rows are to be in, if they are to be in one.
+///
+/// # Errors
+///
+/// `UnknownZone` where there is none, or memory ran out.
+fn find_zone(alloc: Global, files: &Files, zone: &ZoneFrom) -> Result<(), Failure>
+    ensures ok { OnOk result (HasZone files.now zone.now) }
+    ensures err { IfErr result (IsFailureOfZone files.now zone.now) }
+{
+    let ZoneFrom::Name(name) = zone else {
+        return Ok(());
+    };
+    match files.find(name.as_bytes()) {
+        Some(_) => Ok(()),
+        None => Err(unknown_zone(alloc, name.as_str())),
+    }
+}
+
+/// Returns the line where there is a header, and no bytes where there is none.
+fn line_of(header: Header, line: &[u8]) -> &[u8]
+    ensures { result.now ≡ line_of header line.now }
+{
+    match header {
+        Header::Absent => &[],
+        Header::First => line,
+    }
+}
+
+/// Writes the header line by a layout, if it has a header, and doesn't flush.
+fn write_header_by<W: Write>(layout: &Layout, writer: &mut Counted<W>) -> Result<(), Failure>
+    ensures ok { OnOk result (Writes W.contents writer.old writer.new (header_by layout.now)) }
+    ensures failure { IfErr result (λ failure. failure ≡ CannotWriteRows) }
+    ensures fails { OnErr result
+        (FailsWithin W.contents writer.old writer.new (header_by layout.now)) }
+{
+    let mut header = *HEADER;
+    exchange(&mut header, layout.delimiter.byte());
+    match write_all(writer, line_of(layout.header, &header)) {
         Ok(()) => Ok(()),
         Err(WriteFailed) => Err(Failure::CannotWriteRows),
     }

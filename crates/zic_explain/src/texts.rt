@@ -509,7 +509,8 @@ It prints:
 Right:
   $ names 64 | pzic check -
 ?  A generated source with a different abbreviation for each change.
-@RowFields?A record doesn't have two fields.?  A record doesn't have two fields.
+@RowFields?A record doesn't have two fields.?  A record doesn't have two fields. With `--zone`: not one. With
+  `--zone-field` or `--time-field`: not as many as these say.
 ?  `NAME,SECONDS` with one comma.
 ?
 The examples use:
@@ -523,8 +524,9 @@ It prints:
 
 Right:
   $ echo 'Etc/UTC,0' | pzic convert utc.zi
-?  Another separator, or more fields: `cut -d , -f 1,2` keeps two. In row 1: a
-  header with other columns, which `--header` passes over.
+?  Another separator, which `--delimiter` names, or more fields, of which
+  `--zone-field` and `--time-field` name two. In row 1: a header with other
+  columns, which `--header` passes over.
 @RowZone?The source has no zone or link of that name.?  The source has no zone or link of that name.
 ?  A name exactly as in the source, including upper and lower case.
 ?
@@ -541,9 +543,10 @@ Right:
   $ printf 'zone,instant\nEtc/UTC,0\n' | pzic convert --header utc.zi
 ?  In row 1: a header, which `--header` passes over. Otherwise a name of
   another release or of `backward`, or an abbreviation such as `PST`.
-@RowInstant?The second field isn't an instant.?  The second field isn't an instant.
+@RowInstant?The field for it isn't an instant.?  The field for it isn't an instant.
 ?  Seconds since 1970-01-01T00:00:00 UT: 1 to 18 digits, with `-` before them
-  for earlier instants, without `+`, spaces or a fraction.
+  for earlier instants, without `+`, spaces or a fraction. With `--unit` 3, 6
+  or 9 digits more.
 ?
 The examples use:
   $ echo 'Zone Etc/UTC 0 - UTC' >utc.zi
@@ -572,7 +575,7 @@ It prints:
 
 Right:
   $ echo 'Etc/UTC,1750000000' | pzic convert utc.zi
-?  Milliseconds: divide by 1,000.
+?  Milliseconds, which `--unit ms` takes.
 @TooManyRows?The column has more rows than `--max-rows` allows.?  The column has more rows than `--max-rows` allows.
 ?  At most 100,000,000 rows, or the number given with the option.
 ?
@@ -1006,6 +1009,22 @@ It prints:
 Right:
   $ pzic check utc.zi >listing
 ?  A full disk, or a program at the other end of the pipe that has exited.
+@unknown zone NAME?The source has no zone or link of the name that `--zone` gives.?  The source has no zone or link of the name that `--zone` gives. Nothing is
+  read of the column. Status 2.
+?  A name exactly as in the source, including upper and lower case.
+?
+The examples use:
+  $ echo 'Zone Etc/UTC 0 - UTC' >utc.zi
+
+Wrong:
+  $ echo 0 | pzic convert --zone UTC utc.zi
+
+It prints:
+  unknown zone UTC
+
+Right:
+  $ echo 0 | pzic convert --zone Etc/UTC utc.zi
+?  A name of another release or of `backward`: `pzic check` lists all names.
 @out of memory?The system refused memory.?  The system refused memory. Status 4.
 ?  A few MB for a release of the tz database, and at most some 60 MB for a
   column with 4 threads.

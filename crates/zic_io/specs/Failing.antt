@@ -39,6 +39,11 @@ abbrev pub IsCannotRead : List ℕ → Failure → Type 0
 IsCannotRead path (failures.CannotRead named) = string_bytes named ≡ path
 IsCannotRead path _ = ⊥
 
+-- no file has this name
+abbrev pub IsUnknownZone : List ℕ → Failure → Type 0
+IsUnknownZone name (failures.UnknownZone given) = string_bytes given ≡ name
+IsUnknownZone name _ = ⊥
+
 -- why what a path names isn't read: for this reason, or memory ran out
 abbrev pub IsFailureOfReading : List ℕ → Type 0 → Failure → Type 0
 IsFailureOfReading path reason failure =

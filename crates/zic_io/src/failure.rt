@@ -2,7 +2,7 @@
 
 ghost use Rattle.std.specs.Prelude.{◌≡◌, ◌⊎◌};
 ghost use Rattle.zic_io.specs.declared.failure.Failure.TheVariants.{CannotWriteOutput, Memory};
-ghost use Rattle.zic_io.specs.Failing.{fault_failure, run_failure, IsCannotRead};
+ghost use Rattle.zic_io.specs.Failing.{fault_failure, run_failure, IsCannotRead, IsUnknownZone};
 ghost use Rattle.zic_io.specs.Words.{status_of};
 
 use std::alloc::{AllocError, AllocFailed, Global};
@@ -36,6 +36,8 @@ pub enum Failure {
     CannotWriteRows,
     /// `cannot write output`.
     CannotWriteOutput,
+    /// All rows are to be in a zone that no file has the name of: `unknown zone NAME`.
+    UnknownZone(String),
     /// Memory ran out: `out of memory`.
     Memory,
     /// No thread could be started: `no thread`. Never answered.
@@ -44,13 +46,15 @@ pub enum Failure {
 
 impl Failure {
     /// Returns the status of a program that ends with the failure: 1 for a fault of what is read,
-    /// 3 for what can't be read or written, 4 where memory ran out or no thread could be started.
+    /// 2 for a zone that isn't there, 3 for what can't be read or written, 4 where memory ran out or no
+    /// thread could be started.
     pub fn status(&self) -> u8
         ensures { result ≡ status_of self.now }
     {
         match self {
             Failure::Line { .. } | Failure::TextLine { .. } | Failure::Row { .. } => 1,
             Failure::ColumnTooLong | Failure::File(_) => 1,
+            Failure::UnknownZone(_) => 2,
             Failure::CannotRead(_) | Failure::CannotReadColumn => 3,
             Failure::CannotWrite(_) | Failure::CannotWriteRows | Failure::CannotWriteOutput => 3,
             Failure::Memory | Failure::NoThread => 4,
@@ -78,6 +82,7 @@ impl fmt::Display for Failure {
             Failure::CannotWrite(path) => write!(f, "cannot write {path}"),
             Failure::CannotWriteRows => write!(f, "cannot write rows"),
             Failure::CannotWriteOutput => write!(f, "cannot write output"),
+            Failure::UnknownZone(name) => write!(f, "unknown zone {name}"),
             Failure::Memory => write!(f, "out of memory"),
             Failure::NoThread => write!(f, "no thread"),
         }
@@ -163,6 +168,16 @@ pub(crate) fn cannot_read(alloc: Global, path: &str) -> Failure
 {
     match String::from_str(alloc, path) {
         Ok(path) => Failure::CannotRead(path),
+        Err(_) => Failure::Memory,
+    }
+}
+
+/// Returns the failure for a zone that no file has the name of, or that memory ran out.
+pub fn unknown_zone(alloc: Global, name: &str) -> Failure
+    ensures { (result ≡ Memory) ⊎ IsUnknownZone name.now result }
+{
+    match String::from_str(alloc, name) {
+        Ok(name) => Failure::UnknownZone(name),
         Err(_) => Failure::Memory,
     }
 }

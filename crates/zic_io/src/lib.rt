@@ -11,7 +11,7 @@ mod progress;
 mod sources;
 mod tree;
 
-pub use failure::{Failure, run_failure};
+pub use failure::{Failure, run_failure, unknown_zone};
 pub use input::{MAX_SOURCE, read_file_bytes, read_source_text};
 pub use link_kind::{LinkKind, LinkedFolder};
 pub use output::write_output;

@@ -9,7 +9,7 @@ use zic_command_line::Request;
 use zic_explain::{entries, expectation, line_place, nearest_zone, row_place};
 use zic_io::Failure;
 use zic_names::{kind_name, reason_name, row_kind_name};
-use zic_plan::RowKind;
+use zic_plan::{Header, RowKind};
 
 /// What is kept of a request and of what was read, to explain a failure.
 #[derive(Drop)]
@@ -22,6 +22,8 @@ pub(crate) struct Kept {
     start: Option<u64>,
     /// The number of records before the rows of the column: 1 for a header, else 0.
     before: u64,
+    /// Whether a record is the name of a zone and seconds, with a comma between them.
+    is_plain: bool,
 }
 
 impl Kept {
@@ -32,6 +34,7 @@ impl Kept {
             texts: Vec::new(rt.alloc()),
             start: column_start(rt),
             before: records_before(request),
+            is_plain: has_plain_rows(request),
         })
     }
 
@@ -87,6 +90,9 @@ impl Kept {
         row: u64,
     ) -> Result<String, AllocError> {
         let alloc = rt.alloc();
+        if !self.is_plain {
+            return format!(in alloc; "--> standard input, row {row}\n");
+        }
         let Some(record) = self.start.and_then(|start| record_at(
             rt,
             start,
@@ -123,8 +129,16 @@ impl Kept {
 /// Returns the number of records of the column that are no rows.
 fn records_before(request: &Request) -> u64 {
     match request {
-        Request::Convert { header: true, .. } => 1,
+        Request::Convert { layout, .. } if layout.header == Header::First => 1,
         _ => 0,
+    }
+}
+
+/// Returns whether the records of the column are plain ones.
+fn has_plain_rows(request: &Request) -> bool {
+    match request {
+        Request::Convert { layout, .. } => layout.has_plain_rows(),
+        _ => true,
     }
 }
 
@@ -158,6 +172,7 @@ fn name_of(failure: &Failure) -> &'static str {
         Failure::CannotWrite(_) => "cannot write PATH",
         Failure::CannotWriteRows => "cannot write rows",
         Failure::CannotWriteOutput => "cannot write output",
+        Failure::UnknownZone(_) => "unknown zone NAME",
         Failure::Memory => "out of memory",
         Failure::NoThread => "no thread",
     }

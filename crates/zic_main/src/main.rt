@@ -18,9 +18,9 @@ use std::sync::Wait;
 use std::thread::Threads;
 use std::time::Clock;
 use zic_command_line::{Links, Request};
-use zic_commands::{Disk, Failure, LinkKind, LinkedFolder, Progress, Told};
+use zic_commands::{ColumnOrder, Disk, Failure, LinkKind, LinkedFolder, Progress, Told};
 use zic_counted::{Counted, flush, write_all};
-use zic_plan::Plan;
+use zic_plan::{Header, Plan};
 
 fn main(rt: HostRuntime) -> ExitCode {
     match run(&rt, rt.stderr()) {
@@ -75,11 +75,15 @@ fn answer<
         Request::Convert {
             source,
             plan,
-            header,
+            layout,
             progress,
         } => {
             *texts = sources(rt, &mut input, &[source])?;
-            convert(rt, &plan, texts, &mut input, header, told(progress, errors))
+            let order = ColumnOrder {
+                plan: &plan,
+                layout: &layout,
+            };
+            convert(rt, &order, texts, &mut input, told(progress, errors))
         }
         Request::Show { file, instant } => {
             let bytes = bytes_of(rt, file.as_str())?;
@@ -151,35 +155,39 @@ fn told<E: IsTerminal + Drop>(progress: bool, errors: E) -> Told<E> {
     }
 }
 
-/// Converts the input, which may begin with a header, by the files of the texts to standard output,
-/// and tells of the rows.
+/// Converts the input by the files of the texts to standard output, and tells of the rows.
 fn convert<R: Print + Clock + AllocGlobal + Threads + Wait + Sync, I: Read, E: Write + Drop>(
     rt: &R,
-    plan: &Plan,
+    order: &ColumnOrder<'_>,
     texts: &[Vec<u8>],
     input: &mut Counted<I>,
-    header: bool,
     told: Told<E>,
 ) -> Result<(), Failure> {
-    let mut output = Counted::new(Progress::new(io::writer(rt), rt, told, header));
-    let converted = convert_to(rt, plan, texts, header, input, &mut output);
+    let header = order.layout.header;
+    let progress = Progress::new(io::writer(rt), rt, told, header == Header::First);
+    let mut output = Counted::new(progress);
+    let converted = convert_column(rt, order, texts, input, &mut output);
     output.into_inner().finish();
     converted?;
     Ok(())
 }
 
-/// Converts the input, which may begin with a header, by the files of the texts.
-fn convert_to<R: AllocGlobal + Threads + Wait + Sync, I: Read, W: Write>(
+/// Converts a column by the files of the texts. Returns the number of rows.
+fn convert_column<R: AllocGlobal + Threads + Wait + Sync, I: Read, W: Write>(
     rt: &R,
-    plan: &Plan,
+    order: &ColumnOrder<'_>,
     texts: &[Vec<u8>],
-    header: bool,
     input: &mut Counted<I>,
     output: &mut Counted<W>,
 ) -> Result<u64, Failure> {
-    if header {
-        zic_commands::convert_with_header(rt, rt.alloc(), plan, texts, input, output)
-    } else {
-        zic_commands::convert(rt, rt.alloc(), plan, texts, input, output)
+    let alloc = rt.alloc();
+    if !order.layout.has_plain_rows() {
+        return zic_commands::convert_by(rt, alloc, order, texts, input, output);
+    }
+    match order.layout.header {
+        Header::Absent => zic_commands::convert(rt, alloc, order.plan, texts, input, output),
+        Header::First => {
+            zic_commands::convert_with_header(rt, alloc, order.plan, texts, input, output)
+        }
     }
 }

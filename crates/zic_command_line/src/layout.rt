@@ -1,0 +1,98 @@
+//! How a column is read, by the options for that.
+
+use crate::command_line::usage;
+use crate::no_request::NoRequest;
+use clap::ArgMatches;
+use std::alloc::Global;
+use zic_plan::{Delimiter, FieldCount, Header, Layout, Unit, ZoneFrom};
+
+/// Returns how a column is read.
+///
+/// # Errors
+///
+/// The text of usage where options don't go together or one can't be what it is, or memory ran out.
+pub(crate) fn layout(alloc: Global, matches: &ArgMatches<'_>) -> Result<Layout, NoRequest> {
+    let zone_field = matches.get_one::<u64>("zone-field");
+    let time_field = matches.get_one::<u64>("time-field");
+    let delimiter = delimiter(alloc, matches)?;
+    let unit = unit(alloc, matches)?;
+    let header = if matches.get_flag("header") {
+        Header::First
+    } else {
+        Header::Absent
+    };
+    let (zone, time) = match matches.get_str("zone") {
+        Some(_) if zone_field.is_some() => {
+            return Err(usage(alloc, "--zone-field has no meaning with --zone"));
+        }
+        Some(name) => {
+            let zone = ZoneFrom::Name(String::from_str(alloc, name)?);
+            (zone, time_field.unwrap_or(1))
+        }
+        None => {
+            let (zone, time) = (zone_field.unwrap_or(1), time_field.unwrap_or(2));
+            if zone == time {
+                return Err(usage(alloc, "--zone-field and --time-field are one field"));
+            }
+            (ZoneFrom::Field(index(zone)), time)
+        }
+    };
+    let time = index(time);
+    let count = field_count(&zone, time, zone_field.is_some() || time_field.is_some());
+    Ok(Layout {
+        zone,
+        time,
+        count,
+        unit,
+        delimiter,
+        header,
+    })
+}
+
+/// Returns the index of the field of this number.
+fn index(number: u64) -> usize {
+    number.saturating_sub(1) as usize
+}
+
+/// Returns how many fields a record has: those that are read, or where fields are named, at least
+/// up to the last of these.
+fn field_count(zone: &ZoneFrom, time: usize, is_named: bool) -> FieldCount {
+    let last = match zone {
+        ZoneFrom::Field(index) => time.max(*index),
+        ZoneFrom::Name(_) => time,
+    };
+    let count = last.saturating_add(1);
+    if is_named {
+        FieldCount::AtLeast(count)
+    } else {
+        FieldCount::Exactly(count)
+    }
+}
+
+/// Returns what stands between fields.
+fn delimiter(alloc: Global, matches: &ArgMatches<'_>) -> Result<Delimiter, NoRequest> {
+    let word = matches.get_str("delimiter").unwrap_or(",");
+    let byte = match word.as_bytes() {
+        b"tab" => Some(b'\t'),
+        [byte] => Some(*byte),
+        _ => None,
+    };
+    match byte.and_then(Delimiter::new) {
+        Some(delimiter) => Ok(delimiter),
+        None => Err(usage(
+            alloc,
+            "--delimiter is tab, or an ASCII character that no name and no number has",
+        )),
+    }
+}
+
+/// Returns what instants count.
+fn unit(alloc: Global, matches: &ArgMatches<'_>) -> Result<Unit, NoRequest> {
+    match matches.get_str("unit") {
+        Some("s") => Ok(Unit::Second),
+        Some("ms") => Ok(Unit::Millisecond),
+        Some("us") => Ok(Unit::Microsecond),
+        Some("ns") => Ok(Unit::Nanosecond),
+        _ => Err(usage(alloc, "--unit is s, ms, us or ns")),
+    }
+}

@@ -1,0 +1,106 @@
+-- The output of `convert` by a layout, and why it gives up.
+use Rattle.std.specs.Prelude.{◌≡◌, ◌⊎◌, ℕ, false, true, List, [], length, Option, IfSome, string_bytes}
+use Rattle.std.specs.Io.{StartsWith}
+use Rattle.std.specs.Io.KnownBytes.{Appends}
+use Rattle.zic_bulk.specs.Build.{AreFilesOfTexts}
+use Rattle.zic_files.specs.File.{File}
+use Rattle.zic_columns.specs.Exchange.{exchanged}
+use Rattle.zic_plan.specs.declared.layout.Header.TheVariants as header
+use Rattle.zic_plan.specs.declared.layout.Header.{Header}
+use Rattle.zic_plan.specs.declared.layout.Layout.{Layout}
+use Rattle.zic_plan.specs.declared.layout.ZoneFrom.{ZoneFrom}
+use Rattle.zic_plan.specs.declared.layout.ZoneFrom.TheVariants as zone
+use Rattle.zic_plan.specs.declared.stop.RunStop.{RunStop}
+use Rattle.zic_convert.specs.Column.{ConvertsBy}
+use Rattle.zic_convert.specs.Convert.{IsCauseOf, WritesAllOf, WritesAtOf}
+use Rattle.zic_convert.specs.Rows.{is_named}
+use Rattle.zic_convert.specs.declared.conversion.ColumnOrder.{ColumnOrder}
+use Rattle.zic_counted.specs.Counts.{HasFailedSince}
+use Rattle.zic_commands.specs.Converting.{Conversion, IsFailureBefore, header_line}
+use Rattle.zic_io.specs.Failing.{IsUnknownZone, run_failure}
+use Rattle.zic_io.specs.declared.failure.Failure.{Failure}
+use Rattle.zic_io.specs.declared.failure.Failure.TheVariants as failures
+
+-- the line where there is a header
+abbrev pub line_of : Header → List ℕ → List ℕ
+line_of header.Absent line = []
+line_of header.First line = line
+
+-- the bytes before the rows: none, or the header line with the delimiter in the place of commas
+abbrev pub header_by : Layout → List ℕ
+header_by layout = line_of layout.header (exchanged layout.delimiter header_line)
+
+-- where all rows are to be in one zone, a file has its name
+abbrev pub HasZone : List File → ZoneFrom → Type 0
+HasZone files (zone.Field index) = Unit {0}
+HasZone files (zone.Name name) = is_named files (string_bytes name) ≡ true
+
+-- why there is no zone for all rows: no file has its name, or memory ran out
+abbrev pub IsFailureOfZone : List File → ZoneFrom → Failure → Type 0
+IsFailureOfZone files (zone.Field index) failure = ⊥
+IsFailureOfZone files (zone.Name name) failure =
+    (is_named files (string_bytes name) ≡ false) × ((failure ≡ failures.Memory) ⊎ IsUnknownZone (string_bytes name) failure)
+
+-- what the writer held grew by all of a line, and then as `Writes` says
+pub record WritesBelow (line : List ℕ) (Writes : Option (List ℕ) → Option (List ℕ) → Type 0)
+    (held held' : Option (List ℕ)) : Type 0 where
+  pub begun : Option (List ℕ)
+  pub header : Appends held begun line
+  pub rows : Writes begun held'
+
+-- What the writer holds grew by the header and by the text of all rows of the column, made by the
+-- files of the texts and by the layout, and there are n rows.
+pub record ConvertsColumn {R W : Type 0} (texts : List (List ℕ)) (order : ColumnOrder) (n : ℕ)
+    (run : Conversion R W) : Type 0 where
+  pub files : List File
+  pub are_files : AreFilesOfTexts texts files
+  pub has_zone : HasZone files order.layout.now.zone
+  pub writes : WritesBelow (header_by order.layout.now) (λ begun held'. IfSome run.column
+      (λ column. WritesAllOf (ConvertsBy files order.layout.now order.plan.now.max_rows column) n begun held'))
+      run.held run.held'
+
+-- the texts have files, but none for the zone of all rows; nothing is read of the column, and nothing
+-- is written
+pub record IsFailureWithoutZone {R W : Type 0} (texts : List (List ℕ)) (order : ColumnOrder)
+    (run : Conversion R W) (failure : Failure) : Type 0 where
+  pub files : List File
+  pub are_files : AreFilesOfTexts texts files
+  pub of_zone : IsFailureOfZone files order.layout.now.zone failure
+  pub unread : run.reader' ≡ run.reader
+  pub unwritten : run.writer' ≡ run.writer
+
+-- the texts have files, nothing is read of the column, and a beginning of the header is written,
+-- perhaps all of it
+pub record IsFailureOfHeaderBy {R W : Type 0} (texts : List (List ℕ)) (order : ColumnOrder)
+    (run : Conversion R W) (failure : Failure) : Type 0 where
+  pub files : List File
+  pub are_files : AreFilesOfTexts texts files
+  pub has_zone : HasZone files order.layout.now.zone
+  pub is : failure ≡ failures.CannotWriteRows
+  pub unread : run.reader' ≡ run.reader
+  pub part : List ℕ
+  pub starts : StartsWith (header_by order.layout.now) part
+  pub wrote : Appends run.held run.held' part
+  pub failed : HasFailedSince run.writer' run.writer.failures
+
+-- the texts have files, and after the header the conversion of the column ends early
+pub record IsFailureOfRows {R W : Type 0} (texts : List (List ℕ)) (order : ColumnOrder)
+    (run : Conversion R W) (failure : Failure) : Type 0 where
+  pub files : List File
+  pub are_files : AreFilesOfTexts texts files
+  pub has_zone : HasZone files order.layout.now.zone
+  pub stop : RunStop
+  pub is : failure ≡ run_failure stop (length texts)
+  pub cause : IsCauseOf order.plan.now.max_bytes run.reader run.reader' run.writer run.writer' stop
+  pub writes : WritesBelow (header_by order.layout.now) (λ begun held'. IfSome run.column
+      (λ column. WritesAtOf (ConvertsBy files order.layout.now order.plan.now.max_rows column) stop begun held'))
+      run.held run.held'
+
+-- why texts don't convert a column by a layout
+abbrev pub IsFailureOfConvertBy : {R W : Type 0} → List (List ℕ) → ColumnOrder → Conversion R W
+    → Failure → Type 0
+IsFailureOfConvertBy texts order run failure =
+    IsFailureBefore texts run failure
+    ⊎ IsFailureWithoutZone texts order run failure
+    ⊎ IsFailureOfHeaderBy texts order run failure
+    ⊎ IsFailureOfRows texts order run failure
