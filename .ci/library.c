@@ -293,6 +293,9 @@ static void compile_source(void) {
     CHECK(pzic_files_name(&again, 0, room, 1, &count) == PZIC_NO_HANDLE);
     CHECK(pzic_files_bytes(&again, 0, room, 1, &count) == PZIC_NO_HANDLE);
     CHECK(pzic_zone_of(&again, 0, &zone) == PZIC_NO_HANDLE);
+    pzic_row_fault row;
+    CHECK(pzic_rows(&again, room, 0, &zone, &row) == PZIC_NO_HANDLE && zone.kind == 0);
+    CHECK(pzic_rows_text(&again, room, 1, &count) == PZIC_NO_HANDLE);
     // The zone stays without the files.
     pzic_free(&other);
     CHECK(pzic_zone_at(&again, 1704067200, &state) == PZIC_OK);
@@ -351,6 +354,68 @@ static void compile_texts(void) {
     CHECK(pzic_compile(bytes, 41, lengths, 3, &files, &fault) == PZIC_LENGTHS && files.kind == 0);
     CHECK(pzic_compile(bytes, 0, lengths, 0, &files, &fault) == PZIC_OK && files.kind == 2);
     CHECK(pzic_files_len(&files, &count) == PZIC_OK && count == 0);
+    pzic_free(&files);
+}
+
+static const char column[] = "Test/York,1720000000\n\"Test/Fixed\",-1\n";
+static const char converted[] =
+    "Test/York,1720000000,2024-07-03T05:46:40,-04:00:00,1,EDT\n"
+    "Test/Fixed,-1,1970-01-01T00:59:59,+01:00:00,0,XYZ\n";
+
+static int32_t convert(pzic_handle *files, const char *text, pzic_handle *rows, pzic_row_fault *fault) {
+    return pzic_rows(files, (const uint8_t *)text, strlen(text), rows, fault);
+}
+
+static void expect_rows(pzic_handle *rows, const char *want) {
+    size_t length = 0;
+    uint8_t room[200];
+    memset(room, 'x', sizeof room);
+    CHECK(rows->kind == 3);
+    CHECK(pzic_rows_text(rows, room, sizeof room, &length) == PZIC_OK && length == strlen(want));
+    CHECK(memcmp(room, want, length) == 0 && room[length] == 'x');
+}
+
+// Rows of a column, and the first one that has a fault.
+static void convert_columns(void) {
+    pzic_handle files = {0}, rows = {0}, other = {0};
+    pzic_fault none;
+    pzic_row_fault fault = {5, 6};
+    CHECK(convert(&files, column, &rows, &fault) == PZIC_NO_HANDLE && rows.kind == 0);
+    CHECK(compile(source, &files, &none) == PZIC_OK);
+    CHECK(convert(&files, column, &rows, &fault) == PZIC_OK && fault.row == 5 && fault.kind == 6);
+    expect_rows(&rows, converted);
+    uint8_t room[4] = "abcd";
+    size_t length = 0;
+    CHECK(pzic_rows_text(&rows, room, 3, &length) == PZIC_OK && length == strlen(converted));
+    CHECK(memcmp(room, "Tesd", 4) == 0);
+    CHECK(pzic_share(&rows, &other) == PZIC_OK);
+    CHECK(convert(&files, "\xEF\xBB\xBFTest/Fixed,0\nTest/York,x\n", &rows, &fault) == PZIC_BAD_ROW);
+    CHECK(fault.row == 2 && fault.kind == 37); // RowInstant
+    expect_rows(&rows, "Test/Fixed,0,1970-01-01T01:00:00,+01:00:00,0,XYZ\n");
+    expect_rows(&other, converted);
+    CHECK(convert(&files, "Test/None,0\n", &rows, &fault) == PZIC_BAD_ROW);
+    CHECK(fault.row == 1 && fault.kind == 36); // RowZone
+    CHECK(convert(&files, "", &rows, &fault) == PZIC_OK);
+    expect_rows(&rows, "");
+    // What holds rows holds no files and no zone.
+    pzic_state state;
+    CHECK(pzic_zone_at(&other, 0, &state) == PZIC_NO_HANDLE);
+    CHECK(pzic_files_len(&other, &length) == PZIC_NO_HANDLE);
+    CHECK(pzic_zone_of(&other, 0, &rows) == PZIC_NO_HANDLE && rows.kind == 0);
+    for (long n = 0;; n++) {
+        growths_left = n;
+        int32_t status = convert(&files, column, &rows, &fault);
+        bool all = growths_left >= 0;
+        growths_left = -1;
+        if (all) {
+            CHECK(status == PZIC_OK && n > 2);
+            break;
+        }
+        CHECK(status == PZIC_NO_MEMORY && rows.kind == 0 && fault.row == 1);
+    }
+    expect_rows(&rows, converted);
+    pzic_free(&rows);
+    pzic_free(&other);
     pzic_free(&files);
 }
 
@@ -449,6 +514,7 @@ static void *work(void *argument) {
         pzic_free(&own);
         pzic_free(&again);
     }
+    convert_columns();
     compile_texts();
     name_faults();
     pzic_free(&mine->zone);
@@ -482,6 +548,7 @@ int main(int count, char **words) {
     compile_source();
     refuse_sources();
     compile_texts();
+    convert_columns();
     name_faults();
     for (int i = 2; i < count; i++) {
         file f = load(words[1], words[i]);

@@ -49,7 +49,9 @@ enum {
     /* The texts are no source, or a zone of them has a fault. */
     PZIC_BAD_SOURCE = 6,
     /* No file has the name or the number, or no fault or reason has the number. */
-    PZIC_NO_SUCH = 7
+    PZIC_NO_SUCH = 7,
+    /* A row of the column has a fault. */
+    PZIC_BAD_ROW = 8
 };
 
 /*
@@ -87,7 +89,7 @@ enum {
  */
 typedef struct pzic_handle {
     void *at;
-    /* 0 for nothing, 1 for a zone, 2 for files. */
+    /* 0 for nothing, 1 for a zone, 2 for files, 3 for rows. */
     uint32_t kind;
 } pzic_handle;
 
@@ -117,8 +119,8 @@ typedef struct pzic_state {
 int32_t pzic_zone_read(const uint8_t *bytes, size_t length, pzic_handle *zone, uint32_t *reason);
 
 /*
- * Has `other` hold the same as `handle` too: a zone, or files. What `other` held before is let go
- * first. A zone and files are let go with the last handle that holds them.
+ * Has `other` hold the same as `handle` too: a zone, files or rows. What `other` held before is let
+ * go first. A zone, files and rows are let go with the last handle that holds them.
  *
  * PZIC_OK         both hold the same
  * PZIC_NO_HANDLE  `handle` holds nothing, and neither does `other`
@@ -219,6 +221,39 @@ int32_t pzic_files_bytes(pzic_handle *files, size_t number, uint8_t *room, size_
  * PZIC_NO_MEMORY  the handle holds nothing
  */
 int32_t pzic_zone_of(pzic_handle *files, size_t number, pzic_handle *zone);
+
+/* The first row of a column that has a fault. */
+typedef struct pzic_row_fault {
+    /* The number of the row, from 1. */
+    uint64_t row;
+    /* The number of the kind, 35 to 39. pzic_name_of_fault tells its name. */
+    uint32_t kind;
+} pzic_row_fault;
+
+/*
+ * Converts a column to rows, on the calling thread: the bytes that `pzic convert` writes, without a
+ * header. A record of the column is a zone's name, a comma and an instant, and a row the name, the
+ * instant, local time, the UT offset, the daylight flag and the abbreviation. A column may be given
+ * in pieces that end with a line end outside quotes; each is a column of its own. It may have
+ * 100,000,000 rows. What `rows` held before is let go first.
+ *
+ * PZIC_OK         `rows` holds the rows
+ * PZIC_BAD_ROW    *fault is the first row that has a fault, and `rows` holds the rows before it
+ * PZIC_NO_HANDLE  `files` holds no files; `rows` holds nothing
+ * PZIC_NO_MEMORY  `rows` holds nothing
+ *
+ * *fault is written by PZIC_BAD_ROW alone.
+ */
+int32_t pzic_rows(pzic_handle *files, const uint8_t *column, size_t length, pzic_handle *rows,
+                  pzic_row_fault *fault);
+
+/*
+ * Copies the bytes of rows, as many as there is room for, and tells the whole length.
+ *
+ * PZIC_OK         *length is the whole length, and the first bytes are copied
+ * PZIC_NO_HANDLE  `rows` holds no rows; nothing is written
+ */
+int32_t pzic_rows_text(pzic_handle *rows, uint8_t *room, size_t room_length, size_t *length);
 
 /*
  * Copies the name of a fault's kind, 1 to 39, or of a reason, 1 to 14, as the program prints it: as

@@ -123,6 +123,10 @@ def refuse(tree):
 def compile_texts(folder):
     made = pzic.Compiled(b"Zone A 1:00 - AAA", b"", b"Link A B\n")
     check(list(made) == ["A", "B"] and made["B"].utcoffset(0) == 3600, "texts")
+    check(made.convert(b"B,0\n") == b"B,0,1970-01-01T01:00:00,+01:00:00,0,AAA\n", "rows")
+    caught = refuses(pzic.BadRow, made.convert, b"A,0\nA,x\n")
+    check((caught.row, caught.kind) == (2, "RowInstant"), caught)
+    check(caught.rows == b"A,0,1970-01-01T01:00:00,+01:00:00,0,AAA\n", caught.rows)
     caught = refuses(pzic.BadSource, pzic.Compiled, b"Zone A 0 - UTC\n", b"# none\nWord\n")
     check((caught.text, caught.line, caught.kind) == (2, 2, "Keyword"), caught)
     check(list(pzic.Compiled()) == [], "no texts")

@@ -16,7 +16,7 @@ the system has its libraries.
 
 from pzic._library import MAX_INSTANT, MIN_INSTANT
 from pzic._timezone import TimeZone
-from pzic._tree import BadSource, Compiled, Tree
+from pzic._tree import BadRow, BadSource, Compiled, Tree
 from pzic._zone import DAYLIGHT, OPEN, BadFile, Span, State, Zone
 
 __all__ = [
@@ -25,6 +25,7 @@ __all__ = [
     "MIN_INSTANT",
     "OPEN",
     "BadFile",
+    "BadRow",
     "BadSource",
     "Compiled",
     "Span",

@@ -11,7 +11,7 @@ from typing import Any
 MIN_INSTANT = -(2**63)
 MAX_INSTANT = 2**63 - 1
 
-OK, UNSPECIFIED, NO_MEMORY, BAD_FILE, NO_HANDLE, LENGTHS, BAD_SOURCE, NO_SUCH = range(8)
+OK, UNSPECIFIED, NO_MEMORY, BAD_FILE, NO_HANDLE, LENGTHS, BAD_SOURCE, NO_SUCH, BAD_ROW = range(9)
 
 
 class Handle(ctypes.Structure):
@@ -35,6 +35,12 @@ class CFault(ctypes.Structure):
     """``pzic_fault``: the first fault of a source."""
 
     _fields_ = (("text", ctypes.c_uint64), ("line", ctypes.c_uint64), ("kind", ctypes.c_uint32))
+
+
+class CRowFault(ctypes.Structure):
+    """``pzic_row_fault``: the first row that has a fault."""
+
+    _fields_ = (("row", ctypes.c_uint64), ("kind", ctypes.c_uint32))
 
 
 def _path() -> str:
@@ -79,6 +85,10 @@ files_name = held.pzic_files_name
 files_name.argtypes = (_HANDLE, _SIZE, ctypes.c_char_p, _SIZE, _NUMBER)
 files_bytes = held.pzic_files_bytes
 files_bytes.argtypes = (_HANDLE, _SIZE, ctypes.c_char_p, _SIZE, _NUMBER)
+rows = free.pzic_rows
+rows.argtypes = (_HANDLE, ctypes.c_char_p, _SIZE, _HANDLE, ctypes.POINTER(CRowFault))
+rows_text = held.pzic_rows_text
+rows_text.argtypes = (_HANDLE, ctypes.c_char_p, _SIZE, _NUMBER)
 name_of_fault = held.pzic_name_of_fault
 name_of_fault.argtypes = (ctypes.c_uint32, ctypes.c_char_p, _SIZE, _NUMBER)
 name_of_reason = held.pzic_name_of_reason

@@ -26,6 +26,17 @@ class BadSource(ValueError):
         self.kind = kind
 
 
+class BadRow(ValueError):
+    """A column with a row that has a fault. ``row`` is the number of the first, from 1, ``kind`` the
+    name of the fault's kind, and ``rows`` are the rows before it."""
+
+    def __init__(self, row: int, kind: str, rows: bytes) -> None:
+        super().__init__(f"row {row}: {kind}")
+        self.row = row
+        self.kind = kind
+        self.rows = rows
+
+
 class Tree(Mapping[str, Zone]):
     """The zones of a folder of TZif files, by name: ``tree["Europe/Dublin"]``.
 
@@ -119,6 +130,30 @@ class Compiled(Mapping[str, Zone]):
         if c.files_find(self._handle, wanted, len(wanted), number) != c.OK:
             raise KeyError(name)
         return c.text_of(c.files_bytes, self._handle, number.value)
+
+    def convert(self, column: bytes) -> bytes:
+        """Return the rows of a column, as ``pzic convert`` writes them. Each record of the column is
+        a zone's name, a comma and an instant. Other threads of Python run meanwhile.
+
+        Raises :class:`BadRow` at the first row that has a fault, and :class:`MemoryError`.
+        """
+        files = c.Handle()
+        rows = c.Handle()
+        fault = c.CRowFault()
+        # The other calls keep Python's lock, and this one has a handle of its own.
+        if c.share(self._handle, files) == c.NO_MEMORY:
+            raise MemoryError
+        try:
+            status = c.rows(files, column, len(column), rows, fault)
+            if status == c.NO_MEMORY:
+                raise MemoryError
+            text = c.text_of(c.rows_text, rows)
+        finally:
+            c.release(files)
+            c.release(rows)
+        if status == c.BAD_ROW:
+            raise BadRow(fault.row, fault_name(fault.kind), text)
+        return text
 
     def __getitem__(self, name: str) -> Zone:
         zone = self._zones.get(name)

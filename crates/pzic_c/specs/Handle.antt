@@ -11,12 +11,13 @@ use Rattle.pzic_c.specs.declared.status.TheConstants.{OK, NO_MEMORY, NO_HANDLE}
 abbrev pub held_in : Handle → Option Held
 held_in h = h.owned.value
 
--- the number of what a handle holds: 0 is nothing, 1 a zone and 2 files
+-- the number of what a handle holds: 0 is nothing, 1 a zone, 2 files and 3 the text of rows
 abbrev pub kind_of : Option Held → ℕ
 kind_of None = 0
 kind_of (Some (held.Zone zone)) = 1
 kind_of (Some (held.Member member)) = 1
 kind_of (Some (held.Files files)) = 2
+kind_of (Some (held.Text text)) = 3
 
 -- The handle tells what it holds. It is one that a call filled, or all zeros.
 abbrev pub IsHandle : Handle → Type 0
@@ -31,12 +32,21 @@ abbrev pub content_of : Held → Option Content
 content_of (held.Zone zone) = Some zone.value
 content_of (held.Member member) = content_at member.files.value member.number
 content_of (held.Files files) = None
+content_of (held.Text text) = None
 
 -- the files, where something holds files
 abbrev pub files_of : Held → Option (List File)
 files_of (held.Zone zone) = None
 files_of (held.Member member) = None
 files_of (held.Files files) = Some files.value
+files_of (held.Text text) = None
+
+-- the bytes, where something holds the text of rows
+abbrev pub text_of : Held → Option (List ℕ)
+text_of (held.Zone zone) = None
+text_of (held.Member member) = None
+text_of (held.Files files) = None
+text_of (held.Text text) = Some text.value.items
 
 -- the content of the file of a handle's zone, and nothing where the handle holds no zone
 abbrev pub zone_of : Option Held → Option Content
@@ -54,15 +64,24 @@ files_held None = None
 abbrev pub files_in : Handle → Option (List File)
 files_in h = files_held (held_in h)
 
+-- the text of rows that a handle holds, and nothing where it holds none
+abbrev pub text_held : Option Held → Option (List ℕ)
+text_held (Some x) = text_of x
+text_held None = None
+
+abbrev pub text_in : Handle → Option (List ℕ)
+text_in h = text_held (held_in h)
+
 -- It is a handle and holds what the other did.
 pub record Keeps (before after : Handle) : Type 0 where
   pub handle : IsHandle after
   pub same : held_in after ≡ held_in before
 
--- They hold the same zone, or the same files.
+-- They hold the same zone, the same files or the same text.
 pub record AreAlike (x y : Held) : Type 0 where
   pub zone : content_of x ≡ content_of y
   pub files : files_of x ≡ files_of y
+  pub text : text_of x ≡ text_of y
 
 -- The other handle holds the same, or nothing where memory ran out or there was nothing to share.
 abbrev pub IsShared : Option Held → ℤ → Option Held → Type 0

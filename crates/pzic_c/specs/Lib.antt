@@ -4,6 +4,7 @@ pub mod Files
 pub mod Handle
 pub mod Names
 pub mod Owned
+pub mod Rows
 pub mod Source
 pub mod State
 pub mod Text

@@ -185,7 +185,7 @@ pub extern "C" fn pzic_zone_of(
     };
     let status = match held.as_ref() {
         Held::Files(all) => put_zone(alloc, all, number, zone),
-        Held::Zone(_) | Held::Member(_) => NO_HANDLE,
+        Held::Zone(_) | Held::Member(_) | Held::Text(_) => NO_HANDLE,
     };
     files.put(held);
     status

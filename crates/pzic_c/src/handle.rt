@@ -16,6 +16,8 @@ const NOTHING: u32 = 0;
 const ZONE: u32 = 1;
 /// The kind of a handle that holds files.
 const FILES: u32 = 2;
+/// The kind of a handle that holds the text of rows.
+const ROWS: u32 = 3;
 
 /// A handle, which C keeps and passes to each call. All zeros is one that holds nothing.
 #[repr(C)]
@@ -49,6 +51,7 @@ impl Handle {
         let kind = match held.as_ref() {
             Held::Zone(_) | Held::Member(_) => ZONE,
             Held::Files(_) => FILES,
+            Held::Text(_) => ROWS,
         };
         self.owned = Owned::of_parts(Parts::of(held));
         self.kind = kind;

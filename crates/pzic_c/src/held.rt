@@ -1,8 +1,8 @@
 //! What handles hold.
 
-ghost use Rattle.std.specs.Prelude.{◌≡◌, ◌<◌, length, Some, IfOk};
+ghost use Rattle.std.specs.Prelude.{◌≡◌, ◌<◌, length, Some, None, IfOk, MatchOption};
 ghost use Rattle.std.specs.Option.{option_copied};
-ghost use Rattle.pzic_c.specs.Handle.{AreAlike, content_at, content_of, files_of};
+ghost use Rattle.pzic_c.specs.Handle.{AreAlike, content_at, content_of, files_of, text_of};
 
 use crate::member::Member;
 use std::alloc::{AllocError, Global};
@@ -10,12 +10,13 @@ use std::sync::Arc;
 use zic_files::Files;
 use zic_tzif::Zone;
 
-/// What a handle holds. Handles of one zone, or of the same files, share it.
+/// What a handle holds. Handles of one zone, of the same files or of one text share it.
 #[derive(Drop)]
 pub(crate) enum Held {
     Zone(Arc<Zone>),
     Member(Member),
     Files(Arc<Files>),
+    Text(Arc<Vec<u8>>),
 }
 
 impl Held {
@@ -26,7 +27,7 @@ impl Held {
         match self {
             Held::Zone(zone) => Some(zone),
             Held::Member(member) => Some(member.zone()),
-            Held::Files(_) => None,
+            Held::Files(_) | Held::Text(_) => None,
         }
     }
 
@@ -40,6 +41,17 @@ impl Held {
         }
     }
 
+    /// Returns the text of rows, if it is one.
+    pub(crate) fn text(&self) -> Option<&[u8]>
+        ensures { MatchOption result (text_of self.now ≡ None)
+            (λ text. text_of self.now ≡ Some text.now) }
+    {
+        match self {
+            Held::Text(text) => Some(text),
+            _ => None,
+        }
+    }
+
     /// Returns another owner of the same.
     pub(crate) fn again(&self, alloc: Global) -> Result<Box<Held>, AllocError>
         ensures { IfOk result (λ twin. AreAlike twin.value self.now) }
@@ -48,6 +60,7 @@ impl Held {
             Held::Zone(zone) => Held::Zone(Arc::try_clone(zone)?),
             Held::Member(member) => Held::Member(member.again()?),
             Held::Files(files) => Held::Files(Arc::try_clone(files)?),
+            Held::Text(text) => Held::Text(Arc::try_clone(text)?),
         };
         Ok(Box::new(alloc, twin)?)
     }
@@ -80,4 +93,12 @@ pub(crate) fn hold_member(
 {
     let files = Arc::try_clone(files)?;
     Ok(Box::new(alloc, Held::Member(Member { files, number }))?)
+}
+
+/// Returns what a handle of the text of rows holds.
+pub(crate) fn hold_text(alloc: Global, text: Vec<u8>) -> Result<Box<Held>, AllocError>
+    ensures { IfOk result (λ held. text_of held.value ≡ Some text.items) }
+{
+    let text = Arc::new(alloc, text)?;
+    Ok(Box::new(alloc, Held::Text(text))?)
 }

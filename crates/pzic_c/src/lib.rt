@@ -12,6 +12,7 @@ mod member;
 mod names;
 mod owned;
 mod parts;
+mod rows;
 mod sharing;
 mod state;
 mod status;

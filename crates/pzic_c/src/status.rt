@@ -16,3 +16,5 @@ pub const LENGTHS: i32 = 5;
 pub const BAD_SOURCE: i32 = 6;
 /// No file has the name or the number, or no kind or reason has the number.
 pub const NO_SUCH: i32 = 7;
+/// A row has a fault.
+pub const BAD_ROW: i32 = 8;

@@ -2,7 +2,7 @@
 use Rattle.std.proofs.Common.{◌≡◌, ◌==◌, ◌≤◌, ◌&&◌, ℕ, Bool, true, false, List, [], ◌∷◌, ◌++◌, cond, length, take, drop, refl, sym, ◌∙◌, arith}
 use Rattle.std.specs.Prelude.{nat_eq}
 use Rattle.std.specs.Cmp.Lexicographic.{pointwise}
-use Rattle.std.proofs.lemmas.Bool.{and_right, both_ways, cond-true, cond-false}
+use Rattle.std.proofs.lemmas.Bool.{and_right, both_ways, cond-true, cond-false, cond_both}
 use Rattle.csv.specs.Reading.{is_bom, strip_bom}
 
 abbrev pub mark : List ℕ
@@ -27,6 +27,15 @@ unmarked [] is = refl
 unmarked (a ∷ []) is = refl
 unmarked (a ∷ b ∷ []) is = refl
 unmarked (a ∷ b ∷ c ∷ rest) is = cond-false (is_bom a b c) rest (a ∷ b ∷ c ∷ rest) (sym (same_tests (a == 0xEF) (b == 0xBB) (c == 0xBF)) ∙ is)
+
+-- without a mark there are no more bytes
+pub no_longer : (bytes : List ℕ) → length (strip_bom bytes) ≤ length bytes
+unfolding strip_bom
+no_longer [] = omega arith
+no_longer (a ∷ []) = omega arith
+no_longer (a ∷ b ∷ []) = omega arith
+no_longer (a ∷ b ∷ c ∷ rest) =
+    cond_both (is_bom a b c) rest (a ∷ b ∷ c ∷ rest) (λ bytes. length bytes ≤ length (a ∷ b ∷ c ∷ rest)) (λ _. omega arith) (λ _. omega arith)
 
 pub mark_shown : (bytes rest : List ℕ) → 3 ≤ length bytes → strip_bom (bytes ++ rest) ≡ strip_bom bytes ++ rest
 unfolding strip_bom

@@ -83,6 +83,21 @@ records_up_to (suc n) s bytes before lt = on (next_record default_config s [] []
         (λ (more : 1 ≤ length bytes). records-cons s read.1 bytes read.2 read.0 (records_from default_config n read.1 read.2) is (later read.1 read.2 left.0 (omega (arith, left.1, lt, more))))
         (cases_lt (length bytes) 1)
 
+-- there are no more records than bytes, and one
+few_from : (n : ℕ) (s : State) (bytes : List ℕ) → length (records_from default_config n s bytes) ≤ n
+unfolding records_from
+few_from zero s bytes = omega arith
+few_from (suc n) s bytes = on (next_record default_config s [] [] bytes) (λ t left. few_from n t left)
+  where
+    on : (read : Option Read) → ((t : State) (left : List ℕ) → length (records_from default_config n t left) ≤ n)
+        → length (records_next (records_from default_config n) read) ≤ suc n
+    on None few = omega arith
+    on (Some read) few = omega (arith, few read.1 read.2)
+
+pub few_records : (bytes : List ℕ) → length (column_records bytes) ≤ length bytes + 1
+unfolding column_records
+few_records bytes = few_from (length bytes + 1) st.StartRecord bytes
+
 -- a CSV reader gives bytes their records
 pub are_read : (bytes : List ℕ) → AreColumnRecords bytes (column_records bytes)
 unfolding column_records

@@ -1,11 +1,13 @@
 //! The records of a piece.
 
-ghost use Rattle.std.specs.Prelude.{◌≡◌, ◌≤◌, IfOk, length};
+ghost use Rattle.std.specs.Prelude.{◌≡◌, ◌+◌, ◌≤◌, IfOk, length};
 ghost use Rattle.std.specs.Iterator.{at_most};
+ghost use Rattle.csv.specs.Reading.{strip_bom};
 ghost use Rattle.zic_columns.specs.Column.{column_records};
 ghost use Rattle.zic_columns.specs.Record.{YieldsRecord};
 
 use crate::entry::Record;
+use crate::mark::without_mark;
 use crate::pair::{Pair, PairRecords, pairs_of};
 use crate::plain::PlainRecords;
 use crate::quote::first_quote;
@@ -64,6 +66,18 @@ impl<'a> Model for Records<'a> {
 }
 
 impl<'a> Split<'a> {
+    /// Divides a whole column into records, without a byte order mark at its start.
+    ///
+    /// # Errors
+    ///
+    /// Fails where memory is refused.
+    pub fn of_column(alloc: Global, column: &'a [u8]) -> Result<Split<'a>, AllocError>
+        ensures records { IfOk result (λ split. split ≡ column_records (strip_bom column.now)) }
+        ensures few { IfOk result (λ split. length split ≤ length column.now + 1) }
+    {
+        Split::new(alloc, without_mark(column))
+    }
+
     /// Divides bytes within a column into records: the fields of each line, or where there is a
     /// double quote what a CSV reader gives.
     ///

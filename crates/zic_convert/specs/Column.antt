@@ -1,5 +1,6 @@
 -- The rows of a column.
-use Rattle.std.specs.Prelude.{ℕ, List, drop, Option}
+use Rattle.std.specs.Prelude.{◌≡◌, ℕ, List, drop, length, Option}
+use Rattle.std.specs.List.{concat}
 use Rattle.csv.specs.Reading.{strip_bom}
 use Rattle.zic_columns.specs.Column.{AreColumnRecords}
 use Rattle.zic_columns.specs.Exchange.{AreDelimitedRecords}
@@ -30,3 +31,10 @@ pub record ConvertsBy (files : List File) (layout : Layout) (most : ℕ) (column
   pub records : List (List (List ℕ))
   pub are : AreDelimitedRecords layout.delimiter (strip_bom column) records
   pub rows : ComeToBy layout files most 1 (drop (records_before layout.header) records) texts fault
+
+-- The text of a column's rows up to the first that has a fault, how many there are, and that fault, or none.
+pub record AreRowsOfColumn (files : List File) (most : ℕ) (column text : List ℕ) (count : ℕ) (fault : Option RowKind) : Type 0 where
+  pub texts : List (List ℕ)
+  pub converts : ConvertsTo files most column texts fault
+  pub text_is : text ≡ concat texts
+  pub count_is : count ≡ length texts

@@ -2,6 +2,7 @@
 //! `program_tests`.
 #![tactic(auto)]
 
+mod column;
 mod conversion;
 mod halt;
 pub mod laws;
@@ -14,4 +15,5 @@ mod row;
 mod row_files;
 mod zone_cache;
 
+pub use column::{ColumnRows, rows_of_column};
 pub use conversion::{ColumnOrder, convert, convert_after_header, convert_by};

@@ -1,0 +1,120 @@
+//! The calls on the rows of columns.
+
+ghost use Rattle.std.specs.Prelude.{◌≡◌, ◌+◌, ◌^◌, ◌<◌, None, MatchOption};
+ghost use Rattle.pzic_c.specs.Handle.{IsHandle, Keeps, files_in, held_in, text_in};
+ghost use Rattle.pzic_c.specs.Rows.{AreRowsTold, IsRowTold};
+ghost use Rattle.pzic_c.specs.Text.{IsTextTold};
+ghost use Rattle.pzic_c.specs.declared.status.TheConstants.{NO_HANDLE};
+
+use crate::copying::copy;
+use crate::handle::Handle;
+use crate::held::hold_text;
+use crate::status::{BAD_ROW, NO_HANDLE, NO_MEMORY, OK};
+use std::alloc::Global;
+use zic_bulk::{Files, MAX_ROWS, RowKind};
+use zic_convert::rows_of_column;
+
+/// The first row that has a fault.
+#[repr(C)]
+#[derive(Drop)]
+pub struct RowFault {
+    /// The number of the row, from 1.
+    pub row: u64,
+    /// The number of the kind.
+    pub kind: u32,
+}
+
+/// Tells the fault of the row after `count` rows, if it has one.
+fn tell_fault(fault: Option<RowKind>, count: u64, told: &mut RowFault) -> i32
+    requires { count + 1 < 2 ^ 64 }
+    ensures { IsRowTold fault count result told.new }
+{
+    let Some(kind) = fault else {
+        return OK;
+    };
+    *told = RowFault {
+        row: count + 1,
+        kind: u32::from(kind.number()),
+    };
+    BAD_ROW
+}
+
+/// Has an empty handle hold the rows of a column.
+fn put_rows(
+    alloc: Global,
+    files: &Files,
+    column: &[u8],
+    rows: &mut Handle,
+    fault: &mut RowFault,
+) -> i32
+    requires handle { IsHandle rows.old }
+    requires empty { held_in rows.old ≡ None }
+    ensures handle { IsHandle rows.new }
+    ensures told { AreRowsTold files.now column.now result fault.new (text_in rows.new) }
+{
+    let Ok(made) = rows_of_column(alloc, files, MAX_ROWS, column) else {
+        return NO_MEMORY;
+    };
+    match hold_text(alloc, made.text) {
+        Ok(held) => {
+            rows.put(held);
+            tell_fault(made.fault, made.count, fault)
+        }
+        Err(_) => NO_MEMORY,
+    }
+}
+
+/// Converts a column.
+#[unsafe(no_mangle)]
+pub extern "C" fn pzic_rows(
+    alloc: Global,
+    files: &mut Handle,
+    column: &[u8],
+    rows: &mut Handle,
+    fault: &mut RowFault,
+) -> i32
+    requires files { IsHandle files.old }
+    requires rows { IsHandle rows.old }
+    ensures kept { Keeps files.old files.new }
+    ensures handle { IsHandle rows.new }
+    ensures told { MatchOption (files_in files.old) (result ≡ NO_HANDLE)
+        (λ all. AreRowsTold all column.now result fault.new (text_in rows.new)) }
+{
+    drop(rows.take(alloc));
+    let Some(held) = files.take(alloc) else {
+        return NO_HANDLE;
+    };
+    let status = match held.files() {
+        Some(all) => put_rows(alloc, all, column, rows, fault),
+        None => NO_HANDLE,
+    };
+    files.put(held);
+    status
+}
+
+/// Copies the text of rows, as much as there is room for.
+#[unsafe(no_mangle)]
+pub extern "C" fn pzic_rows_text(
+    alloc: Global,
+    rows: &mut Handle,
+    room: &mut [u8],
+    count: &mut usize,
+) -> i32
+    requires { IsHandle rows.old }
+    ensures kept { Keeps rows.old rows.new }
+    ensures told { MatchOption (text_in rows.old) (result ≡ NO_HANDLE)
+        (λ text. IsTextTold text result room.old room.new count.new) }
+{
+    let Some(held) = rows.take(alloc) else {
+        return NO_HANDLE;
+    };
+    let status = match held.text() {
+        Some(text) => {
+            copy(text, room, count);
+            OK
+        }
+        None => NO_HANDLE,
+    };
+    rows.put(held);
+    status
+}
