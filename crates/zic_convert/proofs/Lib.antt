@@ -14,3 +14,4 @@ pub mod Totals
 pub mod Progress
 pub mod Halts
 pub mod Once
+pub mod InMemory
