@@ -3,6 +3,7 @@ use Rattle.std.proofs.Common.{◌≡◌, ◌≢◌, ◌==◌, ℕ, true, false, 
 use Rattle.std.proofs.lemmas.Bool.{both_ways, cases_Bool, eqb-true, ne_eqb, cond_both}
 use Rattle.csv.specs.Machine.{Read, after_end, next_record}
 use Rattle.csv.specs.Reading.{AreRecords, Reached, default_config}
+use Rattle.csv.specs.declared.parser.Config.{Config}
 use Rattle.csv.specs.declared.parser.State.{State}
 use Rattle.csv.specs.declared.parser.State.TheVariants as st
 use Rattle.csv.specs.declared.parser.Terminator.TheVariants as term
@@ -87,17 +88,20 @@ records-after byte bytes records are =
     cond_both (byte == 13) st.AfterCr st.StartRecord (λ s. AreRecords default_config s bytes records) (λ _. records-same st.AfterCr st.StartRecord bytes bytes records (after_return bytes) are) (λ _. are)
 
 -- there is one list of records
-pub records-one : (s : State) (xs : List ℕ) (a b : List (List (List ℕ))) → AreRecords default_config s xs a → AreRecords default_config s xs b → a ≡ b
+pub records-once : (cfg : Config) (s : State) (xs : List ℕ) (a b : List (List (List ℕ))) → AreRecords cfg s xs a → AreRecords cfg s xs b → a ≡ b
 unfolding Reached
-records-one s xs [] [] first second = refl
-records-one s xs [] (fields ∷ others) first second = let none : next_record default_config s [] [] xs ≡ None = rw (first.2.0, first.2.1) first.3 in cc (none, second.2.1)
-records-one s xs (fields ∷ others) [] first second = let none : next_record default_config s [] [] xs ≡ None = rw (second.2.0, second.2.1) second.3 in cc (none, first.2.1)
-records-one s xs (fields ∷ records) (fields' ∷ records') first second =
+records-once cfg s xs [] [] first second = refl
+records-once cfg s xs [] (fields ∷ others) first second = let none : next_record cfg s [] [] xs ≡ None = rw (first.2.0, first.2.1) first.3 in cc (none, second.2.1)
+records-once cfg s xs (fields ∷ others) [] first second = let none : next_record cfg s [] [] xs ≡ None = rw (second.2.0, second.2.1) second.3 in cc (none, first.2.1)
+records-once cfg s xs (fields ∷ records) (fields' ∷ records') first second =
     let same : first.2.0 ≡ second.2.0 = cc (first.2.1, second.2.1) in
     let here : fields ≡ fields' = first.2.2 ∙ ap (λ (p : Read). p.0) same ∙ sym second.2.2 in
-    let begun = subst (λ (p : Read). Reached default_config p.1 p.2 records first.0 first.1) same first.2.3 in
-    let later = records-one second.2.0.1 second.2.0.2 records records' (first.0, first.1, begun, first.3) (second.0, second.1, second.2.3, second.3) in
+    let begun = subst (λ (p : Read). Reached cfg p.1 p.2 records first.0 first.1) same first.2.3 in
+    let later = records-once cfg second.2.0.1 second.2.0.2 records records' (first.0, first.1, begun, first.3) (second.0, second.1, second.2.3, second.3) in
     rw (here, later) refl
+
+pub records-one : (s : State) (xs : List ℕ) (a b : List (List (List ℕ))) → AreRecords default_config s xs a → AreRecords default_config s xs b → a ≡ b
+records-one s xs a b first second = records-once default_config s xs a b first second
 
 -- at a line end that stands before bytes
 pub records-before : (byte : ℕ) (bytes : List ℕ) (records : List (List (List ℕ))) → ends_line byte ≡ true → AreColumnRecords (byte ∷ bytes) records → AreColumnRecords bytes records

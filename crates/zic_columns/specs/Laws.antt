@@ -12,6 +12,11 @@ ColumnRecordsAreRead = (bytes : List ℕ) → AreColumnRecords bytes (column_rec
 abbrev pub RecordsAreOne : Type 0
 RecordsAreOne = (bytes : List ℕ) (a b : List (List (List ℕ))) → AreColumnRecords bytes a → AreColumnRecords bytes b → a ≡ b
 
+-- and so does a CSV reader with another delimiter
+abbrev pub DelimitedRecordsAreOne : Type 0
+DelimitedRecordsAreOne =
+    (delimiter : ℕ) (bytes : List ℕ) (a b : List (List (List ℕ))) → AreDelimitedRecords delimiter bytes a → AreDelimitedRecords delimiter bytes b → a ≡ b
+
 -- bytes without a double quote have their plain records
 abbrev pub PlainRecordsAreRead : Type 0
 PlainRecordsAreRead = (bytes : List ℕ) → HasNoQuote bytes → column_records bytes ≡ plain_records bytes

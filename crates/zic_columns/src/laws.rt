@@ -1,7 +1,7 @@
 //! Laws of the definitions that the contracts of this crate cite. These functions do nothing.
 
 ghost use Rattle.zic_columns.specs.Laws.{ColumnRecordsAreRead, PlainRecordsAreRead, RecordsAreCut};
-ghost use Rattle.zic_columns.specs.Laws.{RecordsAreExchanged, RecordsAreOne};
+ghost use Rattle.zic_columns.specs.Laws.{DelimitedRecordsAreOne, RecordsAreExchanged, RecordsAreOne};
 
 /// States that a CSV reader gives bytes their records.
 pub fn column_records_are_read()
@@ -11,6 +11,11 @@ pub fn column_records_are_read()
 /// States that a CSV reader gives bytes one list of records.
 pub fn records_are_one()
     ensures { RecordsAreOne }
+{}
+
+/// States that a CSV reader with another delimiter gives bytes one list of records.
+pub fn delimited_records_are_one()
+    ensures { DelimitedRecordsAreOne }
 {}
 
 /// States that bytes without a double quote have the fields of each line as records.
