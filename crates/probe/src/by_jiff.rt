@@ -2,39 +2,51 @@
 //! file. For each instant on standard input, one on a line, it prints a line `OFFSET FLAG
 //! ABBREVIATION`. For a file that `jiff` refuses it prints `refused`.
 
+use crate::answers::Answers;
 use jiff::Timestamp;
 use jiff::tz::{TimeZone, Tzif};
-use std::io::{self, ErrorKind, Write};
+use std::io::{self, ErrorKind};
+use std::process::ExitCode;
 use std::rt::{Env, Files};
 use std::{env, fs};
 
 /// Prints what the file shows at all instants.
-pub fn run<R: Env + Files + Input + Print + AllocGlobal>(rt: &R) -> io::Result<()> {
-    let alloc = rt.alloc();
-    let Some(name) = env::args(rt)?.nth(2) else {
-        return Err(io::Error::from(ErrorKind::InvalidInput));
-    };
-    let octets = fs::read(rt, name.as_str())?;
-    let instants = io::read_to_string(alloc, rt.reader())?;
-    let mut answers = Vec::new(alloc);
-    match Tzif::parse(alloc, None, &octets) {
-        Err(_) => answers.write_all(b"refused\n")?,
+pub fn run<R: Env + Files + Input + Print + AllocGlobal>(rt: &R) -> io::Result<ExitCode> {
+    let octets = read_file(rt)?;
+    let instants = io::read_to_string(rt.alloc(), rt.reader())?;
+    let mut answers = Answers::new(rt.alloc());
+    match Tzif::parse(rt.alloc(), None, &octets) {
+        Err(_) => answers.push(b"refused\n"),
         Ok(file) => push_answers(&TimeZone::tzif(&file), instants.as_str(), &mut answers)?,
     }
-    io::writer(rt).write_all(&answers)
+    answers.print(rt)
+}
+
+/// Returns the bytes of the file that the word after the tool names.
+fn read_file<R: Env + Files + AllocGlobal>(rt: &R) -> io::Result<Vec<u8>> {
+    match env::args(rt)?.nth(2) {
+        Some(name) => fs::read(rt, name.as_str()),
+        None => Err(io::Error::from(ErrorKind::InvalidInput)),
+    }
 }
 
 /// Appends a line for each instant.
-fn push_answers(zone: &TimeZone<'_>, instants: &str, answers: &mut Vec<u8>) -> io::Result<()> {
+fn push_answers(zone: &TimeZone<'_>, instants: &str, answers: &mut Answers) -> io::Result<()> {
     for line in instants.lines() {
-        let Some(instant) = instant_of(line) else {
-            return Err(io::Error::from(ErrorKind::InvalidInput));
-        };
-        let info = zone.to_offset_info(instant);
-        let (offset, flag) = (info.offset().seconds(), u8::from(info.dst().is_dst()));
-        writeln!(answers, "{offset} {flag} {}", info.abbreviation())?;
+        match instant_of(line) {
+            Some(instant) => push_info(zone, instant, answers),
+            None => return Err(io::Error::from(ErrorKind::InvalidInput)),
+        }
     }
     Ok(())
+}
+
+fn push_info(zone: &TimeZone<'_>, instant: Timestamp, answers: &mut Answers) {
+    let info = zone.to_offset_info(instant);
+    answers.show(&info.offset().seconds());
+    answers.flag(info.dst().is_dst());
+    answers.show(&info.abbreviation());
+    answers.end_line();
 }
 
 fn instant_of(line: &str) -> Option<Timestamp> {

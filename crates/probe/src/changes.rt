@@ -6,48 +6,56 @@
 
 ghost use Rattle.std.specs.Prelude.{◌<◌, length};
 
+use crate::answers::Answers;
+use crate::input::{read_texts, read_times};
 use crate::stop::print_stop;
-use std::alloc::{AllocError, Global};
-use std::io::{Read, Write};
+use std::alloc::Global;
+use std::io;
 use std::process::ExitCode;
 use std::rt::Env;
-use std::{env, io};
-use zic_base::State;
 use zic_rules::timeline;
 use zic_source::{Source, Stop, read_source};
 
 /// Prints the lines of all zones, or the number of changes.
 pub fn run<R: Env + Input + Print + AllocGlobal>(rt: &R) -> io::Result<ExitCode> {
-    let alloc = rt.alloc();
-    let times = match env::args(rt)?.nth(2) {
-        Some(word) => word.parse::<u32>().ok(),
-        None => None,
-    };
-    let mut text = Vec::new(alloc);
-    rt.reader().read_to_end(&mut text)?;
-    let texts = [text];
-    match answer(alloc, &texts, times) {
-        Ok(lines) => {
-            io::writer(rt).write_all(&lines)?;
-            Ok(ExitCode::SUCCESS)
-        }
+    let times = read_times(rt)?;
+    let texts = read_texts(rt)?;
+    let mut answers = Answers::new(rt.alloc());
+    match answer(rt.alloc(), &texts, times, &mut answers) {
+        Ok(()) => answers.print(rt),
         Err(stop) => print_stop(rt, stop),
     }
 }
 
-/// Returns the output for texts: the lines of all zones or, if a number of times is given, the
-/// number of changes that were made.
-fn answer(alloc: Global, texts: &[Vec<u8>], times: Option<u32>) -> Result<Vec<u8>, Stop> {
+/// Appends the lines of all zones or, if a number of times is given, the number of changes that were
+/// made.
+fn answer(
+    alloc: Global,
+    texts: &[Vec<u8>],
+    times: Option<u32>,
+    answers: &mut Answers,
+) -> Result<(), Stop> {
     let source = read_source(alloc, texts)?;
-    let Some(times) = times else {
-        return lines_of(alloc, &source);
-    };
+    match times {
+        Some(times) => push_count(alloc, &source, times, answers),
+        None => push_zones(alloc, &source, answers),
+    }
+}
+
+/// Appends the number of changes of all zones, made a number of times.
+fn push_count(
+    alloc: Global,
+    source: &Source,
+    times: u32,
+    answers: &mut Answers,
+) -> Result<(), Stop> {
     let mut changes = 0usize;
     for _ in 0..times {
-        changes = changes.saturating_add(count(alloc, &source)?);
+        changes = changes.saturating_add(count(alloc, source)?);
     }
-    let line = format!(in alloc; "{changes} changes\n")?;
-    Ok(line.into_bytes())
+    answers.show(&changes);
+    answers.word("changes\n");
+    Ok(())
 }
 
 /// Returns the number of changes of all zones.
@@ -59,47 +67,34 @@ fn count(alloc: Global, source: &Source) -> Result<usize, Stop> {
     Ok(changes)
 }
 
-/// Returns the lines of all zones.
-fn lines_of(alloc: Global, source: &Source) -> Result<Vec<u8>, Stop> {
-    let mut lines = Vec::new(alloc);
+/// Appends the lines of all zones.
+fn push_zones(alloc: Global, source: &Source, answers: &mut Answers) -> Result<(), Stop> {
     for zone in 0..source.zones() {
-        push_zone(alloc, source, zone, &mut lines)?;
+        push_zone(alloc, source, zone, answers)?;
     }
-    Ok(lines)
+    Ok(())
 }
 
 /// Appends the lines of a zone.
-fn push_zone(alloc: Global, source: &Source, zone: usize, lines: &mut Vec<u8>) -> Result<(), Stop>
+fn push_zone(alloc: Global, source: &Source, zone: usize, answers: &mut Answers) -> Result<(), Stop>
     requires { zone < length source.now.zones }
 {
     let name = source.zone_name(zone).octets();
     let timeline = timeline(alloc, source, zone)?;
-    push_state(alloc, name, "-", timeline.first(), lines)?;
+    answers.octets(name);
+    answers.word("-");
+    answers.state(timeline.first());
     for number in 0..timeline.len() {
         let (instant, state) = timeline.change(number);
-        let instant = instant.to_string(alloc)?;
-        push_state(alloc, name, instant.as_str(), state, lines)?;
+        answers.end_line();
+        answers.octets(name);
+        answers.show(&instant);
+        answers.state(state);
     }
-    let end = timeline.end();
-    let end = format!(in alloc; " end {end}\n")?;
-    lines.extend_from_slice(name)?;
-    lines.extend_from_slice(end.as_bytes())?;
-    Ok(())
-}
-
-/// Appends the line of a state that a zone shows from an instant on.
-fn push_state(
-    alloc: Global,
-    zone: &[u8],
-    instant: &str,
-    state: State<'_>,
-    lines: &mut Vec<u8>,
-) -> Result<(), AllocError> {
-    let (offset, flag) = (state.offset, u8::from(state.daylight));
-    let middle = format!(in alloc; " {instant} {offset} {flag} ")?;
-    lines.extend_from_slice(zone)?;
-    lines.extend_from_slice(middle.as_bytes())?;
-    lines.extend_from_slice(state.name)?;
-    lines.push(b'\n')?;
+    answers.end_line();
+    answers.octets(name);
+    answers.word("end");
+    answers.show(&timeline.end());
+    answers.end_line();
     Ok(())
 }

@@ -2,39 +2,40 @@
 //! Link lines, for `.ci/tzdata.sh` and `bench/source.sh`. An optional word is the number of times
 //! that the text is read, by default 1. With 0, nothing is counted.
 
+use crate::answers::Answers;
+use crate::input::{read_texts, read_times};
 use crate::stop::print_stop;
 use std::alloc::Global;
-use std::io::Read;
+use std::io;
 use std::process::ExitCode;
 use std::rt::Env;
-use std::{env, io};
 use zic_source::{Source, Stop, read_source};
 
 /// Prints the number of lines of each kind.
 pub fn run<R: Env + Input + Print + AllocGlobal>(rt: &R) -> io::Result<ExitCode> {
-    let alloc = rt.alloc();
-    let times = match env::args(rt)?.nth(2) {
-        Some(word) => word.parse::<u32>().unwrap_or(1),
-        None => 1,
-    };
-    let mut text = Vec::new(alloc);
-    rt.reader().read_to_end(&mut text)?;
-    let texts = [text];
-    match counts_of(alloc, &texts, times) {
-        Ok(counts) => {
-            let (rules, zones) = (counts.rules, counts.zones);
-            let (continuations, links) = (counts.continuations, counts.links);
-            println!(rt;
-                "{rules} rules, {zones} zones, {continuations} continuations, {links} links"
-            )?;
-            Ok(ExitCode::SUCCESS)
-        }
+    let times = read_times(rt)?.unwrap_or(1);
+    let texts = read_texts(rt)?;
+    match counts_of(rt.alloc(), &texts, times) {
+        Ok(counts) => print_counts(rt, &counts),
         Err(stop) => print_stop(rt, stop),
     }
 }
 
+fn print_counts<R: Print + AllocGlobal>(rt: &R, counts: &Counts) -> io::Result<ExitCode> {
+    let mut answers = Answers::new(rt.alloc());
+    answers.show(&counts.rules);
+    answers.word("rules,");
+    answers.show(&counts.zones);
+    answers.word("zones,");
+    answers.show(&counts.continuations);
+    answers.word("continuations,");
+    answers.show(&counts.links);
+    answers.word("links\n");
+    answers.print(rt)
+}
+
 /// The number of lines of each kind.
-#[derive(Clone, Copy, Debug, Default)]
+#[derive(Clone, Copy)]
 struct Counts {
     rules: usize,
     zones: usize,
@@ -44,7 +45,12 @@ struct Counts {
 
 /// Returns the counts of the texts, after reading them a number of times.
 fn counts_of(alloc: Global, texts: &[Vec<u8>], times: u32) -> Result<Counts, Stop> {
-    let mut counts = Counts::default();
+    let mut counts = Counts {
+        rules: 0,
+        zones: 0,
+        continuations: 0,
+        links: 0,
+    };
     for _ in 0..times {
         let source = read_source(alloc, texts)?;
         counts = Counts {

@@ -3,27 +3,52 @@
 //! to VALUE. The answer is a line `OFFSET FLAG ABBREVIATION`, `unspecified`, or the reason why the
 //! bytes are not a file. A file is read once for successive lines with the same FILE.
 
-use std::alloc::Global;
+use crate::answers::Answers;
+use std::alloc::{AllocError, Global};
 use std::fs;
-use std::io::{self, ErrorKind, Write};
+use std::io::{self, ErrorKind};
+use std::process::ExitCode;
 use std::rt::Files;
 use zic_tzif::{Answer, ReadStop, Reason, Zone, read};
 
 /// Prints the answers to all questions.
-pub fn run<R: Files + Input + Print + AllocGlobal>(rt: &R) -> io::Result<()> {
-    let alloc = rt.alloc();
-    let questions = io::read_to_string(alloc, rt.reader())?;
-    let mut answers = Vec::new(alloc);
-    let mut last = None;
+pub fn run<R: Files + Input + Print + AllocGlobal>(rt: &R) -> io::Result<ExitCode> {
+    let questions = io::read_to_string(rt.alloc(), rt.reader())?;
+    let mut answers = Answers::new(rt.alloc());
+    push_answers(rt, questions.as_str(), &mut answers)?;
+    answers.print(rt)
+}
+
+/// Appends the answers to all questions.
+fn push_answers<R: Files + AllocGlobal>(
+    rt: &R,
+    questions: &str,
+    answers: &mut Answers,
+) -> io::Result<()> {
+    let mut opened = Opened {
+        name: "",
+        octets: Vec::new(rt.alloc()),
+        zone: Err(Reason::Short),
+    };
     for line in questions.lines() {
-        let Some(question) = Question::parse(line) else {
-            return Err(io::Error::from(ErrorKind::InvalidInput));
-        };
-        let opened = opened_for(rt, question.file, last)?;
-        opened.answer(alloc, &question, &mut answers)?;
-        last = Some(opened);
+        push_line(rt, line, &mut opened, answers)?;
     }
-    io::writer(rt).write_all(&answers)
+    Ok(())
+}
+
+/// Appends the answer to the question of a line, and opens its file.
+fn push_line<'a, R: Files + AllocGlobal>(
+    rt: &R,
+    line: &'a str,
+    opened: &mut Opened<'a>,
+    answers: &mut Answers,
+) -> io::Result<()> {
+    let Some(question) = Question::parse(line) else {
+        return Err(io::Error::from(ErrorKind::InvalidInput));
+    };
+    opened.open(rt, question.file)?;
+    opened.push_answer(rt.alloc(), &question, answers)?;
+    Ok(())
 }
 
 /// Returns the question that a line asks.
@@ -63,77 +88,68 @@ impl<'a> Question<'a> {
 
 /// A file, and the zone that was read from it.
 #[derive(Drop)]
-struct Opened {
-    name: String,
+struct Opened<'a> {
+    name: &'a str,
     octets: Vec<u8>,
     zone: Result<Zone, Reason>,
 }
 
-/// Returns the file with a name: the last one if it has this name, or else a newly opened one.
-fn opened_for<R: Files + AllocGlobal>(
-    rt: &R,
-    name: &str,
-    last: Option<Opened>,
-) -> io::Result<Opened> {
-    match last {
-        None => Opened::open(rt, name),
-        Some(opened) => {
-            if opened.name.as_str() == name {
-                return Ok(opened);
-            }
-            Opened::open(rt, name)
+impl<'a> Opened<'a> {
+    /// Opens the file with a name, unless it is the last one.
+    fn open<R: Files + AllocGlobal>(&mut self, rt: &R, name: &'a str) -> io::Result<()> {
+        if self.name == name {
+            return Ok(());
         }
-    }
-}
-
-impl Opened {
-    fn open<R: Files + AllocGlobal>(rt: &R, name: &str) -> io::Result<Opened> {
-        let octets = fs::read(rt, name)?;
-        let zone = zone_of(rt.alloc(), &octets)?;
-        let name = String::from_str(rt.alloc(), name)?;
-        Ok(Opened { name, octets, zone })
+        self.octets = fs::read(rt, name)?;
+        self.zone = zone_of(rt.alloc(), &self.octets)?;
+        self.name = name;
+        Ok(())
     }
 
     /// Appends the line that answers a question about this file.
-    fn answer(
+    fn push_answer(
         &self,
         alloc: Global,
         question: &Question<'_>,
-        answers: &mut Vec<u8>,
-    ) -> io::Result<()> {
+        answers: &mut Answers,
+    ) -> Result<(), AllocError> {
         match question.change {
-            None => push_answer(&self.zone, question.instant, answers),
+            None => push_zone(&self.zone, question.instant, answers),
             Some(change) => {
-                let mut octets = self.octets.clone()?;
-                if let Some(octet) = octets.get_mut(change.place) {
-                    *octet = change.value;
-                }
-                push_answer(&zone_of(alloc, &octets)?, question.instant, answers)
+                let octets = changed(alloc, &self.octets, change)?;
+                push_zone(&zone_of(alloc, &octets)?, question.instant, answers);
             }
         }
+        Ok(())
     }
+}
+
+/// Returns a copy of bytes with a change.
+fn changed(alloc: Global, octets: &[u8], change: OctetChange) -> Result<Vec<u8>, AllocError> {
+    let mut copy = Vec::from_slice(alloc, octets)?;
+    if let Some(octet) = copy.get_mut(change.place) {
+        *octet = change.value;
+    }
+    Ok(copy)
 }
 
 /// Returns the zone of the bytes, or the reason why they are not a file.
-fn zone_of(alloc: Global, octets: &[u8]) -> io::Result<Result<Zone, Reason>> {
+fn zone_of(alloc: Global, octets: &[u8]) -> Result<Result<Zone, Reason>, AllocError> {
     match read(alloc, octets) {
         Ok(zone) => Ok(Ok(zone)),
         Err(ReadStop::Bad(reason)) => Ok(Err(reason)),
-        Err(ReadStop::Memory) => Err(io::Error::from(ErrorKind::OutOfMemory)),
+        Err(ReadStop::Memory) => Err(AllocError),
     }
 }
 
-fn push_answer(zone: &Result<Zone, Reason>, instant: i64, answers: &mut Vec<u8>) -> io::Result<()> {
+/// Appends what a zone shows at an instant, or the reason why there is none.
+fn push_zone(zone: &Result<Zone, Reason>, instant: i64, answers: &mut Answers) {
     match zone {
-        Err(reason) => writeln!(answers, "{reason:?}"),
+        Err(reason) => answers.debug(reason),
         Ok(zone) => match zone.at(instant) {
-            Answer::Unspecified => answers.write_all(b"unspecified\n"),
-            Answer::Known(state) => {
-                let (offset, flag) = (state.offset, u8::from(state.daylight));
-                write!(answers, "{offset} {flag} ")?;
-                answers.write_all(state.name)?;
-                answers.write_all(b"\n")
-            }
+            Answer::Unspecified => answers.word("unspecified"),
+            Answer::Known(state) => answers.state(state),
         },
     }
+    answers.end_line();
 }

@@ -3,33 +3,35 @@
 //! `BadInstant` or `BadLine`. Footers are texts of TZif version 3. A footer that is the same as on
 //! the line before is not parsed again.
 
+use crate::answers::Answers;
 use std::alloc::{AllocError, Global};
 use std::io;
-use std::io::{BufWriter, Write};
-use zic_base::State;
+use std::process::ExitCode;
 use zic_posix::{Footer, ParseStop, parse};
 
 /// Prints the states of the footers.
-pub fn run<R: Input + Print + AllocGlobal>(rt: &R) -> io::Result<()> {
-    let alloc = rt.alloc();
-    let text = io::read_to_string(alloc, rt.reader())?;
-    let mut out = BufWriter::new(alloc, io::writer(rt))?;
-    answer(alloc, text.as_str(), &mut out)?;
-    out.flush()
+pub fn run<R: Input + Print + AllocGlobal>(rt: &R) -> io::Result<ExitCode> {
+    let text = io::read_to_string(rt.alloc(), rt.reader())?;
+    let mut answers = Answers::new(rt.alloc());
+    push_answers(rt.alloc(), text.as_str(), &mut answers)?;
+    answers.print(rt)
 }
 
-/// Writes the answers to all lines of a text.
-fn answer(alloc: Global, text: &str, out: &mut impl Write) -> io::Result<()> {
-    let mut parsed = Parsed::new(alloc, "")?;
+/// Appends the answers to all lines of a text.
+fn push_answers(alloc: Global, text: &str, answers: &mut Answers) -> Result<(), AllocError> {
+    let mut parsed = Parsed {
+        text: "",
+        footer: None,
+    };
     for line in text.lines() {
-        let Some((footer, instant)) = line.split_once(' ') else {
-            out.write_all(b"BadLine\n")?;
-            continue;
-        };
-        if footer != parsed.text {
-            parsed = Parsed::new(alloc, footer)?;
+        match line.split_once(' ') {
+            Some((footer, instant)) => {
+                parsed.parse(alloc, footer)?;
+                parsed.push_answer(instant, answers);
+            }
+            None => answers.word("BadLine"),
         }
-        parsed.write_answer(instant, out)?;
+        answers.end_line();
     }
     Ok(())
 }
@@ -41,32 +43,27 @@ struct Parsed<'a> {
     footer: Option<Footer>,
 }
 
-impl Parsed<'_> {
-    fn new(alloc: Global, text: &str) -> Result<Parsed<'_>, AllocError> {
-        let footer = match parse(alloc, text.as_bytes(), 3) {
+impl<'a> Parsed<'a> {
+    /// Takes a text, unless it is the one before.
+    fn parse(&mut self, alloc: Global, text: &'a str) -> Result<(), AllocError> {
+        if text == self.text {
+            return Ok(());
+        }
+        self.footer = match parse(alloc, text.as_bytes(), 3) {
             Ok(footer) => Some(footer),
             Err(ParseStop::BadFooter) => None,
             Err(ParseStop::Memory) => return Err(AllocError),
         };
-        Ok(Parsed { text, footer })
+        self.text = text;
+        Ok(())
     }
 
-    /// Writes the state that the footer means at an instant.
-    fn write_answer(&self, instant: &str, out: &mut impl Write) -> io::Result<()> {
-        let Some(footer) = &self.footer else {
-            return out.write_all(b"BadFooter\n");
-        };
-        let Ok(t) = instant.parse::<i64>() else {
-            return out.write_all(b"BadInstant\n");
-        };
-        write_state(footer.state(t), out)
+    /// Appends the state that the footer means at an instant.
+    fn push_answer(&self, instant: &str, answers: &mut Answers) {
+        match (&self.footer, instant.parse::<i64>()) {
+            (None, _) => answers.word("BadFooter"),
+            (_, Err(_)) => answers.word("BadInstant"),
+            (Some(footer), Ok(t)) => answers.state(footer.state(t)),
+        }
     }
-}
-
-/// Writes the line of a state.
-fn write_state(state: State<'_>, out: &mut impl Write) -> io::Result<()> {
-    let (offset, flag) = (state.offset, u8::from(state.daylight));
-    write!(out, "{offset} {flag} ")?;
-    out.write_all(state.name)?;
-    out.write_all(b"\n")
 }

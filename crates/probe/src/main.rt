@@ -2,11 +2,13 @@
 //! are arguments of the tool.
 #![tactic(auto)]
 
+mod answers;
 mod by_jiff;
 mod changes;
 mod counts;
 mod files;
 mod footers;
+mod input;
 mod rows;
 mod stop;
 
@@ -15,15 +17,21 @@ use std::io::{self, ErrorKind};
 use std::process::ExitCode;
 
 fn main(rt: HostRuntime) -> io::Result<ExitCode> {
-    let word = env::args(&rt)?.nth(1);
-    match word.as_ref().map(|w| w.as_str()) {
-        Some("counts") => return counts::run(&rt),
-        Some("changes") => return changes::run(&rt),
-        Some("footers") => footers::run(&rt)?,
-        Some("files") => files::run(&rt)?,
-        Some("jiff") => by_jiff::run(&rt)?,
-        Some("rows") => rows::run(&rt)?,
-        _ => return Err(io::Error::from(ErrorKind::InvalidInput)),
+    match env::args(&rt)?.nth(1) {
+        Some(word) => run(&rt, word.as_str()),
+        None => Err(io::Error::from(ErrorKind::InvalidInput)),
     }
-    Ok(ExitCode::SUCCESS)
+}
+
+/// Runs the tool with this name.
+fn run(rt: &HostRuntime, name: &str) -> io::Result<ExitCode> {
+    match name {
+        "counts" => counts::run(rt),
+        "changes" => changes::run(rt),
+        "footers" => footers::run(rt),
+        "files" => files::run(rt),
+        "jiff" => by_jiff::run(rt),
+        "rows" => rows::run(rt),
+        _ => Err(io::Error::from(ErrorKind::InvalidInput)),
+    }
 }

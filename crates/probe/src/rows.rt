@@ -17,63 +17,67 @@ mod tables;
 mod timelines;
 mod words;
 
-use call::{Call, Refusal, bad_call};
+use crate::answers::Answers;
+use call::{Call, Refusal};
 use std::alloc::Global;
-use std::io::{self, ErrorKind, Write};
-use zic_base::Stop;
+use std::io::{self, ErrorKind};
+use std::process::ExitCode;
+use zic_base::{Fault, Stop};
 use zic_source::read_source;
 
 /// Prints the answers to all calls.
-pub fn run<R: Input + Print + AllocGlobal>(rt: &R) -> io::Result<()> {
-    let alloc = rt.alloc();
-    let calls = io::read_to_string(alloc, rt.reader())?;
-    let mut answers = Vec::new(alloc);
-    let end = push_answers(alloc, calls.as_str(), &mut answers);
-    io::writer(rt).write_all(&answers)?;
-    end
+pub fn run<R: Input + Print + AllocGlobal>(rt: &R) -> io::Result<ExitCode> {
+    let calls = io::read_to_string(rt.alloc(), rt.reader())?;
+    let mut answers = Answers::new(rt.alloc());
+    let are_known = push_answers(rt.alloc(), calls.as_str(), &mut answers);
+    let printed = answers.print(rt)?;
+    if are_known {
+        Ok(printed)
+    } else {
+        Err(io::Error::from(ErrorKind::InvalidInput))
+    }
 }
 
-/// Appends the answers to calls, each on a line, up to the first that isn't known.
-fn push_answers(alloc: Global, calls: &str, answers: &mut Vec<u8>) -> io::Result<()> {
+/// Appends the answers to calls, each on a line, up to the first that isn't known. Returns whether
+/// all are.
+fn push_answers(alloc: Global, calls: &str, answers: &mut Answers) -> bool {
     for line in calls.lines() {
         match answer(alloc, line, answers) {
             Ok(()) => {}
-            Err(Refusal::Stop(stop)) => push_stop(stop, answers)?,
-            Err(Refusal::Io(error)) => return Err(error),
+            Err(Refusal::Stop(Stop::Fault(fault))) => push_fault(fault, answers),
+            Err(_) => return false,
         }
-        answers.write_all(b".\n")?;
+        answers.push(b".\n");
     }
-    Ok(())
+    true
 }
 
 /// Appends the line of a fault.
-fn push_stop(stop: Stop, answers: &mut Vec<u8>) -> io::Result<()> {
-    match stop {
-        Stop::Fault(fault) => {
-            let (text, line, kind) = (fault.place.text, fault.place.line, fault.kind);
-            writeln!(answers, "text {text} line {line}: {kind:?}")
-        }
-        Stop::Memory => Err(io::Error::from(ErrorKind::OutOfMemory)),
-    }
+fn push_fault(fault: Fault, answers: &mut Answers) {
+    answers.word("text");
+    answers.show(&fault.place.text);
+    answers.word("line");
+    answers.show(&fault.place.line);
+    answers.push(b":");
+    answers.debug_line(&fault.kind);
 }
 
 /// Appends the answer to a call.
-fn answer(alloc: Global, line: &str, answers: &mut Vec<u8>) -> Result<(), Refusal> {
+fn answer(alloc: Global, line: &str, answers: &mut Answers) -> Result<(), Refusal> {
     let call = Call::parse(alloc, line)?;
     match call.module {
-        "base" => base::answer(alloc, &call, answers)?,
-        "calendar" => calendar::answer(&call, answers)?,
-        "files" => files::answer(alloc, &call, answers)?,
-        "lines" => return lines::answer(alloc, &call, answers),
-        "strings" => strings::answer(alloc, &call, answers)?,
-        "words" => words::answer(alloc, &call, answers)?,
-        _ => return answer_of_source(alloc, &call, answers),
+        "base" => base::answer(alloc, &call, answers),
+        "calendar" => calendar::answer(&call, answers),
+        "files" => files::answer(alloc, &call, answers),
+        "lines" => lines::answer(alloc, &call, answers),
+        "strings" => strings::answer(alloc, &call, answers),
+        "words" => words::answer(alloc, &call, answers),
+        _ => answer_of_source(alloc, &call, answers),
     }
-    Ok(())
 }
 
 /// Appends the answer to a call whose texts are a source.
-fn answer_of_source(alloc: Global, call: &Call<'_>, answers: &mut Vec<u8>) -> Result<(), Refusal> {
+fn answer_of_source(alloc: Global, call: &Call<'_>, answers: &mut Answers) -> Result<(), Refusal> {
     let source = read_source(alloc, &call.texts)?;
     match call.module {
         "occurrences" => occurrences::answer(alloc, &source, call, answers),
@@ -81,6 +85,6 @@ fn answer_of_source(alloc: Global, call: &Call<'_>, answers: &mut Vec<u8>) -> Re
         "states" => states::answer(alloc, &source, call, answers),
         "tables" => tables::answer(alloc, &source, call, answers),
         "timelines" => timelines::answer(alloc, &source, call, answers),
-        _ => Err(bad_call()),
+        _ => Err(Refusal::Call),
     }
 }

@@ -1,18 +1,17 @@
-//! A call, its arguments, and what many answers print.
+//! A call and its arguments.
 
 ghost use Rattle.std.specs.Prelude.{◌≤ℤ◌, IfOk};
 
 use std::alloc::{AllocError, Global};
-use std::io::{self, ErrorKind, Write};
-use zic_base::{State, Stop};
+use zic_base::Stop;
 
 /// Why a call has no whole answer.
-#[derive(Debug, Drop)]
+#[derive(Clone, Copy)]
 pub enum Refusal {
     /// A source or a zone has a fault, or a growth of memory was refused.
     Stop(Stop),
     /// The call isn't known, or an argument is missing or wrong.
-    Io(io::Error),
+    Call,
 }
 
 impl From<Stop> for Refusal {
@@ -27,22 +26,6 @@ impl From<AllocError> for Refusal {
     }
 }
 
-impl From<io::Error> for Refusal {
-    fn from(error: io::Error) -> Refusal {
-        Refusal::Io(error)
-    }
-}
-
-/// Returns the refusal of a call that isn't known, or that has a missing or wrong argument.
-pub fn bad_call() -> Refusal {
-    Refusal::Io(bad_argument())
-}
-
-/// Returns the error of a call that isn't known, or that has a missing or wrong argument.
-pub fn bad_argument() -> io::Error {
-    io::Error::from(ErrorKind::InvalidInput)
-}
-
 /// A call: its module, its name there, and its arguments.
 #[derive(Drop)]
 pub struct Call<'a> {
@@ -54,19 +37,13 @@ pub struct Call<'a> {
 
 impl<'a> Call<'a> {
     /// Returns the call that a line spells.
-    pub fn parse(alloc: Global, line: &'a str) -> io::Result<Call<'a>> {
-        let mut parts = line.split(' ');
-        let (Some(module), Some(name)) = (parts.next(), parts.next()) else {
-            return Err(bad_argument());
+    pub fn parse(alloc: Global, line: &'a str) -> Result<Call<'a>, Refusal> {
+        let words = words_of(alloc, line)?;
+        let (Some(module), Some(name)) = (words.first(), words.get(1)) else {
+            return Err(Refusal::Call);
         };
-        let mut words = Vec::new(alloc);
-        let mut texts = Vec::new(alloc);
-        for part in parts {
-            match part.strip_prefix(':') {
-                Some(digits) => texts.push(octets_of(alloc, digits)?)?,
-                None => words.push(part)?,
-            }
-        }
+        let (module, name) = (*module, *name);
+        let texts = texts_of(alloc, line)?;
         Ok(Call {
             module,
             name,
@@ -75,51 +52,73 @@ impl<'a> Call<'a> {
         })
     }
 
+    /// Returns the number of words that are arguments.
+    pub fn len(&self) -> usize {
+        self.words.len().saturating_sub(2)
+    }
+
     /// Returns the word of this number from 0.
-    pub fn word(&self, number: usize) -> io::Result<&'a str> {
-        match self.words.get(number) {
+    pub fn word(&self, number: usize) -> Result<&'a str, Refusal> {
+        match self.words.get(number.saturating_add(2)) {
             Some(word) => Ok(*word),
-            None => Err(bad_argument()),
+            None => Err(Refusal::Call),
         }
     }
 
     /// Returns the number from `least` to `most` that the word of this number from 0 spells.
-    pub fn number(&self, number: usize, least: i64, most: i64) -> io::Result<i64>
+    pub fn number(&self, number: usize, least: i64, most: i64) -> Result<i64, Refusal>
         ensures least { IfOk result (λ n. least ≤ℤ n) }
         ensures most { IfOk result (λ n. n ≤ℤ most) }
     {
         match self.word(number)?.parse::<i64>() {
             Ok(found) if least <= found && found <= most => Ok(found),
-            _ => Err(bad_argument()),
+            _ => Err(Refusal::Call),
         }
     }
 
     /// Returns the instant that the word of this number from 0 spells.
-    pub fn instant(&self, number: usize) -> io::Result<i64> {
+    pub fn instant(&self, number: usize) -> Result<i64, Refusal> {
         self.number(number, i64::MIN, i64::MAX)
     }
 
     /// Returns the first text.
-    pub fn text(&self) -> io::Result<&[u8]> {
+    pub fn text(&self) -> Result<&[u8], Refusal> {
         match self.texts.first() {
             Some(text) => Ok(text.as_slice()),
-            None => Err(bad_argument()),
+            None => Err(Refusal::Call),
         }
     }
 }
 
-/// Returns the bytes that hexadecimal digits spell.
-fn octets_of(alloc: Global, digits: &str) -> io::Result<Vec<u8>> {
-    hex::decode(alloc, digits.as_bytes()).map_err(|_| bad_argument())
+/// Returns the words of a line that aren't texts.
+fn words_of(alloc: Global, line: &str) -> Result<Vec<&str>, AllocError> {
+    let mut words = Vec::new(alloc);
+    for part in line.split(' ') {
+        if !part.starts_with(':') {
+            words.push(part)?;
+        }
+    }
+    Ok(words)
 }
 
-/// Returns bytes as text.
-pub fn text_of(octets: &[u8]) -> &str {
-    str::from_utf8(octets).unwrap_or("no text")
+/// Returns the texts of a line.
+fn texts_of(alloc: Global, line: &str) -> Result<Vec<Vec<u8>>, Refusal> {
+    let mut texts = Vec::new(alloc);
+    for part in line.split(' ') {
+        if let Some(digits) = part.strip_prefix(':') {
+            push_text(alloc, digits, &mut texts)?;
+        }
+    }
+    Ok(texts)
 }
 
-/// Appends a state as `OFFSET FLAG ABBREVIATION`.
-pub fn push_state(state: State<'_>, answers: &mut Vec<u8>) -> io::Result<()> {
-    let (offset, flag) = (state.offset, u8::from(state.daylight));
-    write!(answers, "{offset} {flag} {}", text_of(state.name))
+/// Appends the bytes that hexadecimal digits spell.
+fn push_text(alloc: Global, digits: &str, texts: &mut Vec<Vec<u8>>) -> Result<(), Refusal> {
+    let Ok(text) = hex::decode(alloc, digits.as_bytes()) else {
+        return Err(Refusal::Call);
+    };
+    match texts.push(text) {
+        Ok(()) => Ok(()),
+        Err(_) => Err(Refusal::Stop(Stop::Memory)),
+    }
 }

@@ -3,9 +3,9 @@
 ghost use Rattle.std.specs.Prelude.{◌≤◌, IfOk};
 ghost use Rattle.zic_states.specs.ByList.{AreRising};
 
-use super::call::{Call, Refusal, bad_call};
+use super::call::{Call, Refusal};
+use crate::answers::Answers;
 use std::alloc::Global;
-use std::io::{self, Write};
 use zic_occurrences::{
     TimedOccurrence, instant_by, last_named_year, nominal_second, occurrences, year_second,
 };
@@ -17,19 +17,15 @@ pub fn answer(
     alloc: Global,
     source: &Source,
     call: &Call<'_>,
-    answers: &mut Vec<u8>,
+    answers: &mut Answers,
 ) -> Result<(), Refusal> {
     match call.name {
-        "moment" => moment(source, call, answers)?,
-        "listed" => {
-            let found = occurrences_of(alloc, source, call.number(0, 1, 9999)? as u16)?;
-            listed(&found, call, answers)?;
-        }
-        "current" => current(&occurrences_of(alloc, source, 1)?, call, answers)?,
-        "last_named_year" => return named(source, answers),
-        _ => return Err(bad_call()),
+        "moment" => moment(source, call, answers),
+        "listed" => listed(alloc, source, call, answers),
+        "current" => current(alloc, source, call, answers),
+        "last_named_year" => named(source, answers),
+        _ => Err(Refusal::Call),
     }
-    Ok(())
 }
 
 /// Returns the occurrences before a year, and perhaps some more.
@@ -42,11 +38,11 @@ fn occurrences_of(
     ensures { IfOk result (λ xs. AreRising xs.items) }
 {
     if source.zones() == 0 || source.lines(0) == 0 {
-        return Err(bad_call());
+        return Err(Refusal::Call);
     }
     let line = source.line(0, 0);
     let Rules::Set(set) = &line.rules else {
-        return Err(bad_call());
+        return Err(Refusal::Call);
     };
     match occurrences(alloc, line.place, source, set, line.offset, before) {
         Ok(found) => Ok(found),
@@ -56,49 +52,75 @@ fn occurrences_of(
 
 /// `listed BEFORE FROM COUNT`: prints occurrences before the year BEFORE, and perhaps some more: as
 /// many as COUNT, from the number FROM on.
-fn listed(found: &[TimedOccurrence], call: &Call<'_>, answers: &mut Vec<u8>) -> io::Result<()> {
+fn listed(
+    alloc: Global,
+    source: &Source,
+    call: &Call<'_>,
+    answers: &mut Answers,
+) -> Result<(), Refusal> {
     let (from, count) = (call.number(1, 0, 9999)?, call.number(2, 0, 9999)?);
+    let before = call.number(0, 1, 9999)? as u16;
+    let found = occurrences_of(alloc, source, before)?;
     for occurrence in found.iter().skip(from as usize).take(count as usize) {
-        let (instant, rule, year) = (occurrence.instant, occurrence.rule, occurrence.year);
-        writeln!(answers, "{instant} rule {rule} in {year}")?;
+        push_occurrence(occurrence, answers);
     }
-    writeln!(answers, "in order")
+    answers.push(b"in order\n");
+    Ok(())
+}
+
+fn push_occurrence(occurrence: &TimedOccurrence, answers: &mut Answers) {
+    answers.show(&occurrence.instant);
+    answers.word("rule");
+    answers.show(&occurrence.rule);
+    answers.word("in");
+    answers.show(&occurrence.year);
+    answers.end_line();
 }
 
 /// `current INSTANT..`: prints the rule of the last occurrence that isn't after each instant, and how
 /// many occurrences are before it.
-fn current(found: &[TimedOccurrence], call: &Call<'_>, answers: &mut Vec<u8>) -> io::Result<()>
-    requires { AreRising found.now }
-{
-    for number in 0..call.words.len() {
+fn current(
+    alloc: Global,
+    source: &Source,
+    call: &Call<'_>,
+    answers: &mut Answers,
+) -> Result<(), Refusal> {
+    let found = occurrences_of(alloc, source, 1)?;
+    for number in 0..call.len() {
         let t = call.instant(number)?;
-        let (rule, count) = (rule_at(found, t), before(found, t).len());
-        writeln!(answers, "{t} {rule:?} {count}")?;
+        answers.show(&t);
+        answers.debug(&rule_at(&found, t));
+        answers.show(&before(&found, t).len());
+        answers.end_line();
     }
     Ok(())
 }
 
 /// Prints the last year that the set names.
-fn named(source: &Source, answers: &mut Vec<u8>) -> Result<(), Refusal> {
+fn named(source: &Source, answers: &mut Answers) -> Result<(), Refusal> {
     if source.zones() == 0 || source.lines(0) == 0 {
-        return Err(bad_call());
+        return Err(Refusal::Call);
     }
     let Rules::Set(set) = &source.line(0, 0).rules else {
-        return Err(bad_call());
+        return Err(Refusal::Call);
     };
-    writeln!(answers, "{}", last_named_year(source, set))?;
+    answers.show(&last_named_year(source, set));
+    answers.end_line();
     Ok(())
 }
 
 /// `moment OFFSET`: prints the second at which the first year of the first rule begins, the nominal
 /// second of the rule in that year, and its instant at this standard offset without a saving.
-fn moment(source: &Source, call: &Call<'_>, answers: &mut Vec<u8>) -> io::Result<()> {
+fn moment(source: &Source, call: &Call<'_>, answers: &mut Answers) -> Result<(), Refusal> {
     let offset = call.number(0, -86_400, 86_400)? as i32;
     if source.rules() == 0 {
         return Ok(());
     }
     let rule = source.rule(0);
     let second = nominal_second(rule.first, &rule.moment);
-    let instant = instant_by(rule.moment.at.form, offset, 0, second);
-    writeln!(answers, "{} {second} {instant}", year_second(rule.first))
+    answers.show(&year_second(rule.first));
+    answers.show(&second);
+    answers.show(&instant_by(rule.moment.at.form, offset, 0, second));
+    answers.end_line();
+    Ok(())
 }

@@ -1,9 +1,11 @@
 //! Sources.
 
-use super::call::{Call, Refusal, bad_call, text_of};
+ghost use Rattle.std.specs.Prelude.{◌<◌, length};
+
+use super::call::{Call, Refusal};
 use super::lines::{push_link, push_rule, push_zone_line};
+use crate::answers::Answers;
 use std::alloc::{AllocError, Global};
-use std::io::{self, Write};
 use zic_source::{SetName, Source, Stop, read_source};
 
 /// Appends the answer to a call.
@@ -11,46 +13,54 @@ pub fn answer(
     alloc: Global,
     source: &Source,
     call: &Call<'_>,
-    answers: &mut Vec<u8>,
+    answers: &mut Answers,
 ) -> Result<(), Refusal> {
     match call.name {
-        "counts" => counts(source, answers)?,
-        "entries" => entries(source, answers)?,
-        "set_rules" => return set_rules(alloc, source, call.word(0)?, answers),
-        "fronts" => fronts(alloc, call, answers)?,
-        "changed" => changed(alloc, call, answers)?,
-        _ => return Err(bad_call()),
+        "counts" => Ok(counts(source, answers)),
+        "entries" => Ok(entries(source, answers)),
+        "set_rules" => set_rules(alloc, source, call.word(0)?, answers),
+        "fronts" => fronts(alloc, call, answers),
+        "changed" => changed(alloc, call, answers),
+        _ => Err(Refusal::Call),
     }
-    Ok(())
 }
 
 /// Prints the numbers of rules, zones and links.
-fn counts(source: &Source, answers: &mut Vec<u8>) -> io::Result<()> {
-    let (rules, zones, links) = (source.rules(), source.zones(), source.links());
-    writeln!(answers, "{rules} rules, {zones} zones, {links} links")
+fn counts(source: &Source, answers: &mut Answers) {
+    answers.show(&source.rules());
+    answers.word("rules,");
+    answers.show(&source.zones());
+    answers.word("zones,");
+    answers.show(&source.links());
+    answers.word("links\n");
 }
 
 /// Prints all lines: rules, then zones, then links, each after the number of the zone to which it
 /// leads.
-fn entries(source: &Source, answers: &mut Vec<u8>) -> io::Result<()> {
+fn entries(source: &Source, answers: &mut Answers) {
     for rule in 0..source.rules() {
-        push_rule(source.rule(rule), answers)?;
+        push_rule(source.rule(rule), answers);
     }
     for zone in 0..source.zones() {
-        for line in 0..source.lines(zone) {
-            write!(
-                answers,
-                "zone {} ",
-                text_of(source.zone_name(zone).octets())
-            )?;
-            push_zone_line(source.line(zone, line), answers)?;
-        }
+        push_zone(source, zone, answers);
     }
     for link in 0..source.links() {
-        write!(answers, "zone {}: ", source.link_zone(link))?;
-        push_link(source.link(link), answers)?;
+        answers.word("zone");
+        answers.show(&source.link_zone(link));
+        answers.push(b":");
+        push_link(source.link(link), answers);
     }
-    Ok(())
+}
+
+fn push_zone(source: &Source, zone: usize, answers: &mut Answers)
+    requires { zone < length source.now.zones }
+{
+    let name = source.zone_name(zone).octets();
+    for line in 0..source.lines(zone) {
+        answers.word("zone");
+        answers.octets(name);
+        push_zone_line(source.line(zone, line), answers);
+    }
 }
 
 /// `set_rules NAME`: prints the numbers of a set's rules.
@@ -58,35 +68,40 @@ fn set_rules(
     alloc: Global,
     source: &Source,
     name: &str,
-    answers: &mut Vec<u8>,
+    answers: &mut Answers,
 ) -> Result<(), Refusal> {
-    let Some(set) = SetName::parse(alloc, name.as_bytes()) else {
-        return Err(bad_call());
-    };
-    writeln!(answers, "{:?}", source.set_rules(&set?))?;
+    match SetName::parse(alloc, name.as_bytes()) {
+        Some(Ok(set)) => answers.debug_line(&source.set_rules(&set)),
+        Some(Err(_)) => return Err(Refusal::Stop(Stop::Memory)),
+        None => return Err(Refusal::Call),
+    }
     Ok(())
 }
 
 /// `fronts LINES`: prints whether each front of a text is a source, or has its first fault in these
 /// first lines.
-fn fronts(alloc: Global, call: &Call<'_>, answers: &mut Vec<u8>) -> io::Result<()> {
+fn fronts(alloc: Global, call: &Call<'_>, answers: &mut Answers) -> Result<(), Refusal> {
     let (lines, text) = (call.number(0, 1, 99)? as u64, call.text()?);
     let mut last = 0;
     for end in 0..=text.len() {
         last = fault_line(alloc, &text[..end])?.max(last);
     }
-    writeln!(answers, "{}", last <= lines)
+    answers.show(&(last <= lines));
+    answers.end_line();
+    Ok(())
 }
 
 /// `changed LINES`: prints whether each text with one byte set to any value is a source, or has its
 /// first fault in these first lines.
-fn changed(alloc: Global, call: &Call<'_>, answers: &mut Vec<u8>) -> io::Result<()> {
+fn changed(alloc: Global, call: &Call<'_>, answers: &mut Answers) -> Result<(), Refusal> {
     let (lines, text) = (call.number(0, 1, 99)? as u64, call.text()?);
     let mut last = 0;
     for place in 0..text.len() {
         last = last_fault_line(alloc, text, place)?.max(last);
     }
-    writeln!(answers, "{}", last <= lines)
+    answers.show(&(last <= lines));
+    answers.end_line();
+    Ok(())
 }
 
 /// Returns the last line in which a text has its first fault with a value of the byte at a place,

@@ -4,9 +4,9 @@ ghost use Rattle.std.specs.Prelude.{IfOk};
 ghost use Rattle.zic_source.specs.Sound.{IsSoundLine};
 ghost use Rattle.zic_states.specs.Occurrences.{AreOccurrencesFor};
 
-use super::call::{Call, Refusal, bad_call, text_of};
+use super::call::{Call, Refusal};
+use crate::answers::Answers;
 use std::alloc::Global;
-use std::io::{self, Write};
 use zic_occurrences::{TimedOccurrence, occurrences};
 use zic_source::{Letter, Rules, Source, ZoneLine};
 use zic_states::format::abbreviation;
@@ -17,16 +17,15 @@ pub fn answer(
     alloc: Global,
     source: &Source,
     call: &Call<'_>,
-    answers: &mut Vec<u8>,
+    answers: &mut Answers,
 ) -> Result<(), Refusal> {
     match call.name {
-        "abbreviation" => filled(alloc, source, call, answers)?,
-        "is_abbreviation" => abbreviations(call.word(0)?, answers)?,
-        "observance" => observance(source, answers)?,
-        "untils" => untils(alloc, source, answers)?,
-        _ => return Err(bad_call()),
+        "abbreviation" => filled(alloc, source, call, answers),
+        "is_abbreviation" => Ok(abbreviations(call.word(0)?, answers)),
+        "observance" => Ok(observance(source, answers)),
+        "untils" => untils(alloc, source, answers),
+        _ => Err(Refusal::Call),
     }
-    Ok(())
 }
 
 /// `abbreviation OFFSET FLAG` or `abbreviation OFFSET FLAG LETTER`: prints the abbreviation that the
@@ -35,63 +34,62 @@ fn filled(
     alloc: Global,
     source: &Source,
     call: &Call<'_>,
-    answers: &mut Vec<u8>,
-) -> io::Result<()> {
-    let (offset, flag) = (
-        call.number(0, -86_400, 86_400)? as i32,
-        call.number(1, 0, 1)?,
-    );
-    let letter = match call.words.get(2) {
-        Some(word) => Letter::parse(alloc, word.as_bytes()),
-        None => None,
-    };
+    answers: &mut Answers,
+) -> Result<(), Refusal> {
+    let offset = call.number(0, -86_400, 86_400)? as i32;
+    let flag = call.number(1, 0, 1)? == 1;
     if source.zones() == 0 {
         return Ok(());
     }
-    match abbreviation(
-        &source.line(0, 0).format,
-        offset,
-        flag == 1,
-        letter.as_ref(),
-    ) {
-        Ok(made) => writeln!(answers, "{}", text_of(made.octets())),
-        Err(kind) => writeln!(answers, "{kind:?}"),
+    let letter = match call.word(2) {
+        Ok(word) => Letter::parse(alloc, word.as_bytes()),
+        Err(_) => None,
+    };
+    let format = &source.line(0, 0).format;
+    match abbreviation(format, offset, flag, letter.as_ref()) {
+        Ok(made) => answers.octets(made.octets()),
+        Err(kind) => answers.debug(&kind),
     }
+    answers.end_line();
+    Ok(())
 }
 
 /// `is_abbreviation WORD`: prints whether a word is an abbreviation, and then its bytes, and whether
 /// it is `NZST`.
-fn abbreviations(word: &str, answers: &mut Vec<u8>) -> io::Result<()> {
-    write!(answers, "{}", is_abbreviation(word.as_bytes()))?;
+fn abbreviations(word: &str, answers: &mut Answers) {
+    answers.show(&is_abbreviation(word.as_bytes()));
     if let Some(made) = Abbreviation::parse(word.as_bytes()) {
         let is_new_zealand = Some(made) == Abbreviation::parse(b"NZST");
-        write!(answers, " {} {is_new_zealand}", text_of(made.octets()))?;
+        answers.octets(made.octets());
+        answers.show(&is_new_zealand);
     }
-    writeln!(answers, "")
+    answers.end_line();
 }
 
 /// Prints the saving, the flag and the letter of the first line before all occurrences.
-fn observance(source: &Source, answers: &mut Vec<u8>) -> io::Result<()> {
+fn observance(source: &Source, answers: &mut Answers) {
     if source.zones() == 0 {
-        return Ok(());
+        return;
     }
     let kept = observance_by(source, source.line(0, 0), None);
-    write!(answers, "{} {} ", kept.saving, kept.daylight)?;
+    answers.show(&kept.saving);
+    answers.show(&kept.daylight);
     match kept.letter {
-        Some(letter) => writeln!(answers, "[{}]", text_of(letter.octets())),
-        None => writeln!(answers, "None"),
+        Some(letter) => answers.bracketed(letter.octets()),
+        None => answers.word("None"),
     }
+    answers.end_line();
 }
 
 /// Prints the instants of the UNTILs.
-fn untils(alloc: Global, source: &Source, answers: &mut Vec<u8>) -> Result<(), Refusal> {
+fn untils(alloc: Global, source: &Source, answers: &mut Answers) -> Result<(), Refusal> {
     if source.zones() == 0 {
-        return Err(bad_call());
+        return Err(Refusal::Call);
     }
     for number in 0..source.lines(0) {
         let line = source.line(0, number);
         let found = occurrences_for(alloc, source, line)?;
-        writeln!(answers, "{:?}", until_instant(source, line, &found))?;
+        answers.debug_line(&until_instant(source, line, &found));
     }
     Ok(())
 }

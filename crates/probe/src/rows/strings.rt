@@ -2,119 +2,126 @@
 
 ghost use Rattle.std.specs.Prelude.{◌≡◌, ◌⊎◌};
 
-use super::call::{Call, bad_argument, push_state, text_of};
+use super::call::{Call, Refusal};
+use crate::answers::Answers;
 use std::alloc::Global;
-use std::io::{self, ErrorKind, Write};
+use zic_base::Stop;
 use zic_posix::{Footer, Instants, ParseStop, PreparedFooter, parse, print};
 
 /// Appends the answer to a call.
-pub fn answer(alloc: Global, call: &Call<'_>, answers: &mut Vec<u8>) -> io::Result<()> {
+pub fn answer(alloc: Global, call: &Call<'_>, answers: &mut Answers) -> Result<(), Refusal> {
     match call.name {
-        "version_2" => push_printed(alloc, footer_of(alloc, call.text()?, 2)?, answers),
-        "version_3" => push_printed(alloc, footer_of(alloc, call.text()?, 3)?, answers),
-        "parts" => push_parts(&wide_footer(alloc, call)?, answers),
-        "states" => push_states(&wide_footer(alloc, call)?, call, answers),
+        "version_2" => printed(alloc, call.text()?, 2, answers),
+        "version_3" => printed(alloc, call.text()?, 3, answers),
+        "parts" => parts(alloc, call.text()?, answers),
+        "states" => states(alloc, call, answers),
         "spans" => spans(alloc, call, answers),
-        "prepared" => push_prepared(&PreparedFooter::new(wide_footer(alloc, call)?), answers),
+        "prepared" => prepared(alloc, call.text()?, answers),
         "contains" => contains(call, answers),
-        _ => Err(bad_argument()),
+        _ => Err(Refusal::Call),
     }
 }
 
-/// Returns the footer that a text is in a version, if it is one.
-fn footer_of(alloc: Global, text: &[u8], version: u8) -> io::Result<Option<Footer>>
+/// Appends the own text of the footer that a text is in a version, and the version that it needs.
+fn printed(alloc: Global, text: &[u8], version: u8, answers: &mut Answers) -> Result<(), Refusal>
     requires { (version ≡ 2) ⊎ (version ≡ 3) }
 {
     match parse(alloc, text, version) {
-        Ok(footer) => Ok(Some(footer)),
-        Err(ParseStop::BadFooter) => Ok(None),
-        Err(ParseStop::Memory) => Err(io::Error::from(ErrorKind::OutOfMemory)),
+        Ok(footer) => push_printed(alloc, &footer, answers),
+        Err(ParseStop::BadFooter) => {
+            answers.push(b"BadFooter\n");
+            Ok(())
+        }
+        Err(ParseStop::Memory) => Err(Refusal::Stop(Stop::Memory)),
     }
 }
 
-/// Returns the footer of version 3 that the text is.
-fn wide_footer(alloc: Global, call: &Call<'_>) -> io::Result<Footer> {
-    match footer_of(alloc, call.text()?, 3)? {
-        Some(footer) => Ok(footer),
-        None => Err(bad_argument()),
-    }
+fn push_printed(alloc: Global, footer: &Footer, answers: &mut Answers) -> Result<(), Refusal> {
+    let text = print(alloc, footer)?;
+    answers.octets(&text);
+    answers.word("version");
+    answers.show(&footer.version());
+    answers.end_line();
+    Ok(())
 }
 
-/// Appends a footer's own text and the version that it needs.
-fn push_printed(alloc: Global, footer: Option<Footer>, answers: &mut Vec<u8>) -> io::Result<()> {
-    let Some(footer) = footer else {
-        return writeln!(answers, "BadFooter");
-    };
-    let text = print(alloc, &footer)?;
-    writeln!(answers, "{} version {}", text_of(&text), footer.version())
+/// Returns the footer of version 3 that a text is.
+fn footer_of(alloc: Global, text: &[u8]) -> Result<Footer, Refusal> {
+    match parse(alloc, text, 3) {
+        Ok(footer) => Ok(footer),
+        Err(ParseStop::BadFooter) => Err(Refusal::Call),
+        Err(ParseStop::Memory) => Err(Refusal::Stop(Stop::Memory)),
+    }
 }
 
 /// Appends the parts of a footer.
-fn push_parts(footer: &Footer, answers: &mut Vec<u8>) -> io::Result<()> {
-    writeln!(
-        answers,
-        "{} {}",
-        text_of(footer.std.octets()),
-        footer.offset
-    )?;
+fn parts(alloc: Global, text: &[u8], answers: &mut Answers) -> Result<(), Refusal> {
+    let footer = footer_of(alloc, text)?;
+    answers.octets(footer.std.octets());
+    answers.show(&footer.offset);
+    answers.end_line();
     if let Some(dst) = &footer.dst {
-        writeln!(answers, "{} {}", text_of(dst.name.octets()), dst.offset)?;
-        writeln!(answers, "{:?}", dst.start)?;
-        writeln!(answers, "{:?}", dst.stop)?;
+        answers.octets(dst.name.octets());
+        answers.show(&dst.offset);
+        answers.end_line();
+        answers.debug_line(&dst.start);
+        answers.debug_line(&dst.stop);
     }
     Ok(())
 }
 
 /// `states INSTANT..`: appends what a footer means at instants.
-fn push_states(footer: &Footer, call: &Call<'_>, answers: &mut Vec<u8>) -> io::Result<()> {
-    for number in 0..call.words.len() {
+fn states(alloc: Global, call: &Call<'_>, answers: &mut Answers) -> Result<(), Refusal> {
+    let footer = footer_of(alloc, call.text()?)?;
+    for number in 0..call.len() {
         let t = call.instant(number)?;
-        write!(answers, "{t} ")?;
-        push_state(footer.state(t), answers)?;
-        writeln!(answers, "")?;
+        answers.show(&t);
+        answers.state(footer.state(t));
+        answers.end_line();
     }
     Ok(())
 }
 
 /// `spans INSTANT..`: appends the span of a footer round each instant, its flag, and whether the
 /// prepared footer answers the same.
-fn spans(alloc: Global, call: &Call<'_>, answers: &mut Vec<u8>) -> io::Result<()> {
-    let footer = wide_footer(alloc, call)?;
-    let prepared = PreparedFooter::new(wide_footer(alloc, call)?);
-    push_spans(&footer, &prepared, call, answers)
-}
-
-fn push_spans(
-    footer: &Footer,
-    prepared: &PreparedFooter,
-    call: &Call<'_>,
-    answers: &mut Vec<u8>,
-) -> io::Result<()> {
-    for number in 0..call.words.len() {
-        let t = call.instant(number)?;
-        let span = footer.span(t);
-        let (first, last) = (span.instants.first, span.instants.last);
-        let is_same = prepared.span(t) == span && prepared.state(t) == span.state;
-        let flag = u8::from(span.state.daylight);
-        writeln!(answers, "{t} {first} {last} {flag} {is_same}")?;
+fn spans(alloc: Global, call: &Call<'_>, answers: &mut Answers) -> Result<(), Refusal> {
+    let footer = footer_of(alloc, call.text()?)?;
+    let prepared = PreparedFooter::new(footer_of(alloc, call.text()?)?);
+    for number in 0..call.len() {
+        push_span(&footer, &prepared, call.instant(number)?, answers);
     }
     Ok(())
 }
 
+fn push_span(footer: &Footer, prepared: &PreparedFooter, t: i64, answers: &mut Answers) {
+    let span = footer.span(t);
+    let is_same = prepared.span(t) == span && prepared.state(t) == span.state;
+    answers.show(&t);
+    answers.show(&span.instants.first);
+    answers.show(&span.instants.last);
+    answers.flag(span.state.daylight);
+    answers.show(&is_same);
+    answers.end_line();
+}
+
 /// Appends the states of a prepared footer.
-fn push_prepared(footer: &PreparedFooter, answers: &mut Vec<u8>) -> io::Result<()> {
-    push_state(footer.standard_state(), answers)?;
+fn prepared(alloc: Global, text: &[u8], answers: &mut Answers) -> Result<(), Refusal> {
+    let footer = PreparedFooter::new(footer_of(alloc, text)?);
+    answers.state(footer.standard_state());
     if let Some(state) = footer.daylight_state() {
-        write!(answers, ", ")?;
-        push_state(state, answers)?;
+        answers.push(b",");
+        answers.state(state);
     }
-    writeln!(answers, "")
+    answers.end_line();
+    Ok(())
 }
 
 /// `contains FIRST LAST INSTANT`: prints whether an instant is one of those from the first to the
 /// last.
-fn contains(call: &Call<'_>, answers: &mut Vec<u8>) -> io::Result<()> {
+fn contains(call: &Call<'_>, answers: &mut Answers) -> Result<(), Refusal> {
     let (first, last) = (call.instant(0)?, call.instant(1)?);
     let instants = Instants { first, last };
-    writeln!(answers, "{}", instants.contains(call.instant(2)?))
+    answers.show(&instants.contains(call.instant(2)?));
+    answers.end_line();
+    Ok(())
 }

@@ -1,9 +1,9 @@
 //! Tables of zones, and their files.
 
-use super::call::{Call, Refusal, bad_call, text_of};
+use super::call::{Call, Refusal};
 use super::files::push_answers;
-use std::alloc::Global;
-use std::io::{self, Write};
+use crate::answers::Answers;
+use std::alloc::{AllocError, Global};
 use zic_footer::make;
 use zic_rules::timeline;
 use zic_source::Source;
@@ -15,129 +15,146 @@ pub fn answer(
     alloc: Global,
     source: &Source,
     call: &Call<'_>,
-    answers: &mut Vec<u8>,
+    answers: &mut Answers,
 ) -> Result<(), Refusal> {
     match call.name {
         "table" => table_text(alloc, source, answers),
         "counts" => counts(alloc, source, answers),
         "written" => written(alloc, source, answers),
         "bytes" => bytes(alloc, source, answers),
-        "image" => image_text(alloc, source, call.number(0, 0, 9)? as usize, answers),
+        "image" => image_text(alloc, source, call, answers),
         "at" => at(alloc, source, call, answers),
-        _ => Err(bad_call()),
+        _ => Err(Refusal::Call),
     }
 }
 
-fn table_text(alloc: Global, source: &Source, answers: &mut Vec<u8>) -> Result<(), Refusal> {
-    let made = table_of(alloc, source)?;
-    Ok(push_table(&made, answers)?)
+/// Returns the table of the first zone.
+fn table_of(alloc: Global, source: &Source) -> Result<Table, Refusal> {
+    if source.zones() == 0 {
+        return Err(Refusal::Call);
+    }
+    let place = source.line(0, 0).place;
+    let found = timeline(alloc, source, 0)?;
+    let footer = make(alloc, place, &found)?;
+    match table(alloc, place, &found, &footer) {
+        Ok(made) => Ok(made),
+        Err(stop) => Err(Refusal::Stop(stop)),
+    }
 }
 
-fn counts(alloc: Global, source: &Source, answers: &mut Vec<u8>) -> Result<(), Refusal> {
+/// Appends the version, the transitions, the types, the designations with `/` for NUL, and the
+/// footer.
+fn table_text(alloc: Global, source: &Source, answers: &mut Answers) -> Result<(), Refusal> {
     let made = table_of(alloc, source)?;
-    Ok(push_counts(&made, answers)?)
+    answers.word("version");
+    answers.show(&made.version());
+    push_changes(&made, answers);
+    push_types(&made, answers);
+    push_names(made.names(), answers);
+    answers.octets(made.footer_text());
+    answers.end_line();
+    Ok(())
+}
+
+/// Appends a line for each transition, below the line before it.
+fn push_changes(made: &Table, answers: &mut Answers) {
+    answers.end_line();
+    for change in made.changes() {
+        answers.show(&change.instant);
+        answers.word("type");
+        answers.show(&change.number);
+        answers.end_line();
+    }
+}
+
+fn push_types(made: &Table, answers: &mut Answers) {
+    for kind in made.types() {
+        answers.word("type");
+        answers.show(&kind.offset);
+        answers.flag(kind.daylight);
+        answers.show(&kind.place);
+        answers.end_line();
+    }
+}
+
+fn push_names(names: &[u8], answers: &mut Answers) {
+    for byte in names {
+        let shown = if *byte == 0 { b'/' } else { *byte };
+        answers.push(&[shown]);
+    }
+    answers.end_line();
+}
+
+/// Appends the numbers of transitions, types and bytes of designations.
+fn counts(alloc: Global, source: &Source, answers: &mut Answers) -> Result<(), Refusal> {
+    let made = table_of(alloc, source)?;
+    answers.show(&made.changes().len());
+    answers.word("transitions,");
+    answers.show(&made.types().len());
+    answers.word("types,");
+    answers.show(&made.names().len());
+    answers.word("bytes\n");
+    Ok(())
 }
 
 /// Appends the bytes that `write` gives, in hex.
-fn written(alloc: Global, source: &Source, answers: &mut Vec<u8>) -> Result<(), Refusal> {
-    let octets = octets_of(alloc, source)?;
-    Ok(push_hex(alloc, &octets, answers)?)
-}
-
-fn octets_of(alloc: Global, source: &Source) -> Result<Vec<u8>, Refusal> {
+fn written(alloc: Global, source: &Source, answers: &mut Answers) -> Result<(), Refusal> {
     let made = table_of(alloc, source)?;
-    Ok(write(alloc, &made)?)
+    let octets = write(alloc, &made)?;
+    push_hex(alloc, &octets, answers)?;
+    Ok(())
 }
 
 /// Appends the bytes of the file of the first zone, in hex.
-fn bytes(alloc: Global, source: &Source, answers: &mut Vec<u8>) -> Result<(), Refusal> {
+fn bytes(alloc: Global, source: &Source, answers: &mut Answers) -> Result<(), Refusal> {
     let found = image(alloc, source, 0)?;
-    Ok(push_hex(alloc, found.octets(), answers)?)
+    push_hex(alloc, found.octets(), answers)?;
+    Ok(())
 }
 
-fn push_hex(alloc: Global, octets: &[u8], answers: &mut Vec<u8>) -> io::Result<()> {
+fn push_hex(alloc: Global, octets: &[u8], answers: &mut Answers) -> Result<(), AllocError> {
     let text = hex::encode(alloc, octets)?;
-    writeln!(answers, "{text}")
+    answers.word(text.as_str());
+    answers.end_line();
+    Ok(())
 }
 
+/// Returns the file of a zone, by its number from 0.
+fn image(alloc: Global, source: &Source, zone: usize) -> Result<Image, Refusal> {
+    if zone >= source.zones() {
+        return Err(Refusal::Call);
+    }
+    match image_of(alloc, source, zone) {
+        Ok(found) => Ok(found),
+        Err(stop) => Err(Refusal::Stop(stop)),
+    }
+}
+
+/// `image ZONE`: appends the size of a file, the two bytes of its version, and the footer that a
+/// reader gives.
 fn image_text(
     alloc: Global,
     source: &Source,
-    zone: usize,
-    answers: &mut Vec<u8>,
+    call: &Call<'_>,
+    answers: &mut Answers,
 ) -> Result<(), Refusal> {
-    let found = image(alloc, source, zone)?;
-    Ok(push_image(&found, answers)?)
+    let found = image(alloc, source, call.number(0, 0, 9)? as usize)?;
+    let octets = found.octets();
+    answers.show(&octets.len());
+    answers.word("bytes,");
+    answers.debug(&octets.get(4));
+    answers.debug_line(&octets.get(55));
+    answers.octets(found.zone().footer_text());
+    answers.end_line();
+    Ok(())
 }
 
 fn at(
     alloc: Global,
     source: &Source,
     call: &Call<'_>,
-    answers: &mut Vec<u8>,
+    answers: &mut Answers,
 ) -> Result<(), Refusal> {
     let found = image(alloc, source, 0)?;
-    Ok(push_answers(found.zone(), call, answers)?)
-}
-
-/// Returns the table of the first zone.
-fn table_of(alloc: Global, source: &Source) -> Result<Table, Refusal> {
-    if source.zones() == 0 {
-        return Err(bad_call());
-    }
-    let place = source.line(0, 0).place;
-    let found = timeline(alloc, source, 0)?;
-    let footer = make(alloc, place, &found)?;
-    let made = table(alloc, place, &found, &footer)?;
-    Ok(made)
-}
-
-/// Appends the version, the transitions, the types, the designations with `/` for NUL, and the
-/// footer.
-fn push_table(made: &Table, answers: &mut Vec<u8>) -> io::Result<()> {
-    writeln!(answers, "version {}", made.version())?;
-    for change in made.changes() {
-        writeln!(answers, "{} type {}", change.instant, change.number)?;
-    }
-    for kind in made.types() {
-        let (offset, flag, place) = (kind.offset, u8::from(kind.daylight), kind.place);
-        writeln!(answers, "type {offset} {flag} {place}")?;
-    }
-    push_names(made.names(), answers)?;
-    writeln!(answers, "{}", text_of(made.footer_text()))
-}
-
-fn push_names(names: &[u8], answers: &mut Vec<u8>) -> io::Result<()> {
-    for byte in names {
-        let shown = if *byte == 0 { b'/' } else { *byte };
-        answers.write_all(&[shown])?;
-    }
-    writeln!(answers, "")
-}
-
-/// Appends the numbers of transitions, types and bytes of designations.
-fn push_counts(made: &Table, answers: &mut Vec<u8>) -> io::Result<()> {
-    let (changes, types, names) = (made.changes().len(), made.types().len(), made.names().len());
-    writeln!(
-        answers,
-        "{changes} transitions, {types} types, {names} bytes"
-    )
-}
-
-/// Returns the file of a zone, by its number from 0.
-fn image(alloc: Global, source: &Source, zone: usize) -> Result<Image, Refusal> {
-    if zone >= source.zones() {
-        return Err(bad_call());
-    }
-    let found = image_of(alloc, source, zone)?;
-    Ok(found)
-}
-
-/// `image ZONE`: appends the size of a file, the two bytes of its version, and the footer that a
-/// reader gives.
-fn push_image(found: &Image, answers: &mut Vec<u8>) -> io::Result<()> {
-    let octets = found.octets();
-    let (size, first, second) = (octets.len(), octets.get(4), octets.get(55));
-    writeln!(answers, "{size} bytes, {first:?} {second:?}")?;
-    writeln!(answers, "{}", text_of(found.zone().footer_text()))
+    push_answers(found.zone(), call, answers)
 }
