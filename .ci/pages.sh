@@ -147,7 +147,8 @@ try_entry() {
         eval "$(commands_of "$wrong")" >"$printed" 2>&1
         [ "$(tail -n 1 "$printed")" = "$prints" ] ||
             differ "$name: the wrong example prints '$(tail -n 1 "$printed")', and not '$prints'"
-        [[ $prints = *"${name% PATH}"* || $name = usage ]] || differ "$name isn't in '$prints'"
+        local words=${name% PATH}
+        [[ $prints = *"${words% NAME}"* || $name = usage ]] || differ "$name isn't in '$prints'"
     fi
     if [ "$right" ]; then
         eval "$(commands_of "$right")" >"$printed" 2>"$printed.err" || echo "status $?" >>"$printed.err"

@@ -214,7 +214,7 @@ expect_usage help
 for word in keyword 'Keyword ' '' --workers; do expect_usage explain "$word"; done
 expect_usage explain Keyword Name
 ask explain
-[ "$(wc -l <../out)" = 61 ] && [[ $(head -n 1 ../out) = 'NotAscii: A byte outside a comment is '* ]] &&
+[ "$(wc -l <../out)" = 62 ] && [[ $(head -n 1 ../out) = 'NotAscii: A byte outside a comment is '* ]] &&
     grep -qx 'RowZone: The source has no zone or link of that name.' ../out ||
     differ "pzic explain: $(wc -l <../out) lines"
 ask explain RowZon
@@ -362,7 +362,8 @@ Nearest name:
 seconds='
 Expected:
   Seconds since 1970-01-01T00:00:00 UT: 1 to 18 digits, with `-` before them
-  for earlier instants, without `+`, spaces or a fraction.
+  for earlier instants, without `+`, spaces or a fraction. With `--unit` 3, 6
+  or 9 digits more.
 
 Usual cause:
   A date, a number with a fraction, or the two fields swapped.'

@@ -192,7 +192,7 @@ static CONVERT: [Word; 14] = [
     },
     Word {
         name: "delimiter",
-        help: "What stands between fields: a character, or tab",
+        help: "Between fields: a character, or tab",
         form: Form::Delimiter,
     },
     Word {
