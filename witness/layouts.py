@@ -4,12 +4,13 @@ and zoneinfo make of the same columns.
 
 usage: layouts.py PROGRAM SOURCE FOLDER
 
-FOLDER has the folder `ours` with our files of SOURCE. Each column has 100,000 random records of a fixed seed over all zones and links,
-near transitions and elsewhere, and in one of a hundred quotes round each field, with delimiters and line ends within the fields that
-aren't read. Each option is tried alone and with each other one, by 1 and 4 workers. Prints a line for each, and the first differences;
+FOLDER has the folder `ours` with our files of SOURCE. Each column has the same 100,000 random instants of a fixed seed over all zones and
+links, near transitions and elsewhere, counted in the unit of the column, and in one of a hundred records quotes round each field, with
+delimiters and line ends within the fields that aren't read. Each option is tried alone and with each other one, by 1 and 4 workers. Prints a line for each, and the first differences;
 the status is 1 if there is one.
 """
 import csv
+import functools
 import io
 import itertools
 import random
@@ -36,14 +37,19 @@ OPTIONS = {
 TOGETHER = [("delimiter", "semicolon"), ("ms", "us"), ("ms", "ns"), ("us", "ns")]      # that are one option
 
 
-def counts_of(folder, names, digits):
-    """names and counts of units, of which there are so many digits in a second"""
+def moments_of(folder, names):
+    """names, seconds, and nanoseconds after them"""
     instants = {name: files.instants_of(file_of(folder, name)) for name in names}
     for number in range(RECORDS):
         name = random.choice(names)
         near = 7200 if number % 3 else 0
         second = random.randint(FIRST, LAST) if number % 3 == 2 else random.choice(instants[name]) + random.randint(-near, near)
-        yield name, min(max(second, FIRST), LAST) * 10 ** digits + random.randrange(10 ** digits)
+        yield name, min(max(second, FIRST), LAST), random.randrange(10 ** 9)
+
+
+@functools.cache
+def row_of(name, second):
+    return row(name, zoneinfo.ZoneInfo(name), second).split(",")
 
 
 def column_of(pairs, chosen, delimiter):
@@ -77,7 +83,7 @@ def rows_of(records, chosen, delimiter, digits):
         yield delimiter.join(["zone", "instant", "local", "offset", "daylight", "abbreviation"])
     for name, count in records:
         second, fraction = divmod(count, 10 ** digits)
-        fields = row(name, zoneinfo.ZoneInfo(name), second).split(",")
+        fields = list(row_of(name, second))
         fields[1] = str(count)
         if digits:
             fields[2] += f".{fraction:0{digits}}"
@@ -91,10 +97,11 @@ def words_of(chosen):
     return words
 
 
-def try_options(program, source, folder, names, chosen):
+def try_options(program, source, moments, chosen):
     delimiter = "\t" if "delimiter" in chosen else ";" if "semicolon" in chosen else ","
     digits = max([UNITS.get(option, 0) for option in chosen])
-    text = column_of(counts_of(folder, names, digits), chosen, delimiter)
+    counts = [(name, second * 10 ** digits + nano // 10 ** (9 - digits)) for name, second, nano in moments]
+    text = column_of(counts, chosen, delimiter)
     wanted = list(rows_of(records_of(text, chosen, delimiter), chosen, delimiter, digits))
     for workers in "1", "4":
         done = subprocess.run([program, "convert", "--workers", workers, *words_of(chosen), source], input=text.encode(), capture_output=True)
@@ -107,12 +114,12 @@ def try_options(program, source, folder, names, chosen):
 def main(program, source, folder):
     random.seed(34)
     zoneinfo.reset_tzpath([f"{folder}/ours"])
-    names = files.names_of(f"{folder}/ours")
+    moments = list(moments_of(folder, files.names_of(f"{folder}/ours")))
     for option in OPTIONS:
-        try_options(program, source, folder, names, (option,))
+        try_options(program, source, moments, (option,))
     for pair in itertools.combinations(OPTIONS, 2):
         if pair not in TOGETHER:
-            try_options(program, source, folder, names, pair)
+            try_options(program, source, moments, pair)
 
 
 main(*sys.argv[1:])
