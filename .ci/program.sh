@@ -761,7 +761,7 @@ done
 # A folder that may not be written.
 rm -rf tree
 mkdir tree
-chmod 755 . .. ../..
+chmod 755 . ..
 chmod 555 tree
 run=()
 if [ "$(id -u)" = 0 ]; then run=(setpriv --reuid 65534 --regid 65534 --clear-groups); fi
