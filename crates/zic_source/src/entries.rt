@@ -83,6 +83,26 @@ impl Entries {
         }
     }
 
+    /// Adds a zone of one line.
+    pub(crate) fn add_zone(
+        &mut self,
+        alloc: Global,
+        name: Name,
+        line: ZoneLine,
+    ) -> Result<(), AllocError>
+        ensures { OnOk result (source_lines self.new ≡ record (source_lines self.old) {
+          zones = self.old.zones.items
+              ++ record { name = name; first = line; continuations = [] } ∷ [];
+        }) }
+    {
+        self.zones.push(ZoneEntry {
+            name,
+            first: line,
+            continuations: Vec::new(alloc),
+        })?;
+        Ok(())
+    }
+
     /// Adds a continuation line to the last zone.
     pub(crate) fn continue_zone(&mut self, line: ZoneLine) -> Result<(), AllocError>
         requires { 0 < length self.old.zones.items }

@@ -16,12 +16,14 @@ ghost use Rattle.zic_source.specs.Grammar.{is_open, IsSource};
 ghost use Rattle.zic_source.specs.Checks.{entry_checks, has_room_for_line, has_room_for_name};
 ghost use Rattle.zic_source.specs.FirstFault.{Fails, IsFirstFault, MayRunOutOfMemory};
 ghost use Rattle.zic_source.specs.Links.{is_named};
-ghost use Rattle.zic_source.specs.code.Adding.{with_entry};
+ghost use Rattle.zic_source.specs.declared.owners.Owner.TheVariants as owners;
+ghost use Rattle.zic_source.specs.code.Adding.{with_entry, zone_checks, link_checks};
+ghost use Rattle.zic_source.specs.code.Owners.{Gives};
 ghost use Rattle.zic_source.specs.code.Lines.{source_lines};
 ghost use Rattle.zic_source.specs.code.Reader.{Tracks};
 ghost use Rattle.zic_source.specs.code.Events.{Adds, Leads, FailsIn, WantsIn};
 
-use crate::entries::{Entries, ZoneEntry};
+use crate::entries::Entries;
 use crate::limit::{MAX_NAMES, MAX_RULES, MAX_ZONE_LINES};
 use crate::owners::{Owner, Owners};
 use crate::sets::Sets;
@@ -133,6 +135,48 @@ impl<'a> Reader<'a> {
         Ok(())
     }
 
+    /// Gives a name to the next zone, where the name is new and there may be one more zone.
+    fn name_zone(&mut self, place: Place, name: &Name) -> Result<(), Stop>
+        requires { Tracks self.old }
+        ensures others { self.new ≡ record self.old { names = self.new.names } }
+        ensures passes { OnOk result
+            (first_failed (zone_checks (source_lines self.old.lines) name.now) ≡ None) }
+        ensures names { OnOk result
+            (Gives self.old.names name.now (owners.Zone (length self.old.lines.zones.items))
+            self.new.names) }
+        ensures fault { IfRefusal fault_of result
+            (IsFirstFailed place (zone_checks (source_lines self.old.lines) name.now)) }
+        ensures memory { OnOutOfMemory fault_of result
+            (first_failed (zone_checks (source_lines self.old.lines) name.now) ≡ None) }
+    {
+        if !self.has_room_for_zone() {
+            return Err(Stop::at(place, self.no_room(name)));
+        }
+        let number = self.lines.zones.len();
+        self.names.give_new(place, name, Owner::Zone(number))
+    }
+
+    /// Gives a name to the next link, where the name is new and there may be one more name.
+    fn name_link(&mut self, place: Place, name: &Name) -> Result<(), Stop>
+        requires { Tracks self.old }
+        ensures others { self.new ≡ record self.old { names = self.new.names } }
+        ensures passes { OnOk result
+            (first_failed (link_checks (source_lines self.old.lines) name.now) ≡ None) }
+        ensures names { OnOk result
+            (Gives self.old.names name.now (owners.Link (length self.old.lines.links.items))
+            self.new.names) }
+        ensures fault { IfRefusal fault_of result
+            (IsFirstFailed place (link_checks (source_lines self.old.lines) name.now)) }
+        ensures memory { OnOutOfMemory fault_of result
+            (first_failed (link_checks (source_lines self.old.lines) name.now) ≡ None) }
+    {
+        if !self.has_room_for_name() {
+            return Err(Stop::at(place, self.no_room(name)));
+        }
+        let number = self.lines.links.len();
+        self.names.give_new(place, name, Owner::Link(number))
+    }
+
     /// Adds a zone, where its name is new and there may be one more.
     fn add_zone(
         &mut self,
@@ -153,18 +197,8 @@ impl<'a> Reader<'a> {
             (first_failed (entry_checks (source_lines self.old.lines) (entries.Zone name line))
             ≡ None) }
     {
-        if !self.has_room_for_zone() {
-            return Err(Stop::at(place, self.no_room(&name)));
-        }
-        let number = self.lines.zones.len();
-        if self.names.give(&name, Owner::Zone(number))?.is_some() {
-            return Err(Stop::at(place, Kind::DuplicateName));
-        }
-        self.lines.zones.push(ZoneEntry {
-            name,
-            first: line,
-            continuations: Vec::new(alloc),
-        })?;
+        self.name_zone(place, &name)?;
+        self.lines.add_zone(alloc, name, line)?;
         self.zone_lines += 1;
         Ok(())
     }
@@ -206,13 +240,7 @@ impl<'a> Reader<'a> {
             (first_failed (entry_checks (source_lines self.old.lines) (entries.Link link))
             ≡ None) }
     {
-        if !self.has_room_for_name() {
-            return Err(Stop::at(place, self.no_room(&link.name)));
-        }
-        let number = self.lines.links.len();
-        if self.names.give(&link.name, Owner::Link(number))?.is_some() {
-            return Err(Stop::at(place, Kind::DuplicateName));
-        }
+        self.name_link(place, &link.name)?;
         self.lines.links.push(link)?;
         Ok(())
     }

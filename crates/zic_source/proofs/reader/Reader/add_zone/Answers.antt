@@ -1,54 +1,26 @@
-use Rattle.std.proofs.Common.{◌≡◌, ◌∷◌, [], ◌++◌, ℕ, false, cond, List, Some, None, length, refl, sym, ap, subst, ◌∙◌, arith}
-use Rattle.std.specs.Prelude.{flat_map, bytes_eq}
-use Rattle.std.proofs.lemmas.Result.{err_from_is_err_and}
-use Rattle.zic_lines.specs.declared.zone_line.ZoneLine.{ZoneLine}
-use Rattle.zic_source.specs.declared.owners.Owner.TheVariants as named
-use Rattle.zic_source.specs.Source.{ZoneLines, lines_of_zone}
+use Rattle.std.proofs.Common.{◌≡◌, ◌∷◌, [], ◌++◌, length, refl, sym, ap, subst, ◌∙◌, arith}
+use Rattle.zic_source.specs.declared.reader.Reader.{Reader}
+use Rattle.zic_source.specs.Source.{SourceLines, ZoneLines, zone_lines_of}
 use Rattle.zic_source.specs.code.Lines.{source_lines}
-use Rattle.zic_source.specs.code.Owners.{who, IndexesNames}
-use Rattle.zic_source.proofs.lookups.Named.{looked_up, nobody_found, zone_kept}
-use Rattle.zic_source.proofs.events.Passes.{zone_passes, zone_counted}
+use Rattle.zic_source.specs.code.Owners.{IndexesNames}
+use Rattle.zic_source.specs.code.Sets.{IndexesSets}
+use Rattle.zic_source.proofs.lookups.Named.{zone_kept}
+use Rattle.zic_source.proofs.events.NewNames.{fresh_zone}
+use Rattle.zic_source.proofs.events.Passes.{zone_counted}
 use Rattle.zic_source.proofs.reader.Reader.add_zone.Goals as goal
-
-pub returns-in_err-give-clause-memory : goal.returns-in_err-give-clause-memory
-returns-in_err-give-clause-memory c =
-    let p = err_from_is_err_and c.from_residual.result c.from_residual.ensures.1 in
-    let new = looked_up c.args.self.now.names (source_lines c.args.self.now.lines) c.args.name None false c.requires.names (sym c.in_err-give.ensures.memory) refl in
-    rw (p.1, p.2) (zone_passes _ _ _ new (sym c.has_room_for_zone.ensures ∙ c.if-not-has_room_for_zone.false))
-
-pub returns-then-is_some-clause-fault : goal.returns-then-is_some-clause-fault
-returns-then-is_some-clause-fault c =
-    let known = looked_up c.args.self.now.names (source_lines c.args.self.now.lines) c.args.name _ _ c.requires.names c.in_ok-give.ensures.had c.is_some.ensures ∙ c.if-is_some.true in
-    rw c.at-then-is_some.ensures (refl, rw known refl)
-
-pub returns-in_err-push-clause-memory : goal.returns-in_err-push-clause-memory
-returns-in_err-push-clause-memory c =
-    let p = err_from_is_err_and c.from_residual-in_err-push.result c.from_residual-in_err-push.ensures.1 in
-    let new = looked_up c.args.self.now.names (source_lines c.args.self.now.lines) c.args.name _ _ c.requires.names c.in_ok-give.ensures.had c.is_some.ensures ∙ c.if-is_some.false in
-    rw (p.1, p.2) (zone_passes _ _ _ new (sym c.has_room_for_zone.ensures ∙ c.if-not-has_room_for_zone.false))
-
-pub returns-clause-added : goal.returns-clause-added
-returns-clause-added c =
-    let lines = c.args.self.now.lines in
-    let new = looked_up c.args.self.now.names (source_lines lines) c.args.name _ _ c.requires.names c.in_ok-give.ensures.had c.is_some.ensures ∙ c.if-is_some.false in
-    record {
-      passes = zone_passes _ _ _ new (sym c.has_room_for_zone.ensures ∙ c.if-not-has_room_for_zone.false);
-      is = ap (λ (zones : List ZoneLines). record { rules = lines.rules.items; zones = zones; links = lines.links.items })
-          (c.in_ok-push.ensures.items ∙ ap (λ (more : List ZoneLine). lines.zones.items ++ record { name = c.args.name; first = c.args.line; continuations = more } ∷ []) c.new.ensures.items);
-    }
 
 pub returns-clause-tracks : goal.returns-clause-tracks
 returns-clause-tracks c =
-    let lines = c.args.self.now.lines in
-    let names = c.args.self.now.names in
-    let zone : ZoneLines = record { name = c.args.name; first = c.args.line; continuations = c.new.result.items } in
-    let new = looked_up names (source_lines lines) c.args.name _ _ c.requires.names c.in_ok-give.ensures.had c.is_some.ensures ∙ c.if-is_some.false in
-    let number : c.len-number.result ≡ length lines.zones.items = omega (arith, lines.zones.ok.0) in
-    let given = c.in_ok-give.ensures.given (nobody_found c.in_ok-give.field-0 c.is_some.result c.is_some.ensures c.if-is_some.false) in
+    let old = c.args.self.now in
+    let named = c.name_zone.new.self in
+    let same = c.name_zone.ensures.others in
+    let zone : ZoneLines = record { name = c.args.name; first = c.args.line; continuations = [] } in
+    let lines : source_lines c.add_zone.new.self ≡ record (source_lines old.lines) { zones = old.lines.zones.items ++ zone ∷ [] } =
+    c.in_ok-add_zone.ensures ∙ ap (λ (r : Reader). record (source_lines r.lines) { zones = r.lines.zones.items ++ zone ∷ [] }) same in
     record {
-      sets = c.requires.sets;
-      names = subst (λ (zones : List ZoneLines). IndexesNames c.give.new.self (record { rules = lines.rules.items; zones = zones; links = lines.links.items })) (sym c.in_ok-push.ensures.items)
-          (zone_kept names c.give.new.self (source_lines lines) zone c.requires.names new
-          (λ other. given other ∙ ap (λ (n : ℕ). cond (bytes_eq c.args.name other) (Some (named.Zone n)) (who names other)) number));
-      counted = omega (arith, ap (λ (zones : List ZoneLines). length (flat_map lines_of_zone zones)) c.in_ok-push.ensures.items, zone_counted lines.zones.items zone c.new.ensures.items, c.requires.counted);
+      sets = subst (λ (r : Reader). IndexesSets r.sets c.add_zone.new.self.rules.items) (sym same)
+          (subst (IndexesSets old.sets) (sym (ap (λ (s : SourceLines). s.rules) lines)) c.requires.sets);
+      names = subst (λ (s : SourceLines). IndexesNames named.names s) (sym lines)
+          (zone_kept old.names named.names (source_lines old.lines) zone c.requires.names (fresh_zone (source_lines old.lines) c.args.name c.in_ok-name_zone.ensures.passes) c.in_ok-name_zone.ensures.names);
+      counted = omega (arith, ap (λ (s : SourceLines). length (zone_lines_of s)) lines, zone_counted old.lines.zones.items zone refl, ap (λ (r : Reader). r.zone_lines) same, c.requires.counted);
     }
