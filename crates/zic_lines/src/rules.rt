@@ -22,9 +22,9 @@ pub enum Rules {
 fn begins_amount(field: &[u8]) -> bool
     ensures { result ≡ begins_amount field.now }
 {
-    match field {
-        [] => false,
-        [byte, ..] => byte.is_ascii_digit() || matches!(*byte, b'-' | b'+'),
+    match field.first() {
+        None => false,
+        Some(byte) => byte.is_ascii_digit() || *byte == b'-' || *byte == b'+',
     }
 }
 

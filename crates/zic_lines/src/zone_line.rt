@@ -158,5 +158,8 @@ fn named(
     ensures name { IfOk result (λ zone. name ≡ Ok zone.0) }
     ensures line { IfOk result (λ zone. line ≡ Ok zone.1) }
 {
-    Ok((name?, line?))
+    match (name, line) {
+        (Ok(name), Ok(line)) => Ok((name, line)),
+        _ => Err(AllocError),
+    }
 }

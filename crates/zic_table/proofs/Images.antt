@@ -1,10 +1,12 @@
--- What holds of a zone and the content of its table holds of the zone of a source and what is read.
-use Rattle.std.proofs.Common.{◌≡◌, ℕ, List, sym, subst, ◌∙◌}
-use Rattle.zic_states.specs.Zone.{Zone}
+-- The zone that a reader makes of the bytes of a content is that content.
+use Rattle.std.proofs.Common.{◌≡◌, ℕ, List, sym, ap, ◌∙◌}
+use Rattle.zic_files.specs.File.{FileImage}
 use Rattle.zic_tzif.specs.Content.{Content}
 use Rattle.zic_tzif.specs.Reading.{IsFile}
 
-pub also_read : (P : Zone → Content → Type 0) (zone other : Zone) (octets : List ℕ) (made read : Content)
-    → zone ≡ other → IsFile octets made → IsFile octets read → P zone made → P other read
-also_read P zone other octets made read same written again holds =
-    subst (P other) (written.says ∙ sym again.says) (subst (λ (z : Zone). P z made) same holds)
+abbrev image : List ℕ → Content → FileImage
+image octets content = record { octets = octets; content = content }
+
+pub read_again : (octets other : List ℕ) (made read : Content) → octets ≡ other → IsFile octets made → IsFile octets read → image octets read ≡ image other made
+read_again octets other made read same written again =
+    ap (λ (c : Content). image octets c) (again.says ∙ sym written.says) ∙ ap (λ (o : List ℕ). image o made) same

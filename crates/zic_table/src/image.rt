@@ -1,10 +1,11 @@
 //! The file of a zone, and the zone that a reader makes of it.
 
-ghost use Rattle.std.specs.Prelude.{◌<◌, length, IfOk};
+ghost use Rattle.std.specs.Prelude.{◌≡◌, ◌<◌, length, IfOk};
 ghost use Rattle.zic_base.specs.Fault.{fault_of};
 ghost use Rattle.zic_base.specs.Memory.{IfRefusal, OnOutOfMemory};
 ghost use Rattle.zic_rules.specs.Period.{zone_of};
 ghost use Rattle.zic_tzif.specs.Reading.{IsFile, IsSomeFile};
+ghost use Rattle.zic_tzif.specs.Writing.{written};
 ghost use Rattle.zic_table.specs.Image.{IsImageOf, ReadsAs, IsFaultOfZone, ImageNeedsMemory};
 
 use crate::maker::table;
@@ -14,7 +15,7 @@ use zic_files::Image;
 use zic_footer::make;
 use zic_rules::timeline;
 use zic_source::Source;
-use zic_tzif::{ReadStop, Zone, read, write};
+use zic_tzif::{ReadStop, Table, Zone, read, write};
 
 /// Compiles the file of a zone, by the zone's number from 0 in the order of texts and lines: its
 /// first state, all its changes before the explicit end and its footer, which, read by RFC 9636,
@@ -36,7 +37,16 @@ pub fn image_of(alloc: Global, source: &Source, zone: usize) -> Result<Image, St
     let states = timeline(alloc, source, zone)?;
     let footer = make(alloc, place, &states)?;
     let table = table(alloc, place, &states, &footer)?;
-    let octets = write(alloc, &table)?;
+    Ok(file_of(alloc, &table)?)
+}
+
+/// Returns the file of a table, and the zone that a reader makes of it.
+fn file_of(alloc: Global, table: &Table) -> Result<Image, AllocError>
+    ensures is { IfOk result
+        (λ image. image ≡ record { octets = written table.now; content = table.now }) }
+    ensures read { IfOk result (λ _. IsFile (written table.now) table.now) }
+{
+    let octets = write(alloc, table)?;
     let zone = read_back(alloc, &octets)?;
     Ok(Image::new(octets, zone))
 }

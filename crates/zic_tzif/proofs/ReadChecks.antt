@@ -1,5 +1,5 @@
 -- The first check that fails, by the outcome of each.
-use Rattle.std.proofs.Common.{◌≡◌, ℕ, suc, ◌+◌, ◌<◌, ◌≤◌, Bool, true, false, not, ◌||◌, cond, List, [], ◌∷◌, length, take, drop, Option, Some, None, refl, sym, ap, ◌∙◌, arith}
+use Rattle.std.proofs.Common.{◌≡◌, ℕ, suc, ◌+◌, ◌<◌, ◌≤◌, ◌⊎◌, inl, inr, Bool, true, false, not, ◌||◌, cond, List, [], ◌∷◌, length, take, drop, Option, Some, None, refl, sym, ap, ◌∙◌, arith}
 use Rattle.std.specs.Prelude.{nat_le, nat_lt, ◌==◌, slice_index}
 use Rattle.std.specs.List.{list_any, position, position_or_len, before_first}
 use Rattle.std.proofs.lemmas.Bool.{lt-ltb, ltb-true, not-true, not-false, and_parts}
@@ -9,9 +9,10 @@ use Rattle.std.specs.Str.{bytes_eq}
 use Rattle.zic_base.specs.Check.{first_failed}
 use Rattle.zic_tzif.specs.declared.reason.Reason.{Reason}
 use Rattle.zic_tzif.specs.declared.reason.Reason.TheVariants as reason
-use Rattle.zic_tzif.specs.Header.{Counts, counts_at, block_length, second_header, second_counts, footer_place}
+use Rattle.zic_base.specs.declared.limit.TheConstants.{LONGEST_FILE}
+use Rattle.zic_tzif.specs.Header.{Counts, counts_at, block_length, second_header, second_block, second_counts, footer_place}
 use Rattle.zic_tzif.specs.Block.{behind_newline}
-use Rattle.zic_tzif.specs.Reading.{are_counts, second_checks, footer_checks}
+use Rattle.zic_tzif.specs.Reading.{are_counts, first_checks, second_checks, footer_checks}
 
 -- whether two headers begin alike, by the answer of `!=`
 marks : (o : List ℕ) (header : ℕ) (m n : List ℕ) (same : Bool) → m ≡ take 5 (drop header o) → n ≡ take 5 o → bytes_eq m n ≡ same → bytes_eq (take 5 (drop header o)) (take 5 o) ≡ same
@@ -23,6 +24,29 @@ marks_differ o header m n ne m-is n-is e t = marks o header m n false m-is n-is 
 
 pub marks_agree : (o : List ℕ) (header : ℕ) (m n : List ℕ) (ne : Bool) → m ≡ take 5 (drop header o) → n ≡ take 5 o → ne ≡ not (bytes_eq m n) → ne ≡ false → bytes_eq (take 5 (drop header o)) (take 5 o) ≡ true
 marks_agree o header m n ne m-is n-is e t = marks o header m n true m-is n-is (not-false (bytes_eq m n) (sym e ∙ t))
+
+abbrev of_first : Bool → Bool → Bool → Bool → Bool → Bool → Option Reason
+of_first a b c d e f =
+    cond a (cond b (cond c (cond d (cond e (cond f None (Some reason.Short)) (Some reason.LeapSeconds)) (Some reason.Version)) (Some reason.Magic)) (Some reason.Short)) (Some reason.TooLarge)
+
+-- of the first header's checks
+pub first_outcome : (o : List ℕ) (small there magic known leap whole : Bool)
+    → nat_le (length o) LONGEST_FILE ≡ small → nat_le 44 (length o) ≡ there → bytes_eq (take 4 o) (84 ∷ 90 ∷ 105 ∷ 102 ∷ []) ≡ magic
+    → ((slice_index o 4 == 50) || (slice_index o 4 == 51)) ≡ known → ((counts_at o 0).leap_seconds == 0) ≡ leap → nat_le (second_block o) (length o) ≡ whole
+    → first_failed (first_checks o) ≡ of_first small there magic known leap whole
+first_outcome o small there magic known leap whole e1 e2 e3 e4 e5 e6 =
+    let b1 = nat_le 44 (length o) in
+    let b2 = bytes_eq (take 4 o) (84 ∷ 90 ∷ 105 ∷ 102 ∷ []) in
+    let b3 = (slice_index o 4 == 50) || (slice_index o 4 == 51) in
+    let b4 = (counts_at o 0).leap_seconds == 0 in
+    let b5 = nat_le (second_block o) (length o) in
+    ap (λ a. of_first a b1 b2 b3 b4 b5) e1 ∙ ap (λ b. of_first small b b2 b3 b4 b5) e2 ∙ ap (λ c. of_first small there c b3 b4 b5) e3
+    ∙ ap (λ d. of_first small there magic d b4 b5) e4 ∙ ap (λ e. of_first small there magic known e b5) e5 ∙ ap (of_first small there magic known leap) e6
+
+-- a byte of one of the two versions
+pub is_version : (byte : ℕ) → (byte ≡ 50) ⊎ (byte ≡ 51) → ((byte == 50) || (byte == 51)) ≡ true
+is_version byte (inl e) = rw e refl
+is_version byte (inr e) = rw e refl
 
 abbrev of_second : Bool → Bool → Bool → Bool → Option Reason
 of_second a b c d =

@@ -1,10 +1,18 @@
-use Rattle.std.proofs.Common.{◌≡◌, ◌+◌, ◌≤◌, true, false, take, drop, length, sym, ap, ◌∙◌, Some, None, arith}
+use Rattle.std.proofs.Common.{◌≡◌, ◌+◌, ◌≤◌, true, false, take, drop, length, refl, sym, ap, ◌∙◌, Some, None, arith}
 use Rattle.std.specs.Prelude.{◌==◌}
 use Rattle.std.specs.List.{position, before_first}
-use Rattle.std.proofs.lemmas.Bool.{lt-ltb, eq-eqb}
+use Rattle.std.proofs.lemmas.Bool.{lt-ltb, le-ltb, eq-eqb, ne_eqb}
 use Rattle.std.proofs.lemmas.List.{take_rest, length-take, length-drop}
 use Rattle.zic_tzif.proofs.ReadChecks.{footer_outcome, not_there, is_there}
 use Rattle.zic_tzif.proofs.reader.footer_text.Goals as goal
+
+pub returns-then-octets-place : goal.returns-then-octets-place
+returns-then-octets-place c =
+    footer_outcome c.args.octets.now c.args.place false _ _ c.requires (le-ltb _ _ c.if-octets-place.true) refl refl
+
+pub returns-then-octets-place-ne10 : goal.returns-then-octets-place-ne10
+returns-then-octets-place-ne10 c =
+    footer_outcome c.args.octets.now c.args.place true false _ c.requires (lt-ltb _ _ c.if-octets-place.false) (ne_eqb _ _ c.if-octets-place-ne10.true) refl
 
 pub returns-in-None : goal.returns-in-None
 returns-in-None c =
