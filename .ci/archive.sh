@@ -19,4 +19,4 @@ words+=(--antt-project "$kit/rattle/logic/antt-project.json" --logic-built "$kit
 words+=(--links pzic_c= --crate-type staticlib --toolchain "$kit/toolchain" --backend llvm)
 cd crates/pzic_c
 mkdir -p out
-"$kit/bin/rattle" build "${words[@]}" --jobs 2 -o out/libpzic_c.a
+"$kit/bin/rattle" build "${words[@]}" --jobs 1 -o out/libpzic_c.a
