@@ -1,3 +1,4 @@
+use Rattle.std.proofs.Common.{rules}
 use Rattle.std.proofs.lemmas.Result.{err_from_is_err_and}
 use Rattle.zic_source.specs.Texts.{texts_of}
 use Rattle.zic_bulk.proofs.Stops.{reading_stop}
@@ -10,3 +11,6 @@ returns-in_err-source-clause-err g c =
 
 pub returns-clause-ok : goal.returns-clause-ok
 returns-clause-ok g c = record { source = c.in_ok-source.source; is_source = c.in_ok-source.ensures.found; are_files = c.in_ok-files.ensures.ok }
+
+pub returns-clause-err : goal.returns-clause-err
+returns-clause-err c = search rules

@@ -1,4 +1,4 @@
-use Rattle.std.proofs.Common.{FitsSigned, w64}
+use Rattle.std.proofs.Common.{FitsSigned, w64, rules}
 use Rattle.std.proofs.lemmas.Int.{to_z-of_z}
 use Rattle.std.proofs.lemmas.Result.{err_from_is_err_and}
 use Rattle.zic_tzif.specs.Answer.{answered}
@@ -24,3 +24,6 @@ pub returns-in_err-zone-clause-err : goal.returns-in_err-zone-clause-err
 returns-in_err-zone-clause-err c =
     let p = err_from_is_err_and c.from_residual.result c.from_residual.ensures.1 in
     rw (p.1, p.2) (read_stop c.args.bytes.now c.in_err-zone.field-0.0 c.in_err-zone.ensures.err)
+
+pub returns-clause-err : goal.returns-clause-err
+returns-clause-err c = search rules

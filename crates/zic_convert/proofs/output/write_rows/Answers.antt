@@ -64,3 +64,6 @@ loop-rows-preserved g c =
     let wrote = subst (λ (l : List ℕ). Wrote contents c.loop-rows.writer c.write_all.new.writer l) text c.in_ok-write_all.ensures.ok in
     let count = ap (λ (r : RowsOf). r.count) c.rows.view_is in
     (inv.0 ++ rows.text, rw count left, wrote_both contents c.args.writer.now c.loop-rows.writer c.write_all.new.writer inv.0 rows.text inv.2 wrote)
+
+pub returns-clause-err : goal.returns-clause-err
+returns-clause-err c = search rules

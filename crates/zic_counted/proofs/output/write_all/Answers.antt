@@ -1,4 +1,4 @@
-use Rattle.std.proofs.Common.{◌++◌, take}
+use Rattle.std.proofs.Common.{◌++◌, take, rules}
 use Rattle.zic_counted.proofs.Bytes.{moved, writes_both}
 use Rattle.zic_counted.proofs.output.write_all.Goals as goal
 
@@ -12,3 +12,6 @@ loop-rest-preserved g c =
       writes_both g.W.Write.contents c.args.writer.now c.loop-rest.writer c.write.new.self inv.0 (take n rest) inv.2
           (record { wrote = c.in-Ok.ensures.bytes; counts = c.in-Ok.ensures.some c.if-n-gt0.true }),
     )
+
+pub returns-clause-err : goal.returns-clause-err
+returns-clause-err c = search rules

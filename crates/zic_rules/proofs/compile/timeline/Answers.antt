@@ -29,3 +29,18 @@ timeline_of-requires c = record {
     periods = c.in_ok-all.ensures.all;
   };
 }
+
+pub returns-clause-ok : goal.returns-clause-ok
+returns-clause-ok c = search rules
+
+pub returns-clause-sound : goal.returns-clause-sound
+returns-clause-sound c = search rules
+
+pub returns-clause-err : goal.returns-clause-err
+returns-clause-err c = search rules
+
+pub returns-clause-memory : goal.returns-clause-memory
+returns-clause-memory c = search rules
+
+pub returns-clause-fixed : goal.returns-clause-fixed
+returns-clause-fixed c = search rules

@@ -1,4 +1,4 @@
-use Rattle.std.proofs.Common.{◌≡◌, ◌∙◌, ◌++◌, map, List, Option, arith, ap, subst, sym, ℤ, pos, ◌+ℤ◌, ◌<ℤ◌, ◌≤ℤ◌, to_z, of_z, w64}
+use Rattle.std.proofs.Common.{◌≡◌, ◌∙◌, ◌++◌, map, List, Option, arith, ap, subst, sym, ℤ, pos, ◌+ℤ◌, ◌<ℤ◌, ◌≤ℤ◌, to_z, of_z, w64, rules}
 use Rattle.std.specs.Prelude.{IfSome}
 use Rattle.std.proofs.lemmas.Int.{ints}
 use Rattle.zic_occurrences.specs.declared.occurrence.TimedOccurrence.{TimedOccurrence}
@@ -89,3 +89,9 @@ returns-clause-held c =
     (window_of_line zone number w has c.window_end-window.ensures.window) from to in_years.1 split first
     (e ∙ ap (λ (l : List Period). l ++ more) c.in_ok-push.ensures.items))
     c.add_occurrences-2.ensures.items
+
+pub returns-clause-none : goal.returns-clause-none
+returns-clause-none c = search rules
+
+pub returns-clause-memory : goal.returns-clause-memory
+returns-clause-memory c = search rules

@@ -35,3 +35,6 @@ loop-preserved c =
       enough = subst (λ (xs : List ℕ). left * 8 ≤ length xs) (sym c.split_at-in-loop.ensures.back) (enough_left 8 c.args.count c.loop.counter rest c.loop-test.true c.loop.invariant.enough);
       left = subst (λ (xs : List ℕ). do_rise (time ∷ map time_in (pieces 8 left xs)) ≡ total) (sym c.split_at-in-loop.ensures.back) so_far;
     }
+
+pub returns : goal.returns
+returns c = search rules

@@ -1,4 +1,4 @@
-use Rattle.std.proofs.Common.{ap, ◌+◌, ◌∙◌}
+use Rattle.std.proofs.Common.{ap, ◌+◌, ◌∙◌, rules}
 use Rattle.std.specs.Prelude.{option_map}
 use Rattle.zic_words.specs.Month.{month_of}
 use Rattle.zic_words.proofs.month.parse_month.Goals as goal
@@ -10,3 +10,9 @@ returns-in_err-place-clause-value c = c.from_residual.ensures ∙ ap (option_map
 pub returns-clause-value : goal.returns-clause-value
 unfolding month_of
 returns-clause-value c = ap (option_map (λ place. place + 1)) c.in_ok-place.ensures.value
+
+pub returns-clause-low : goal.returns-clause-low
+returns-clause-low c = search rules
+
+pub returns-clause-high : goal.returns-clause-high
+returns-clause-high c = search rules

@@ -21,3 +21,6 @@ returns-clause-ok c =
     let given = rw c.byte.ensures.byte at c.exchange.ensures in
     rw (← ap (λ (t : Told). t.state) c.self.view_is)
     (row_exchanged c.args.layout.now.delimiter (length copied - start) old row copied c.exchange.new.bytes _ start c.push_counted.new.text.len at is left given size)
+
+pub returns-clause-cache : goal.returns-clause-cache
+returns-clause-cache c = search rules

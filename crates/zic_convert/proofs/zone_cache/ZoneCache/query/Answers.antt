@@ -28,3 +28,6 @@ returns-clause-answer c =
     let fits : FitsSigned w64 c.in_ok-instant.instant = search rules in
     rw c.in-Pair.is (shown_of c.args.self.now c.ask.new.self c.args.most c.args.number c.in-Pair.name c.in-Pair.field c.in-Some.zone.now _ c.if-most-number.false
     (c.ask.ensures.files ∙ c.turn_to.ensures.files) of c.ask.ensures.says refl refl (rw (to_z-of_z fits) c.in_ok-instant.ensures))
+
+pub returns-clause-files : goal.returns-clause-files
+returns-clause-files c = search rules

@@ -53,3 +53,12 @@ overflow_add-pass c =
     let f = given_fits v l.2 in
     let count = k.3 in
     omega arith
+
+pub returns-clause-whose : goal.returns-clause-whose
+returns-clause-whose c = search rules
+
+pub returns-clause-answer : goal.returns-clause-answer
+returns-clause-answer c = search rules
+
+pub returns-clause-sound : goal.returns-clause-sound
+returns-clause-sound c = search rules

@@ -37,3 +37,9 @@ overflow_add-result-3 c =
 
 pub invariant_of-result : goal.invariant_of-result
 invariant_of-result c = all_kept c
+
+pub returns-clause-joined : goal.returns-clause-joined
+returns-clause-joined c = search rules
+
+pub returns-clause-sound : goal.returns-clause-sound
+returns-clause-sound c = search rules

@@ -12,3 +12,9 @@ fetch_min-requires c =
 
 pub invariant_of-pass : goal.invariant_of-pass
 invariant_of-pass c = let t = c.fetch_min.ensures.2 in kept_report _ _ _ _ _ c.pass.invariant _ t.0 t.1 t.2
+
+pub returns-clause-reported : goal.returns-clause-reported
+returns-clause-reported c = search rules
+
+pub returns-clause-sound : goal.returns-clause-sound
+returns-clause-sound c = search rules

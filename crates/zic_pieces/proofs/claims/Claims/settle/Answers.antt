@@ -1,4 +1,4 @@
-use Rattle.std.proofs.Common.{◌≡◌, ℕ, true, sym, ap, ◌∙◌, subst}
+use Rattle.std.proofs.Common.{◌≡◌, ℕ, true, sym, ap, ◌∙◌, subst, rules}
 use Rattle.zic_pieces.specs.declared.event.Known.{Known}
 use Rattle.zic_pieces.specs.code.Whole.{is_whole}
 use Rattle.zic_pieces.specs.Passes.{Shared, Held}
@@ -35,3 +35,9 @@ returns-clause-each c = λ e. (facts c).once (over c e)
 
 pub returns-clause-skipped : goal.returns-clause-skipped
 returns-clause-skipped c = (facts c).none
+
+pub returns-clause-given : goal.returns-clause-given
+returns-clause-given c = search rules
+
+pub returns-clause-ended : goal.returns-clause-ended
+returns-clause-ended c = search rules

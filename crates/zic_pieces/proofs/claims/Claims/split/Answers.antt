@@ -11,3 +11,6 @@ pub invariant_of-pass : goal.invariant_of-pass
 invariant_of-pass c =
     let n = c.if-pass-eq0.false in
     subst (λ (m : Sat). IsKept m (c.pass.inside.room - 1) c.pass.inside.ended c.pass.inside.given) (sym c.split_seat-seat.ensures.2) (kept_left _ _ _ _ c.pass.invariant (omega arith))
+
+pub returns : goal.returns
+returns c = search rules

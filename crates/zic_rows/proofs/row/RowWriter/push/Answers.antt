@@ -1,4 +1,4 @@
-use Rattle.std.proofs.Common.{◌∙◌, FitsSigned, w64}
+use Rattle.std.proofs.Common.{◌∙◌, FitsSigned, w64, rules}
 use Rattle.std.proofs.lemmas.Int.{to_z-of_z}
 use Rattle.std.proofs.lemmas.Result.{on_ok_weaker}
 use Rattle.zic_rows.proofs.RowTexts.{row_joined}
@@ -13,3 +13,6 @@ returns-clause-ok c =
     (λ with_rest. row_joined c.args.text.now.items c.extend_from_slice.new.self.items c.push.new.self.items c.extend_from_slice-2.new.self.items c.push_rest.new.text.items c.args.name.now
     c.as_bytes.result.now c.args.instant c.args.self.now c.in_ok-extend_from_slice.ensures.items c.in_ok-push.ensures.items (c.as_bytes.ensures.value ∙ digits) c.in_ok-extend_from_slice-2.ensures.items with_rest)
     rest
+
+pub returns-clause-state : goal.returns-clause-state
+returns-clause-state c = search rules

@@ -1,4 +1,4 @@
-use Rattle.std.proofs.Common.{◌∙◌, FitsSigned}
+use Rattle.std.proofs.Common.{◌∙◌, FitsSigned, rules}
 use Rattle.std.specs.Int.{w128}
 use Rattle.std.proofs.lemmas.Int.{to_z-of_z}
 use Rattle.std.proofs.lemmas.Result.{on_ok_weaker}
@@ -15,3 +15,6 @@ returns-clause-ok c =
     c.args.name.now c.as_bytes.result.now c.args.unit c.args.count c.args.self.now c.in_ok-extend_from_slice.ensures.items c.in_ok-push.ensures.items (c.as_bytes.ensures.value ∙ digits)
     c.in_ok-extend_from_slice-2.ensures.items with_rest)
     rest
+
+pub returns-clause-state : goal.returns-clause-state
+returns-clause-state c = search rules

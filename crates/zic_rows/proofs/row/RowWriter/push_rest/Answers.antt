@@ -1,4 +1,4 @@
-use Rattle.std.proofs.Common.{◌≡◌, ◌∙◌, ap, List, ℕ, ◌++◌, pos, ◌+ℤ◌, ◌*◌, ◌%◌, arith}
+use Rattle.std.proofs.Common.{◌≡◌, ◌∙◌, ap, List, ℕ, ◌++◌, pos, ◌+ℤ◌, ◌*◌, ◌%◌, arith, rules}
 use Rattle.std.proofs.lemmas.Int.{ints}
 use Rattle.std.proofs.lemmas.Result.{on_ok_weaker}
 use Rattle.zic_base.specs.State.{Shown, shown}
@@ -18,3 +18,6 @@ returns-clause-ok c =
     (λ pushed. pushed ∙ ap (λ (t : State). c.args.text.now.items ++ (kept_date c.turn_to.new.self.day ++ (clock_text (seconds % 86_400) ++ state_text (shown t)))) c.turn_to.ensures.state
     ∙ ap (λ (l : List ℕ). c.args.text.now.items ++ l) (rest_kept c.args.instant s seconds c.turn_to.new.self.day counted c.turn_to.ensures.day))
     c.push.ensures)
+
+pub returns-clause-state : goal.returns-clause-state
+returns-clause-state c = search rules
