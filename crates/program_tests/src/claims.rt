@@ -1,14 +1,14 @@
 //! Claims, by examples worked by hand, in one thread and in two. If a growth of memory is refused,
 //! as `.ci/refusals.sh` does, the claims are made again.
 
-ghost use Rattle.std.specs.Prelude.{◌≡◌, ◌≤◌, IfOk};
+ghost use Rattle.std.specs.Prelude.{◌≡◌, ◌<◌, ◌≤◌, IfOk};
 ghost use Rattle.zic_pieces.specs.Core.{first as first_pass};
 ghost use Rattle.zic_pieces.specs.Passes.{IsOf};
 
 use crate::samples::{expect, must};
 use std::alloc::{AllocError, Global};
 use std::process::Abort;
-use std::thread;
+use std::thread::{self, Threads};
 use zic_pieces::{Claim, Claims, Pass, Settled, Split};
 
 /// Returns claims on this number of pieces. Tries twice, since one growth may be refused in a test.
@@ -32,23 +32,9 @@ fn three_passes_share_three_pieces(rt: &impl Abort, alloc: Global) -> Result<(),
     let Split::Two(mut p, mut last) = claims.split(first) else {
         panic!(rt; "the first pass has room still")
     };
-    expect(rt, claims.claim(&mut p) == Claim::Do(0), "the first piece");
-    expect(rt, claims.claim(&mut q) == Claim::Do(1), "the second piece");
-    claims.report(&mut p, 0);
-    expect(
-        rt,
-        claims.claim(&mut q) == Claim::Skip(2),
-        "the third piece",
-    );
-    expect(rt, claims.glance(&mut q) == 0, "what the second pass sees");
-    expect(
-        rt,
-        claims.glance(&mut last) == 0,
-        "what the third pass sees",
-    );
-    expect(rt, claims.claim(&mut p) == Claim::End, "the end");
-    expect(rt, claims.claim(&mut p) == Claim::End, "the end again");
-    expect(rt, claims.claim(&mut last) == Claim::End, "the end for all");
+    two_claim_and_one_reports(rt, &claims, &mut p, &mut q);
+    others_see_the_report(rt, &claims, &mut q, &mut last);
+    all_end(rt, &claims, &mut p, &mut last);
     let given = p.given() == 1 && q.given() == 1 && last.given() == 0;
     expect(rt, p.ended() && given, "what was given");
     let two = claims.join(p, q);
@@ -61,6 +47,49 @@ fn three_passes_share_three_pieces(rt: &impl Abort, alloc: Global) -> Result<(),
     };
     expect(rt, claims.settle(all) == want, "the work of all");
     Ok(())
+}
+
+/// Claims a piece by each of two passes. The first reports its piece.
+fn two_claim_and_one_reports(rt: &impl Abort, claims: &Claims, p: &mut Pass, q: &mut Pass)
+    requires first { IsOf claims.now p.old }
+    requires second { IsOf claims.now q.old }
+    requires piece { 0 < claims.now.pieces }
+    ensures first { (p.new.table ≡ p.old.table) × (p.new.known.pieces ≡ p.old.known.pieces)
+        × (p.new.known.parts ≡ p.old.known.parts) }
+    ensures second { (q.new.table ≡ q.old.table) × (q.new.known.pieces ≡ q.old.known.pieces)
+        × (q.new.known.parts ≡ q.old.known.parts) }
+{
+    expect(rt, claims.claim(p) == Claim::Do(0), "the first piece");
+    expect(rt, claims.claim(q) == Claim::Do(1), "the second piece");
+    claims.report(p, 0);
+}
+
+/// Claims the third piece and looks by two passes that have reported nothing.
+fn others_see_the_report(rt: &impl Abort, claims: &Claims, q: &mut Pass, last: &mut Pass)
+    requires second { IsOf claims.now q.old }
+    requires last { IsOf claims.now last.old }
+    ensures second { (q.new.table ≡ q.old.table) × (q.new.known.pieces ≡ q.old.known.pieces)
+        × (q.new.known.parts ≡ q.old.known.parts) }
+    ensures last { (last.new.table ≡ last.old.table) × (last.new.known.pieces ≡ last.old.known.pieces)
+        × (last.new.known.parts ≡ last.old.known.parts) }
+{
+    expect(rt, claims.claim(q) == Claim::Skip(2), "the third piece");
+    expect(rt, claims.glance(q) == 0, "what the second pass sees");
+    expect(rt, claims.glance(last) == 0, "what the third pass sees");
+}
+
+/// Claims by two passes once no piece is left, by the first one twice.
+fn all_end(rt: &impl Abort, claims: &Claims, p: &mut Pass, last: &mut Pass)
+    requires first { IsOf claims.now p.old }
+    requires last { IsOf claims.now last.old }
+    ensures first { (p.new.table ≡ p.old.table) × (p.new.known.pieces ≡ p.old.known.pieces)
+        × (p.new.known.parts ≡ p.old.known.parts) }
+    ensures last { (last.new.table ≡ last.old.table) × (last.new.known.pieces ≡ last.old.known.pieces)
+        × (last.new.known.parts ≡ last.old.known.parts) }
+{
+    expect(rt, claims.claim(p) == Claim::End, "the end");
+    expect(rt, claims.claim(p) == Claim::End, "the end again");
+    expect(rt, claims.claim(last) == Claim::End, "the end for all");
 }
 
 #[test]
@@ -125,25 +154,30 @@ fn stands(xs: &[Claim; 4], ys: &[Claim; 4], claim: Claim, times: usize) -> bool 
     count == times
 }
 
+/// Claims three pieces in two threads, four times in each.
+fn two_rows<R: Threads + Abort>(rt: &R, alloc: Global) -> ([Claim; 4], [Claim; 4]) {
+    let Ok((claims, first)) = new_claims(alloc, 3) else {
+        panic!(rt; "no memory")
+    };
+    let Split::Two(p, q) = claims.split(first) else {
+        panic!(rt; "the first pass has room")
+    };
+    let shared = &claims;
+    thread::join(
+        rt,
+        || -> [Claim; 4]
+            requires { IsOf shared.now p }
+        { four(shared, p) },
+        || -> [Claim; 4]
+            requires { IsOf shared.now q }
+        { four(shared, q) },
+    )
+}
+
 #[test]
 fn two_threads_draw_each_number_once(rt: HostRuntime) {
     for _ in 0..100 {
-        let Ok((claims, first)) = new_claims(rt.alloc(), 3) else {
-            panic!(rt; "no memory")
-        };
-        let Split::Two(p, q) = claims.split(first) else {
-            panic!(rt; "the first pass has room")
-        };
-        let shared = &claims;
-        let (xs, ys) = thread::join(
-            &rt,
-            || -> [Claim; 4]
-                requires { IsOf shared.now p }
-            { four(shared, p) },
-            || -> [Claim; 4]
-                requires { IsOf shared.now q }
-            { four(shared, q) },
-        );
+        let (xs, ys) = two_rows(&rt, rt.alloc());
         for i in 0..3 {
             expect(&rt, stands(&xs, &ys, Claim::Do(i), 1), "each number");
         }

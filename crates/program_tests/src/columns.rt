@@ -52,13 +52,25 @@ fn expect_write_failed<R: Threads + Wait + Sync + Abort>(
 ) {
     for row_piece in [1, 100] {
         let plan = plan_of(rt, 2, row_piece);
-        let mut writer = Counted::new(Sink::new(alloc, defect));
-        let mut reader = Counted::new(column);
-        let answer = converted(rt, alloc, (files, &plan), &mut reader, &mut writer, &Open);
-        let failed = answer == Err(RunStop::WriteFailed) && writer.failures() == 1;
-        expect(rt, failed, "a failed write");
-        expect_text(rt, writer.into_inner().held(), text, "what was written");
+        expect_write_failed_by(rt, alloc, (files, &plan), column, defect, text);
     }
+}
+
+/// As [`expect_write_failed`], by a plan.
+fn expect_write_failed_by<R: Threads + Wait + Sync + Abort>(
+    rt: &R,
+    alloc: Global,
+    run: (&Files, &Plan),
+    column: &[u8],
+    defect: Defect,
+    text: &[u8],
+) {
+    let mut writer = Counted::new(Sink::new(alloc, defect));
+    let mut reader = Counted::new(column);
+    let answer = converted(rt, alloc, run, &mut reader, &mut writer, &Open);
+    let failed = answer == Err(RunStop::WriteFailed) && writer.failures() == 1;
+    expect(rt, failed, "a failed write");
+    expect_text(rt, writer.into_inner().held(), text, "what was written");
 }
 
 #[test]
@@ -88,6 +100,25 @@ fn a_writer_fails(rt: HostRuntime) {
     );
 }
 
+/// Ends the test where a column whose reader fails at its end is converted, or rows are written that
+/// are not those before the end.
+fn expect_read_failed<R: Threads + Wait + Sync + Abort>(
+    rt: &R,
+    alloc: Global,
+    run: (&Files, &Plan),
+    column: &[u8],
+    kind: ErrorKind,
+) {
+    let mut reader = Counted::new(Device::new(column, 1, Err(kind)));
+    let mut writer = Counted::new(Vec::new(alloc));
+    let answer = converted(rt, alloc, run, &mut reader, &mut writer, &Open);
+    let counted = reader.failures() == 1 && reader.taken() == column.len() as u64;
+    let failed = answer == Err(RunStop::ReadFailed);
+    expect(rt, failed && counted, "a failed read");
+    let whole = THREE_ROWS.starts_with(&writer.into_inner());
+    expect(rt, whole, "the rows before it");
+}
+
 #[test]
 fn a_reader_fails(rt: HostRuntime) {
     let files = utc(&rt, rt.alloc());
@@ -95,25 +126,8 @@ fn a_reader_fails(rt: HostRuntime) {
         for row_piece in [1, 100] {
             let plan = plan_of(&rt, 2, row_piece);
             for given in 0..31 {
-                let device = Device::new(&THREE[..given], 1, Err(kind));
-                let mut reader = Counted::new(device);
-                let mut writer = Counted::new(Vec::new(rt.alloc()));
-                let answer = converted(
-                    &rt,
-                    rt.alloc(),
-                    (&files, &plan),
-                    &mut reader,
-                    &mut writer,
-                    &Open,
-                );
-                let counted = reader.failures() == 1 && reader.taken() == given as u64;
-                expect(
-                    &rt,
-                    answer == Err(RunStop::ReadFailed) && counted,
-                    "a failed read",
-                );
-                let whole = THREE_ROWS.starts_with(&writer.into_inner());
-                expect(&rt, whole, "the rows before it");
+                let column = &THREE[..given];
+                expect_read_failed(&rt, rt.alloc(), (&files, &plan), column, kind);
             }
         }
     }
@@ -126,6 +140,22 @@ static COLUMNS: [&[u8]; 3] = [
     b"Etc/UTC,0\r\nEtc/UTC,0\r\n\r\n\"Etc/UTC\",0\r\n",
 ];
 
+/// Ends the test where a column in reads of this length is not the three rows.
+fn expect_three_rows<R: Threads + Wait + Sync + Abort>(
+    rt: &R,
+    alloc: Global,
+    run: (&Files, &Plan),
+    column: &[u8],
+    most: usize,
+) {
+    let mut reader = Counted::new(Device::new(column, most, Ok(())));
+    let mut writer = Counted::new(Vec::new(alloc));
+    let answer = converted(rt, alloc, run, &mut reader, &mut writer, &Open);
+    let taken = reader.taken() == column.len() as u64;
+    expect(rt, answer == Ok(3) && taken, "three rows");
+    expect_text(rt, &writer.into_inner(), THREE_ROWS, "the rows");
+}
+
 #[test]
 fn rows_lie_over_the_edges_of_reads(rt: HostRuntime) {
     let files = utc(&rt, rt.alloc());
@@ -133,19 +163,7 @@ fn rows_lie_over_the_edges_of_reads(rt: HostRuntime) {
         let plan = plan_of(&rt, workers, row_piece);
         for column in &COLUMNS {
             for most in 1..45 {
-                let mut reader = Counted::new(Device::new(*column, most, Ok(())));
-                let mut writer = Counted::new(Vec::new(rt.alloc()));
-                let answer = converted(
-                    &rt,
-                    rt.alloc(),
-                    (&files, &plan),
-                    &mut reader,
-                    &mut writer,
-                    &Open,
-                );
-                let taken = reader.taken() == column.len() as u64;
-                expect(&rt, answer == Ok(3) && taken, "three rows");
-                expect_text(&rt, &writer.into_inner(), THREE_ROWS, "the rows");
+                expect_three_rows(&rt, rt.alloc(), (&files, &plan), *column, most);
             }
         }
     }
@@ -173,13 +191,21 @@ fn two_workers_are_at_the_gate_at_once(rt: HostRuntime) {
 #[test]
 fn a_header_is_passed_over_and_rows_have_numbers_of_faults(rt: HostRuntime) {
     let files = utc(&rt, rt.alloc());
-    let plan = plan_of(&rt, 2, 1);
-    let mut reader = Counted::new(b"Etc/UTC,7\nEtc/UTC,0\nEtc/UTC".as_slice());
-    let mut writer = Counted::new(Vec::new(rt.alloc()));
-    let answer = convert_after_header(&rt, rt.alloc(), &files, &mut reader, &mut writer, &plan);
-    let kind = RowKind::RowFields;
-    expect(&rt, answer == Err(RunStop::Row { row: 2, kind }), "a fault");
-    expect(&rt, kind.number() == 35, "its number");
+    expect_fault_after_header(&rt, rt.alloc(), (&files, &plan_of(&rt, 2, 1)));
+    expect(&rt, RowKind::RowFields.number() == 35, "its number");
     expect(&rt, RowKind::TooManyRows.number() == 39, "the last number");
-    expect_text(&rt, &writer.into_inner(), &THREE_ROWS[..46], "a row");
+}
+
+/// Ends the test where a column with a header, a row and a fault is converted otherwise.
+fn expect_fault_after_header<R: Threads + Wait + Sync + Abort>(
+    rt: &R,
+    alloc: Global,
+    (files, plan): (&Files, &Plan),
+) {
+    let mut reader = Counted::new(b"Etc/UTC,7\nEtc/UTC,0\nEtc/UTC".as_slice());
+    let mut writer = Counted::new(Vec::new(alloc));
+    let answer = convert_after_header(rt, alloc, files, &mut reader, &mut writer, plan);
+    let kind = RowKind::RowFields;
+    expect(rt, answer == Err(RunStop::Row { row: 2, kind }), "a fault");
+    expect_text(rt, &writer.into_inner(), &THREE_ROWS[..46], "a row");
 }

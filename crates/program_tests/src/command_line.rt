@@ -1,6 +1,6 @@
 //! Words of the command line that ask for something. Wrong ones are in witness/calls/words.txt.
 
-use crate::samples::{expect, expect_text, must};
+use crate::samples::{expect, expect_text, must, words_of};
 use std::alloc::Global;
 use std::process::Abort;
 use zic_command_line::parse;
@@ -8,10 +8,7 @@ use zic_plan::parse_instant_word;
 
 /// Returns the request that the words make.
 fn asked(rt: &impl Abort, alloc: Global, line: &str) -> String {
-    let mut words = Vec::new(alloc);
-    for word in line.split_whitespace() {
-        must(rt, words.push(must(rt, String::from_str(alloc, word))));
-    }
+    let words = words_of(rt, alloc, line);
     let asked = must(rt, parse(alloc, &words));
     must(rt, format!(in alloc; "{:?}", asked.request))
 }

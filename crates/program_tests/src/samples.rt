@@ -4,14 +4,14 @@
 
 ghost use Rattle.std.specs.Prelude.{◌≡◌, true};
 
-use std::alloc::Global;
+use std::alloc::{AllocError, Global};
 use std::io::{self, ErrorKind, Read, Write};
 use std::process::Abort;
 use std::sync::atomic::{AtomicU64, Ordering};
 use std::thread;
 use zic_bulk::{Files, compile};
 use zic_pieces::Gate;
-use zic_source::{Stop, read_source};
+use zic_source::{Source, Stop, read_source};
 
 /// The file of `Zone Etc/UTC 0 - UTC`, with the parts of RFC 9636: two headers, an empty first
 /// block, one local time type, its designation and the footer.
@@ -43,13 +43,33 @@ pub fn copy_of(rt: &impl Abort, alloc: Global, text: &str) -> Vec<u8> {
     must(rt, Vec::from_slice(alloc, text.as_bytes()))
 }
 
-/// Returns the files of texts.
-pub fn files_of(alloc: Global, texts: &[&str]) -> Result<Files, Stop> {
+/// Returns the words of a text.
+pub fn words_of(rt: &impl Abort, alloc: Global, text: &str) -> Vec<String> {
+    let mut words = Vec::new(alloc);
+    for word in text.split_whitespace() {
+        must(rt, words.push(must(rt, String::from_str(alloc, word))));
+    }
+    words
+}
+
+/// Returns copies of texts.
+fn copies_of(alloc: Global, texts: &[&str]) -> Result<Vec<Vec<u8>>, AllocError> {
     let mut copies = Vec::new(alloc);
     for text in texts {
         copies.push(Vec::from_slice(alloc, text.as_bytes())?)?;
     }
-    let source = read_source(alloc, &copies)?;
+    Ok(copies)
+}
+
+/// Returns the source of texts.
+fn source_of(alloc: Global, texts: &[&str]) -> Result<Source, Stop> {
+    let copies = copies_of(alloc, texts)?;
+    read_source(alloc, &copies)
+}
+
+/// Returns the files of texts.
+pub fn files_of(alloc: Global, texts: &[&str]) -> Result<Files, Stop> {
+    let source = source_of(alloc, texts)?;
     compile(alloc, &source)
 }
 

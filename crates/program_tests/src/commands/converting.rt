@@ -30,17 +30,30 @@ fn converted<T: Threads + Wait + Sync + Abort, R: Read, W: Write>(
     }
 }
 
+/// Ends the test where something else is told of the conversion of a column without a header, or
+/// anything is taken of the column.
+fn expect_nothing_taken<T: Threads + Wait + Sync + Abort>(
+    rt: &T,
+    alloc: Global,
+    source: &str,
+    device: Device<'_>,
+    want: &str,
+) {
+    let mut writer = Counted::new(Vec::new(alloc));
+    let mut column = Counted::new(device);
+    let answer = converted(rt, alloc, (source, false), &mut column, &mut writer);
+    expect_told(rt, alloc, answer, want);
+    expect(rt, column.taken() == 0, "nothing of the column");
+}
+
 #[test]
 fn convert_reads_the_column_once_the_source_has_files(rt: HostRuntime) {
-    let mut writer = Counted::new(Vec::new(rt.alloc()));
-    let mut column = Counted::new(Device::new(b"Etc/UTC,0", 1, Ok(())));
-    let source = ("Zonk A 0 - UTC", false);
-    let answer = converted(&rt, rt.alloc(), source, &mut column, &mut writer);
-    expect_told(&rt, rt.alloc(), answer, "line 1: Keyword, status 1");
-    expect(&rt, column.taken() == 0, "nothing of the column");
-    let mut column = Counted::new(Device::new(b"", 1, Err(ErrorKind::Other)));
-    let answer = converted(&rt, rt.alloc(), (UTC, false), &mut column, &mut writer);
-    expect_told(&rt, rt.alloc(), answer, "cannot read column, status 3");
+    let device = Device::new(b"Etc/UTC,0", 1, Ok(()));
+    let want = "line 1: Keyword, status 1";
+    expect_nothing_taken(&rt, rt.alloc(), "Zonk A 0 - UTC", device, want);
+    let device = Device::new(b"", 1, Err(ErrorKind::Other));
+    let want = "cannot read column, status 3";
+    expect_nothing_taken(&rt, rt.alloc(), UTC, device, want);
 }
 
 /// Columns, the way in which a writer fails, and whether there is a header.
@@ -88,11 +101,16 @@ fn write_rows<W: Write + Drop>(
 ) {
     let clock = Quarters(Cell::new(1000));
     let mut progress = Progress::new(writer, &clock, line, has_header);
-    for row in rows {
-        must(rt, progress.write_all(*row));
-    }
-    must(rt, progress.flush());
+    write_each(rt, &mut progress, rows);
     progress.finish();
+}
+
+/// Writes these rows, each at once, and flushes them.
+fn write_each<W: Write>(rt: &impl Abort, writer: &mut W, rows: &[&[u8]]) {
+    for row in rows {
+        must(rt, writer.write_all(*row));
+    }
+    must(rt, writer.flush());
 }
 
 const FOUR: &[u8] = b"a,1\nb,2\nc,3\nd,4\n";

@@ -1,7 +1,7 @@
 //! `build`, and the files that the commands open, over a file system that records its calls.
 
 use super::{failure_text, plan, told};
-use crate::samples::{UTC_FILE, copy_of, expect, expect_text, must};
+use crate::samples::{UTC_FILE, copy_of, expect, expect_text, must, words_of};
 use std::alloc::{Allocator, Global};
 use std::cell::RefCell;
 use std::fs::{Files, Metadata, OpenFile, OpenOptions};
@@ -24,13 +24,19 @@ struct Log<'a> {
 
 impl<'a> Log<'a> {
     fn note(&self, what: &str, name: &str) -> io::Result<()> {
-        let Ok(mut calls) = self.calls.try_borrow_mut() else {
-            return Err(io::Error::from(ErrorKind::Deadlock));
-        };
-        let call = format!(in self.alloc; "{what} {name}")?;
-        calls.push_str(call.as_str())?;
+        match self.calls.try_borrow_mut() {
+            Ok(mut calls) => self.add(&mut calls, what, name),
+            Err(_) => Err(io::Error::from(ErrorKind::Deadlock)),
+        }
+    }
+
+    /// Adds a call to those that were made, and fails if it is the one that does.
+    fn add(&self, calls: &mut String, what: &str, name: &str) -> io::Result<()> {
+        calls.push_str(what)?;
+        calls.push(' ')?;
+        calls.push_str(name)?;
         calls.push('\n')?;
-        if call.as_str() != self.fails {
+        if self.fails.split_once(' ') != Some((what, name)) {
             return Ok(());
         }
         if self.times == usize::MAX || calls.matches(self.fails).count() <= self.times {
@@ -202,6 +208,34 @@ impl<'a> Files for Disk<'a> {
     }
 }
 
+/// Returns what is told of building texts in a folder, with links of a kind or copies in their place.
+fn built_of<T: Threads + Wait + Sync + Abort>(
+    rt: &T,
+    alloc: Global,
+    disk: &Disk<'_>,
+    folder: (&str, Option<LinkKind>),
+    texts: &[Vec<u8>],
+) -> String {
+    let mut tree = zic_commands::Disk::new(alloc, disk, 7);
+    built_in(rt, alloc, &mut tree, folder, texts)
+}
+
+/// As [`built_of`], in a tree.
+fn built_in<T: Threads + Wait + Sync + Abort, D: Tree>(
+    rt: &T,
+    alloc: Global,
+    tree: &mut D,
+    (path, links): (&str, Option<LinkKind>),
+    texts: &[Vec<u8>],
+) -> String {
+    let plan = plan(rt, 2);
+    let answer = match links {
+        Some(kind) => build_linked(rt, alloc, &plan, texts, tree, &LinkedFolder { path, kind }),
+        None => build(rt, alloc, &plan, texts, tree, path),
+    };
+    told(rt, alloc, answer)
+}
+
 /// Returns what is told of placing the links of a source in the folder D.
 fn linked<T: Threads + Wait + Sync + Abort>(
     rt: &T,
@@ -210,13 +244,7 @@ fn linked<T: Threads + Wait + Sync + Abort>(
     kind: LinkKind,
 ) -> String {
     let texts = [copy_of(rt, alloc, "Link Z/UTC L/M/UTC\nZone Z/UTC 0 - UTC\n")];
-    let folder = LinkedFolder { path: "D", kind };
-    let mut tree = zic_commands::Disk::new(alloc, disk, 7);
-    told(
-        rt,
-        alloc,
-        build_linked(rt, alloc, &plan(rt, 2), &texts, &mut tree, &folder),
-    )
+    built_of(rt, alloc, disk, ("D", Some(kind)), &texts)
 }
 
 /// The kind of a link, the call that fails, and the calls: a link is made after its file and before
@@ -289,28 +317,22 @@ fn built<T: Threads + Wait + Sync + Abort>(
     words: &str,
     input: &str,
 ) -> String {
-    let mut reader = Counted::new(input.as_bytes());
-    let words = words_of(rt, alloc, words);
-    match read_sources(alloc, disk, &mut reader, &words) {
-        Ok(texts) => {
-            let mut tree = zic_commands::Disk::new(alloc, disk, 7);
-            told(
-                rt,
-                alloc,
-                build(rt, alloc, &plan(rt, 2), &texts, &mut tree, folder),
-            )
-        }
+    match texts_of(rt, alloc, disk, words, input) {
+        Ok(texts) => built_of(rt, alloc, disk, (folder, None), &texts),
         Err(failure) => failure_text(rt, alloc, failure),
     }
 }
 
-/// Returns the words of a text.
-fn words_of(rt: &impl Abort, alloc: Global, text: &str) -> Vec<String> {
-    let mut words = Vec::new(alloc);
-    for word in text.split_whitespace() {
-        must(rt, words.push(must(rt, String::from_str(alloc, word))));
-    }
-    words
+/// Returns the texts of the sources that words name. The word `-` stands for `input`.
+fn texts_of(
+    rt: &impl Abort,
+    alloc: Global,
+    disk: &Disk<'_>,
+    words: &str,
+    input: &str,
+) -> Result<Vec<Vec<u8>>, Failure> {
+    let mut reader = Counted::new(input.as_bytes());
+    read_sources(alloc, disk, &mut reader, &words_of(rt, alloc, words))
 }
 
 /// A source, and the calls that building it makes where one of them fails, followed by the text and
@@ -471,8 +493,7 @@ fn a_file_that_other_runs_always_remove_is_refused(rt: HostRuntime) {
 /// Returns the first text of the sources that a word names, or what is told. The word `-` stands for
 /// `Zone A 0 - UTC`.
 fn source_of(rt: &impl Abort, alloc: Global, disk: &Disk<'_>, word: &str) -> Vec<u8> {
-    let mut input = Counted::new(b"Zone A 0 - UTC".as_slice());
-    match read_sources(alloc, disk, &mut input, &words_of(rt, alloc, word)) {
+    match texts_of(rt, alloc, disk, word, "Zone A 0 - UTC") {
         Ok(mut texts) => must(rt, texts.pop().ok_or(())),
         Err(failure) => copy_of(rt, alloc, failure_text(rt, alloc, failure).as_str()),
     }
@@ -489,28 +510,29 @@ static OPENED: [(&str, &str, &[u8]); 3] = [
 fn words_for_sources_and_files_are_opened(rt: HostRuntime) {
     for (word, opened, want) in &OPENED {
         let calls = RefCell::new(String::new(rt.alloc()));
-        let disk = Disk {
-            log: log_of(rt.alloc(), &calls, ("open none", ErrorKind::Other)),
-            bytes: UTC_FILE,
-            names: b"",
-        };
+        let disk = disk_without_none(rt.alloc(), &calls);
         let text = source_of(&rt, rt.alloc(), &disk, *word);
         expect_text(&rt, &text, *want, *word);
         expect_calls(&rt, calls, "", *opened);
     }
     let calls = RefCell::new(String::new(rt.alloc()));
-    let disk = Disk {
-        log: log_of(rt.alloc(), &calls, ("open none", ErrorKind::Other)),
+    let told = read_two(&rt, rt.alloc(), &disk_without_none(rt.alloc(), &calls));
+    let want = "open f\nopen none\ncannot read none, status 3";
+    expect_calls(&rt, calls, told.as_str(), want);
+}
+
+/// Returns a file system in which only the file `none` is not opened.
+fn disk_without_none<'a>(alloc: Global, calls: &'a RefCell<String>) -> Disk<'a> {
+    Disk {
+        log: log_of(alloc, calls, ("open none", ErrorKind::Other)),
         bytes: UTC_FILE,
         names: b"",
-    };
-    let bytes = must(&rt, read_file(rt.alloc(), &disk, "f"));
-    expect_text(&rt, &bytes, UTC_FILE, "a file");
-    let told = told(&rt, rt.alloc(), read_file(rt.alloc(), &disk, "none"));
-    expect_calls(
-        &rt,
-        calls,
-        told.as_str(),
-        "open f\nopen none\ncannot read none, status 3",
-    );
+    }
+}
+
+/// Reads a file, and returns what is told of reading one that is not opened.
+fn read_two(rt: &impl Abort, alloc: Global, disk: &Disk<'_>) -> String {
+    let bytes = must(rt, read_file(alloc, disk, "f"));
+    expect_text(rt, &bytes, UTC_FILE, "a file");
+    told(rt, alloc, read_file(alloc, disk, "none"))
 }

@@ -6,6 +6,8 @@ use super::{expect_told, plan};
 use crate::samples::{UTC_FILE, copy_of, expect, expect_text};
 use std::alloc::Global;
 use std::process::Abort;
+use std::sync::Wait;
+use std::thread::Threads;
 use zic_commands::*;
 
 /// The file of `Zone Z/EST -5 - EST`, with the same parts as the file for UTC.
@@ -86,10 +88,22 @@ impl<'a> Tree for Shelf<'a> {
 fn expect_files(rt: &impl Abort, files: &[Kept], count: usize, wanted: &[(&str, &[u8; 111])]) {
     expect(rt, files.len() == count, "the number of files");
     for (file, (path, bytes)) in files.iter().zip(wanted) {
-        expect_text(rt, file.path.as_bytes(), path.as_bytes(), "a path");
-        expect_text(rt, &file.bytes, bytes.as_slice(), "a file");
+        expect_file(rt, file, *path, *bytes);
     }
 }
+
+/// Ends the test where a file has another path or other bytes.
+fn expect_file(rt: &impl Abort, file: &Kept, path: &str, bytes: &[u8; 111]) {
+    expect_text(rt, file.path.as_bytes(), path.as_bytes(), "a path");
+    expect_text(rt, &file.bytes, bytes.as_slice(), "a file");
+}
+
+/// The files of the source, in order.
+static ALL: [(&str, &[u8; 111]); 3] = [
+    ("D/Etc/UTC", UTC_FILE),
+    ("D/East", EST_FILE),
+    ("D/Z/EST", EST_FILE),
+];
 
 /// A path that is refused, the number of files before it, and what is told.
 static REFUSED: [(&str, usize, &str); 2] = [
@@ -100,17 +114,24 @@ static REFUSED: [(&str, usize, &str); 2] = [
 #[test]
 fn files_are_placed_in_order_up_to_one_that_is_refused(rt: HostRuntime) {
     let texts = [copy_of(&rt, rt.alloc(), SOURCE)];
-    let all = [
-        ("D/Etc/UTC", UTC_FILE),
-        ("D/East", EST_FILE),
-        ("D/Z/EST", EST_FILE),
-    ];
     for (refuses, count, want) in &REFUSED {
-        let mut tree = Shelf::new(rt.alloc(), *refuses);
-        let answer = build(&rt, rt.alloc(), &plan(&rt, 2), &texts, &mut tree, "D");
-        expect_told(&rt, rt.alloc(), answer, *want);
-        expect_files(&rt, &tree.files, *count, &all);
+        expect_placed(&rt, rt.alloc(), &texts, *refuses, (*count, *want));
     }
+}
+
+/// Ends the test where a tree that refuses a path has not this many files of the source, or
+/// something else is told.
+fn expect_placed<T: Threads + Wait + Sync + Abort>(
+    rt: &T,
+    alloc: Global,
+    texts: &[Vec<u8>],
+    refuses: &str,
+    (count, want): (usize, &str),
+) {
+    let mut tree = Shelf::new(alloc, refuses);
+    let answer = build(rt, alloc, &plan(rt, 2), texts, &mut tree, "D");
+    expect_told(rt, alloc, answer, want);
+    expect_files(rt, &tree.files, count, &ALL);
 }
 
 #[test]
@@ -118,13 +139,25 @@ fn links_are_made_after_the_files_of_zones(rt: HostRuntime) {
     let text = "Link East A/B/East\nZone Etc/UTC 0 - UTC\nLink Z/EST East\nZone Z/EST -5 - EST\n";
     let texts = [copy_of(&rt, rt.alloc(), text)];
     for kind in [LinkKind::Hard, LinkKind::Symbolic] {
-        let mut tree = Shelf::new(rt.alloc(), "");
-        let folder = LinkedFolder { path: "D", kind };
-        let answer = build_linked(&rt, rt.alloc(), &plan(&rt, 2), &texts, &mut tree, &folder);
-        expect_told(&rt, rt.alloc(), answer, "");
-        let files = [("D/Etc/UTC", UTC_FILE), ("D/Z/EST", EST_FILE)];
-        expect_files(&rt, &tree.files, 2, &files);
-        let both = tree.links.len() == 2 && tree.links.iter().all(|link| link.kind == kind);
-        expect(&rt, both, "two links");
+        expect_linked(&rt, rt.alloc(), &texts, kind);
     }
 }
+
+/// Ends the test where texts have other than the files of two zones and two links of a kind.
+fn expect_linked<T: Threads + Wait + Sync + Abort>(
+    rt: &T,
+    alloc: Global,
+    texts: &[Vec<u8>],
+    kind: LinkKind,
+) {
+    let mut tree = Shelf::new(alloc, "");
+    let folder = LinkedFolder { path: "D", kind };
+    let answer = build_linked(rt, alloc, &plan(rt, 2), texts, &mut tree, &folder);
+    expect_told(rt, alloc, answer, "");
+    expect_files(rt, &tree.files, 2, &ZONES);
+    let both = tree.links.len() == 2 && tree.links.iter().all(|link| link.kind == kind);
+    expect(rt, both, "two links");
+}
+
+/// The files of the zones.
+static ZONES: [(&str, &[u8; 111]); 2] = [("D/Etc/UTC", UTC_FILE), ("D/Z/EST", EST_FILE)];

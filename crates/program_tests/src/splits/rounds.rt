@@ -4,7 +4,7 @@ use crate::samples::{Device, expect, expect_text, must};
 use std::alloc::Global;
 use std::io::ErrorKind;
 use std::process::Abort;
-use zic_columns::{Column, Record, Split};
+use zic_columns::{Column, Record, Round, Split};
 
 /// The greatest numbers of bytes that a read gives.
 const STEPS: [usize; 6] = [1, 2, 3, 5, 8, 1000];
@@ -38,14 +38,21 @@ fn push_round(
     if !column.turn(alloc, wanted, size).ok()? {
         return Some(false);
     }
-    let round = column.round();
-    for index in 0..round.len() {
-        let split = must(rt, round.split(alloc, index));
-        if size < push_records(rt, text, &split) {
-            return None;
-        }
+    if size < push_pieces(rt, alloc, text, &column.round()) {
+        return None;
     }
     Some(true)
+}
+
+/// Adds the records of the pieces of a round to a text. Returns the greatest number of records of a
+/// piece.
+fn push_pieces(rt: &impl Abort, alloc: Global, text: &mut Vec<u8>, round: &Round<'_>) -> usize {
+    let mut most = 0;
+    for index in 0..round.len() {
+        let split = must(rt, round.split(alloc, index));
+        most = push_records(rt, text, &split).max(most);
+    }
+    most
 }
 
 /// Returns the records of what no round of a column had, and the number of rounds, or `None` as
@@ -57,11 +64,22 @@ fn rest_of(
     plan: (usize, usize),
 ) -> Option<(Vec<u8>, u32)> {
     let mut text = Vec::new(alloc);
+    let rounds = push_rounds(rt, alloc, &mut text, &mut column, plan)?;
+    Some((text, rounds))
+}
+
+/// Adds the records of all rounds that are left to a text. Returns the number of rounds, or `None`
+/// as [`push_round`] does.
+fn push_rounds(
+    rt: &impl Abort,
+    alloc: Global,
+    text: &mut Vec<u8>,
+    column: &mut Column<&mut Device<'_>>,
+    plan: (usize, usize),
+) -> Option<u32> {
     for rounds in 0..1_000_000 {
-        match push_round(rt, alloc, &mut text, &mut column, plan) {
-            Some(true) => {}
-            Some(false) => return Some((text, rounds)),
-            None => return None,
+        if !push_round(rt, alloc, text, column, plan)? {
+            return Some(rounds);
         }
     }
     None
@@ -306,8 +324,13 @@ fn no_read_is_made_in_vain(rt: HostRuntime) {
         }
     }
     for (step, want) in [(1, 3), (2, 2), (3, 1), (1000, 1)] {
-        let mut device = Device::new(b"a,0\nb,1\n", step, Ok(()));
-        let begun = Column::new(rt.alloc(), &mut device, 100).is_ok();
-        expect(&rt, begun && device.reads() == want, "the first reads");
+        expect_first_reads(&rt, rt.alloc(), step, want);
     }
+}
+
+/// Ends the test where a column in reads of this length isn't begun, or in other than so many reads.
+fn expect_first_reads(rt: &impl Abort, alloc: Global, step: usize, want: usize) {
+    let mut device = Device::new(b"a,0\nb,1\n", step, Ok(()));
+    let begun = Column::new(alloc, &mut device, 100).is_ok();
+    expect(rt, begun && device.reads() == want, "the first reads");
 }
