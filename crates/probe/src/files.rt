@@ -43,12 +43,10 @@ fn push_line<'a, R: Files + AllocGlobal>(
     opened: &mut Opened<'a>,
     answers: &mut Answers,
 ) -> io::Result<()> {
-    let Some(question) = Question::parse(line) else {
-        return Err(io::Error::from(ErrorKind::InvalidInput));
-    };
-    opened.open(rt, question.file)?;
-    opened.push_answer(rt.alloc(), &question, answers)?;
-    Ok(())
+    match Question::parse(line) {
+        Some(question) => opened.answer(rt, &question, answers),
+        None => Err(io::Error::from(ErrorKind::InvalidInput)),
+    }
 }
 
 /// Returns the question that a line asks.
@@ -103,6 +101,18 @@ impl<'a> Opened<'a> {
         self.octets = fs::read(rt, name)?;
         self.zone = zone_of(rt.alloc(), &self.octets)?;
         self.name = name;
+        Ok(())
+    }
+
+    /// Appends the answer to a question, and opens its file.
+    fn answer<R: Files + AllocGlobal>(
+        &mut self,
+        rt: &R,
+        question: &Question<'a>,
+        answers: &mut Answers,
+    ) -> io::Result<()> {
+        self.open(rt, question.file)?;
+        self.push_answer(rt.alloc(), question, answers)?;
         Ok(())
     }
 

@@ -61,11 +61,15 @@ fn listed(
     let (from, count) = (call.number(1, 0, 9999)?, call.number(2, 0, 9999)?);
     let before = call.number(0, 1, 9999)? as u16;
     let found = occurrences_of(alloc, source, before)?;
-    for occurrence in found.iter().skip(from as usize).take(count as usize) {
+    push_occurrences(&found, from as usize, count as usize, answers);
+    Ok(())
+}
+
+fn push_occurrences(found: &[TimedOccurrence], from: usize, count: usize, answers: &mut Answers) {
+    for occurrence in found.iter().skip(from).take(count) {
         push_occurrence(occurrence, answers);
     }
     answers.push(b"in order\n");
-    Ok(())
 }
 
 fn push_occurrence(occurrence: &TimedOccurrence, answers: &mut Answers) {

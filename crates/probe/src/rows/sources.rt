@@ -44,6 +44,10 @@ fn entries(source: &Source, answers: &mut Answers) {
     for zone in 0..source.zones() {
         push_zone(source, zone, answers);
     }
+    push_links(source, answers);
+}
+
+fn push_links(source: &Source, answers: &mut Answers) {
     for link in 0..source.links() {
         answers.word("zone");
         answers.show(&source.link_zone(link));

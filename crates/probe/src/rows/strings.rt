@@ -85,10 +85,27 @@ fn states(alloc: Global, call: &Call<'_>, answers: &mut Answers) -> Result<(), R
 /// `spans INSTANT..`: appends the span of a footer round each instant, its flag, and whether the
 /// prepared footer answers the same.
 fn spans(alloc: Global, call: &Call<'_>, answers: &mut Answers) -> Result<(), Refusal> {
-    let footer = footer_of(alloc, call.text()?)?;
-    let prepared = PreparedFooter::new(footer_of(alloc, call.text()?)?);
+    let text = call.text()?;
+    let prepared = prepared_of(alloc, text)?;
+    push_spans(alloc, text, &prepared, call, answers)
+}
+
+/// Returns the prepared footer of version 3 that a text is.
+fn prepared_of(alloc: Global, text: &[u8]) -> Result<PreparedFooter, Refusal> {
+    Ok(PreparedFooter::new(footer_of(alloc, text)?))
+}
+
+/// Appends the spans of the footer that a text is, and of the prepared one.
+fn push_spans(
+    alloc: Global,
+    text: &[u8],
+    prepared: &PreparedFooter,
+    call: &Call<'_>,
+    answers: &mut Answers,
+) -> Result<(), Refusal> {
+    let footer = footer_of(alloc, text)?;
     for number in 0..call.len() {
-        push_span(&footer, &prepared, call.instant(number)?, answers);
+        push_span(&footer, prepared, call.instant(number)?, answers);
     }
     Ok(())
 }
@@ -106,7 +123,7 @@ fn push_span(footer: &Footer, prepared: &PreparedFooter, t: i64, answers: &mut A
 
 /// Appends the states of a prepared footer.
 fn prepared(alloc: Global, text: &[u8], answers: &mut Answers) -> Result<(), Refusal> {
-    let footer = PreparedFooter::new(footer_of(alloc, text)?);
+    let footer = prepared_of(alloc, text)?;
     answers.state(footer.standard_state());
     if let Some(state) = footer.daylight_state() {
         answers.push(b",");

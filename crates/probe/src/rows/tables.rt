@@ -3,9 +3,10 @@
 use super::call::{Call, Refusal};
 use super::files::push_answers;
 use crate::answers::Answers;
-use std::alloc::{AllocError, Global};
+use std::alloc::Global;
+use zic_base::{Place, Stop};
 use zic_footer::make;
-use zic_rules::timeline;
+use zic_rules::{Timeline, timeline};
 use zic_source::Source;
 use zic_table::{Image, image_of, table};
 use zic_tzif::{Table, write};
@@ -35,11 +36,13 @@ fn table_of(alloc: Global, source: &Source) -> Result<Table, Refusal> {
     }
     let place = source.line(0, 0).place;
     let found = timeline(alloc, source, 0)?;
-    let footer = make(alloc, place, &found)?;
-    match table(alloc, place, &found, &footer) {
-        Ok(made) => Ok(made),
-        Err(stop) => Err(Refusal::Stop(stop)),
-    }
+    Ok(table_by(alloc, place, &found)?)
+}
+
+/// Returns the table of a zone at this place.
+fn table_by(alloc: Global, place: Place, found: &Timeline<'_>) -> Result<Table, Stop> {
+    let footer = make(alloc, place, found)?;
+    table(alloc, place, found, &footer)
 }
 
 /// Appends the version, the transitions, the types, the designations with `/` for NUL, and the
@@ -101,18 +104,16 @@ fn counts(alloc: Global, source: &Source, answers: &mut Answers) -> Result<(), R
 fn written(alloc: Global, source: &Source, answers: &mut Answers) -> Result<(), Refusal> {
     let made = table_of(alloc, source)?;
     let octets = write(alloc, &made)?;
-    push_hex(alloc, &octets, answers)?;
-    Ok(())
+    push_hex(alloc, &octets, answers)
 }
 
 /// Appends the bytes of the file of the first zone, in hex.
 fn bytes(alloc: Global, source: &Source, answers: &mut Answers) -> Result<(), Refusal> {
     let found = image(alloc, source, 0)?;
-    push_hex(alloc, found.octets(), answers)?;
-    Ok(())
+    push_hex(alloc, found.octets(), answers)
 }
 
-fn push_hex(alloc: Global, octets: &[u8], answers: &mut Answers) -> Result<(), AllocError> {
+fn push_hex(alloc: Global, octets: &[u8], answers: &mut Answers) -> Result<(), Refusal> {
     let text = hex::encode(alloc, octets)?;
     answers.word(text.as_str());
     answers.end_line();

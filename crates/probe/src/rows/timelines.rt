@@ -36,22 +36,26 @@ fn changes(alloc: Global, source: &Source, answers: &mut Answers) -> Result<(), 
     requires { length source.now.zones ≡ 1 }
 {
     let found = timeline(alloc, source, 0)?;
+    push_changes(&found, answers);
+    Ok(())
+}
+
+fn push_changes(found: &Timeline<'_>, answers: &mut Answers) {
     answers.word("first");
     answers.state(found.first());
-    push_shown(&found, ", at", i64::MIN, answers);
+    push_shown(found, ", at", i64::MIN, answers);
     for number in 0..found.len() {
         let (instant, state) = found.change(number);
         answers.end_line();
         answers.show(&instant);
         answers.state(state);
-        push_shown(&found, ", before", instant.saturating_sub(1), answers);
-        push_shown(&found, ", at", instant, answers);
+        push_shown(found, ", before", instant.saturating_sub(1), answers);
+        push_shown(found, ", at", instant, answers);
     }
     answers.push(b"\nend");
     answers.show(&found.end());
-    push_shown(&found, ", before", found.end().saturating_sub(1), answers);
+    push_shown(found, ", before", found.end().saturating_sub(1), answers);
     answers.end_line();
-    Ok(())
 }
 
 /// Appends what is shown at an instant before the explicit end, after this text.
