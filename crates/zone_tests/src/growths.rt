@@ -11,7 +11,9 @@ use crate::samples::{
 use std::alloc::Global;
 use std::process::Abort;
 use zic_base::{Kind, Place, Stop};
-use zic_footer::{ParseStop, print};
+use zic_footer::{Footer, ParseStop, print};
+use zic_rules::Timeline;
+use zic_table::Table;
 use zic_tzif::ReadStop;
 
 /// A rule for each form of AT.
@@ -28,13 +30,18 @@ Rule A 2004 only - Feb 29 300:00:00.5 1 D
 /// AT of each rule, in seconds.
 const TIMES: [i32; 8] = [32, 32, 34, 0, 86_400, -9000, 936_000, 1_080_000];
 
-/// Reads rules, and then a rule with a fault after them.
+/// Reads rules.
 fn rules_are_read(rt: &impl Abort, alloc: Global) -> Result<(), Stop> {
     let source = read_texts(alloc, &[RULES])?;
     assert!(rt; source.rules() == TIMES.len());
     for (number, seconds) in TIMES.iter().enumerate() {
         assert!(rt; source.rule(number).moment.at.seconds == *seconds);
     }
+    Ok(())
+}
+
+/// Reads rules and a rule with a fault after them.
+fn a_fault_is_found(rt: &impl Abort, alloc: Global) -> Result<(), Stop> {
     let fault: &[u8] = b"Rule A 2004 only - Feb 29 300:00:01 1 D";
     let stop = read_texts(alloc, &[RULES, fault]).err();
     if stop == Some(Stop::Memory) {
@@ -52,13 +59,34 @@ fn a_file_is_made(rt: &impl Abort, alloc: Global) -> Result<(), Stop> {
         panic!(rt; "one zone")
     };
     let found = found?;
+    a_file_is_made_of(rt, alloc, &found)
+}
+
+/// Makes the file of a timeline call by call, and reads it.
+fn a_file_is_made_of(rt: &impl Abort, alloc: Global, found: &Timeline<'_>) -> Result<(), Stop> {
     assert!(rt; found.end() == 1_262_304_000 && found.len() == 6);
-    let (footer, table) = table_of(alloc, Place { text: 1, line: 3 }, &found)?;
-    let text = print(alloc, &footer)?;
+    let (footer, table) = table_of(alloc, Place { text: 1, line: 3 }, found)?;
+    a_footer_is_printed(rt, alloc, &footer)?;
+    a_table_is_written(rt, alloc, &table)
+}
+
+/// Prints a footer.
+fn a_footer_is_printed(rt: &impl Abort, alloc: Global, footer: &Footer) -> Result<(), Stop> {
+    let text = print(alloc, footer)?;
     assert!(rt; text.as_slice() == b"EST5EDT,M3.2.0,M11.1.0".as_slice());
-    let octets = written(alloc, &table)?;
+    Ok(())
+}
+
+/// Writes the file of a table, and reads it.
+fn a_table_is_written(rt: &impl Abort, alloc: Global, table: &Table) -> Result<(), Stop> {
+    let octets = written(alloc, table)?;
     assert!(rt; octets.as_slice() == NEW_YORK.as_slice());
-    match read_file(alloc, &octets) {
+    a_file_is_read(rt, alloc, &octets)
+}
+
+/// Reads a file.
+fn a_file_is_read(rt: &impl Abort, alloc: Global, octets: &[u8]) -> Result<(), Stop> {
+    match read_file(alloc, octets) {
         Ok(zone) => assert!(rt; zone.at(1_173_596_400) == new_york(true)),
         Err(ReadStop::Memory) => return Err(Stop::Memory),
         Err(ReadStop::Bad(_)) => panic!(rt; "a fault"),
@@ -96,6 +124,7 @@ fn footers_are_parsed(rt: &impl Abort, alloc: Global) -> Result<(), Stop> {
 /// Makes all rows of calls.
 fn all_are_made(rt: &impl Abort, alloc: Global) -> Result<(), Stop> {
     rules_are_read(rt, alloc)?;
+    a_fault_is_found(rt, alloc)?;
     a_file_is_made(rt, alloc)?;
     footers_are_parsed(rt, alloc)
 }
