@@ -1,4 +1,4 @@
-use Rattle.std.proofs.Common.{◌≡◌, ◌≢◌, get_or, arith, rules}
+use Rattle.std.proofs.Common.{◌≡◌, ◌≢◌, get_or, arith}
 use Rattle.zic_rows.proofs.PlainInstants.{plain_negative, plain_more, plain_short}
 use Rattle.zic_rows.proofs.instant.is_plain.Goals as goal
 

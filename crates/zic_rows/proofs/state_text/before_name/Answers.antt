@@ -1,4 +1,4 @@
-use Rattle.std.proofs.Common.{refl, true, false, to_z-of_z, rules}
+use Rattle.std.proofs.Common.{refl, true, false, to_z-of_z}
 use Rattle.zic_rows.proofs.RowTexts.{before_name-of}
 use Rattle.zic_rows.proofs.state_text.before_name.Goals as goal
 

@@ -1,4 +1,4 @@
-use Rattle.std.proofs.Common.{◌∙◌, ap}
+use Rattle.std.proofs.Common.{◌∙◌, ap, rules}
 use Rattle.zic_columns.specs.Round.{ColumnOf, unread}
 use Rattle.zic_columns.specs.code.Hand.{to_come}
 use Rattle.zic_columns.proofs.Passing.{passes_first, passes_next, within}
@@ -19,3 +19,6 @@ returns-clause-passes g c =
     rw c.pass.ensures (passes_next (unread g.R.Read.remaining c.args.self.now) (unread g.R.Read.remaining mid) _ c.in_ok-count.ensures.takes
     (passes_first mid.held c.in_ok-count.count c.split_records.result.0.now c.split_records.result.1.now cut
     (to_come g.R.Read.remaining mid) c.in_ok-count.ensures.cut))
+
+pub returns-clause-none : goal.returns-clause-none
+returns-clause-none c = search rules

@@ -1,4 +1,4 @@
-use Rattle.std.proofs.Common.{arith}
+use Rattle.std.proofs.Common.{arith, rules}
 use Rattle.std.proofs.lemmas.Result.{IfOk-weaker}
 use Rattle.csv.specs.Reading.{strip_bom}
 use Rattle.zic_columns.proofs.MarkFacts.{no_longer}
@@ -10,3 +10,6 @@ returns-clause-few c =
     let column = c.args.column.now in
     let bytes = strip_bom column in
     IfOk-weaker c.new.result _ _ (λ split is. rw is (rw c.without_mark.ensures (omega (arith, few_records bytes, no_longer column)))) c.new.ensures
+
+pub returns-clause-records : goal.returns-clause-records
+returns-clause-records c = search rules

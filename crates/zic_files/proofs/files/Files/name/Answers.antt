@@ -1,8 +1,5 @@
 use Rattle.std.proofs.Common.{rules}
 use Rattle.zic_files.proofs.files.Files.name.Goals as goal
 
-pub returns-clause-name : goal.returns-clause-name
-returns-clause-name c = search rules
-
 pub returns-clause-sound : goal.returns-clause-sound
 returns-clause-sound c = search rules

@@ -1,4 +1,4 @@
-use Rattle.std.proofs.Common.{◌≡◌, sym, ap, subst, ◌∙◌, rules}
+use Rattle.std.proofs.Common.{◌≡◌, sym, ap, subst, ◌∙◌}
 use Rattle.std.proofs.lemmas.Option.{IfSome_then}
 use Rattle.std.specs.Prelude.{slice_get}
 use Rattle.zic_base.proofs.Elements.{all_got, got}
@@ -20,6 +20,3 @@ returns-clause-known c =
     let image = if_at (slice_get c.args.self.now c.args.i) (λ (f : File). c.image.result.now ≡ f.image) file c.image.ensures at in
     let same = c.zone.ensures.zone ∙ ap (λ (i : FileImage). i.content) image in
     subst IsAlwaysKnown (sym same) sound.known
-
-pub returns-clause-zone : goal.returns-clause-zone
-returns-clause-zone c = search rules

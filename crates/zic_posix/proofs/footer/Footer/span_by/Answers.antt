@@ -82,12 +82,3 @@ returns c =
     let all = (λ (said : TzString). Includes instants t × MeansThroughout said instants state × AreBetween (HasEdgeAt said) instants) in
     let said = subst all c.self.view_is (round, means_throughout f instants edges t state round means, edges) in
     rw (to_z-of_z first_fits, to_z-of_z last_fits) (record { asked = said.0; means = said.1; edges = said.2 })
-
-pub returns-clause-asked : goal.returns-clause-asked
-returns-clause-asked c = search rules
-
-pub returns-clause-means : goal.returns-clause-means
-returns-clause-means c = search rules
-
-pub returns-clause-edges : goal.returns-clause-edges
-returns-clause-edges c = search rules

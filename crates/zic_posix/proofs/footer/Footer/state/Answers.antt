@@ -44,6 +44,3 @@ returns-in_default c =
       | in_default-via-in_default w ↦ constant h t state (sym w.in_default.is) is
     ] in
     subst (λ (said : TzString). Means said t state) c.self.view_is means
-
-pub returns : goal.returns
-returns c = search rules

@@ -1,5 +1,5 @@
 use Rattle.std.proofs.Common.{rules}
-use Rattle.zic_posix.proofs.footer.Footer.version.Goals as goal
+use Rattle.zic_columns.proofs.columns.Column.round.Goals as goal
 
 pub returns : goal.returns
 returns c = search rules

@@ -1,5 +1,5 @@
 use Rattle.std.proofs.Common.{rules}
-use Rattle.zic_posix.proofs.reader.sign_at.Goals as goal
+use Rattle.zic_columns.proofs.wide.WideSplit.records.Goals as goal
 
 pub returns : goal.returns
 returns c = search rules

@@ -1,5 +1,5 @@
 use Rattle.std.proofs.Common.{rules}
-use Rattle.zic_states.proofs.observance.comes_first.Goals as goal
+use Rattle.zic_columns.proofs.splits.Split.records.Goals as goal
 
 pub returns : goal.returns
 returns c = search rules
