@@ -11,8 +11,8 @@ use std::io::{self, ErrorKind, Read};
 use std::rt::Env;
 use zic_bulk::{Files, compile};
 use zic_footer::make;
-use zic_rules::timeline;
-use zic_source::{Source, Stop, read_source};
+use zic_rules::{Timeline, timeline};
+use zic_source::{Place, Source, Stop, read_source};
 use zic_table::{Table, table};
 use zic_tzif::{read, write};
 
@@ -37,13 +37,27 @@ fn counts<R: Input + AllocGlobal>(
     times: u32,
 ) -> io::Result<(usize, usize)> {
     let source = source(rt)?;
+    match counts_of(rt.alloc(), &source, reads, writes, times) {
+        Ok(counts) => Ok(counts),
+        Err(_) => Err(io::Error::from(ErrorKind::InvalidData)),
+    }
+}
+
+/// As [`counts`], of a source.
+fn counts_of(
+    alloc: Global,
+    source: &Source,
+    reads: bool,
+    writes: bool,
+    times: u32,
+) -> Result<(usize, usize), Stop> {
     let read = if reads {
-        done(octets_read(rt.alloc(), &source, times))?
+        octets_read(alloc, source, times)?
     } else {
         0
     };
     let written = if writes {
-        done(octets_written(rt.alloc(), &source, times))?
+        octets_written(alloc, source, times)?
     } else {
         0
     };
@@ -56,14 +70,6 @@ fn source<R: Input + AllocGlobal>(rt: &R) -> io::Result<Source> {
     rt.reader().read_to_end(&mut text)?;
     match read_source(rt.alloc(), &[text]) {
         Ok(source) => Ok(source),
-        Err(_) => Err(io::Error::from(ErrorKind::InvalidData)),
-    }
-}
-
-/// Returns a number of bytes, if there is no fault.
-fn done(octets: Result<usize, Stop>) -> io::Result<usize> {
-    match octets {
-        Ok(octets) => Ok(octets),
         Err(_) => Err(io::Error::from(ErrorKind::InvalidData)),
     }
 }
@@ -123,6 +129,11 @@ fn table_of(alloc: Global, source: &Source, zone: usize) -> Result<Table, Stop>
     prove!(zone < source.zones());
     let place = source.line(zone, 0).place;
     let states = timeline(alloc, source, zone)?;
-    let footer = make(alloc, place, &states)?;
-    table(alloc, place, &states, &footer)
+    table_by(alloc, place, &states)
+}
+
+/// Returns the table of a zone at this place.
+fn table_by(alloc: Global, place: Place, states: &Timeline<'_>) -> Result<Table, Stop> {
+    let footer = make(alloc, place, states)?;
+    table(alloc, place, states, &footer)
 }

@@ -12,16 +12,29 @@ mod zone;
 
 use std::env;
 use std::io::{self, ErrorKind};
+use std::rt::Env;
+use std::sync::Wait;
+use std::thread::Threads;
 
 fn main(rt: HostRuntime) -> io::Result<()> {
-    let word = env::args(&rt)?.nth(1);
-    match word.as_ref().map(|w| w.as_str()) {
-        Some("civil") => civil::run(&rt),
-        Some("footer") => footer::run(&rt),
-        Some("zone") => zone::run(&rt),
-        Some("files") => files::run(&rt),
-        Some("pieces") => pieces::run(&rt),
-        Some("rows") => rows::run(&rt),
+    match env::args(&rt)?.nth(1) {
+        Some(word) => run(&rt, word.as_str()),
+        None => Err(io::Error::from(ErrorKind::InvalidInput)),
+    }
+}
+
+/// Runs the benchmark with this name.
+fn run<R: Env + Input + Print + AllocGlobal + Threads + Wait + Sync>(
+    rt: &R,
+    name: &str,
+) -> io::Result<()> {
+    match name {
+        "civil" => civil::run(rt),
+        "footer" => footer::run(rt),
+        "zone" => zone::run(rt),
+        "files" => files::run(rt),
+        "pieces" => pieces::run(rt),
+        "rows" => rows::run(rt),
         _ => Err(io::Error::from(ErrorKind::InvalidInput)),
     }
 }

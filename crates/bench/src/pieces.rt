@@ -37,11 +37,10 @@ impl Task for AddOne {
 
 /// Returns the number at an index of the words, or a default.
 fn number<R: Env + AllocGlobal>(rt: &R, place: usize, other: u64) -> io::Result<u64> {
-    let word = env::args(rt)?.nth(place);
-    Ok(
-        word.and_then(|w| w.as_str().parse::<u64>().ok())
-            .unwrap_or(other),
-    )
+    match env::args(rt)?.nth(place) {
+        Some(word) => Ok(word.parse::<u64>().unwrap_or(other)),
+        None => Ok(other),
+    }
 }
 
 /// Prints the sum of the values of all rounds.
@@ -53,10 +52,16 @@ pub fn run<R: Env + Print + AllocGlobal + Threads + Wait + Sync>(rt: &R) -> io::
     let mut total = 0u64;
     for _ in 0..number(rt, 4, 1)? {
         if let Ok(values) = run_task(rt, rt.alloc(), &task, workers, &Open) {
-            for value in &values {
-                total = total.wrapping_add(*value);
-            }
+            total = total.wrapping_add(sum(&values));
         }
     }
     println!(rt; "{total}")
+}
+
+fn sum(values: &[u64]) -> u64 {
+    let mut total = 0u64;
+    for value in values {
+        total = total.wrapping_add(*value);
+    }
+    total
 }

@@ -53,11 +53,18 @@ fn octets(alloc: Global, step: u32) -> Result<i64, AllocError> {
             total = total.wrapping_add(text.len() as i64);
             text.clear();
         }
-        text.extend_from_slice(b"America/New_York,1000000000")?;
         let instant = FIRST + i64::from(call.wrapping_mul(step));
-        writer.push_rest(&mut text, instant)?;
+        push_row(&mut writer, &mut text, instant)?;
     }
     Ok(total.wrapping_add(text.len() as i64))
+}
+
+/// Appends a row, whose first words are always the same.
+fn push_row(writer: &mut RowWriter<'_>, text: &mut Vec<u8>, instant: i64) -> Result<(), AllocError>
+    requires { IsRowInstant instant }
+{
+    text.extend_from_slice(b"America/New_York,1000000000")?;
+    writer.push_rest(text, instant)
 }
 
 /// Returns the sum of the ten-digit instants that are read from some digits, at each index in turn.

@@ -6,8 +6,10 @@ use std::{env, io};
 
 /// Returns whether the words ask for this loop: by its name, or because they name none.
 pub fn asks<R: Env + AllocGlobal>(rt: &R, name: &str) -> io::Result<bool> {
-    let word = env::args(rt)?.nth(2);
-    Ok(word.as_ref().map(|w| w.as_str()).unwrap_or(name) == name)
+    match env::args(rt)?.nth(2) {
+        Some(word) => Ok(word.as_str() == name),
+        None => Ok(true),
+    }
 }
 
 /// Returns how often the words ask for a loop, by default once.

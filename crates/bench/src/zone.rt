@@ -36,14 +36,19 @@ fn sums<R: Input + AllocGlobal>(
     rising: bool,
     random: bool,
 ) -> io::Result<Option<(i64, i64)>> {
-    let mut bytes = Vec::new(rt.alloc());
-    rt.reader().read_to_end(&mut bytes)?;
-    let Ok(zone) = read(rt.alloc(), &bytes) else {
+    let Some(zone) = zone_of(rt)? else {
         return Ok(None);
     };
     let first = if rising { rising_sum(&zone) } else { 0 };
     let second = if random { random_sum(&zone) } else { 0 };
     Ok(Some((first, second)))
+}
+
+/// Returns the zone of the file on standard input.
+fn zone_of<R: Input + AllocGlobal>(rt: &R) -> io::Result<Option<Zone>> {
+    let mut bytes = Vec::new(rt.alloc());
+    rt.reader().read_to_end(&mut bytes)?;
+    Ok(read(rt.alloc(), &bytes).ok())
 }
 
 fn rising_sum(zone: &Zone) -> i64 {
