@@ -36,26 +36,23 @@ fn push_fields(
         answers.push(b"nothing\n");
         return Ok(());
     }
-    match line_entry(alloc, awaited, PLACE, fields) {
-        Ok(entry) => push_entry(&entry, answers),
-        Err(stop) => return Err(Refusal::Stop(stop)),
-    }
+    push_entry(line_entry(alloc, awaited, PLACE, fields)?, answers);
     Ok(())
 }
 
-fn push_entry(entry: &Entry, answers: &mut Answers) {
+fn push_entry(entry: Entry, answers: &mut Answers) {
     match entry {
-        Entry::Rule(rule) => push_rule(rule, answers),
+        Entry::Rule(rule) => push_rule(&rule, answers),
         Entry::Zone(name, line) => {
             answers.word("zone");
             answers.octets(name.octets());
-            push_zone_line(line, answers);
+            push_zone_line(&line, answers);
         }
         Entry::Continuation(line) => {
             answers.word("continuation");
-            push_zone_line(line, answers);
+            push_zone_line(&line, answers);
         }
-        Entry::Link(link) => push_link(link, answers),
+        Entry::Link(link) => push_link(&link, answers),
     }
 }
 
