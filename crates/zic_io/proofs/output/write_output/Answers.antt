@@ -1,4 +1,4 @@
-use Rattle.std.proofs.Common.{ℕ, List, [], ◌++◌, subst, ◌∙◌, append-nil}
+use Rattle.std.proofs.Common.{ℕ, List, [], ◌++◌, subst, ◌∙◌, append-nil, rules}
 use Rattle.std.proofs.lemmas.Result.{err_from_is_err_and}
 use Rattle.zic_counted.specs.Written.{FailsWithin, Writes}
 use Rattle.zic_counted.proofs.Bytes.{fails_after, writes_both}
@@ -22,3 +22,9 @@ returns-clause-ok g c =
     let new = c.flush.new.writer in
     subst (λ (l : List ℕ). Writes contents old new l) (append-nil bytes)
     (writes_both contents old c.write_all.new.writer new bytes [] c.in_ok-write_all.ensures.ok c.in_ok-flush.ensures.ok)
+
+pub returns-clause-failure : goal.returns-clause-failure
+returns-clause-failure c = search rules
+
+pub returns-clause-fails : goal.returns-clause-fails
+returns-clause-fails c = search rules

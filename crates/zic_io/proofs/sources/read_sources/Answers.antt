@@ -1,4 +1,4 @@
-use Rattle.std.proofs.Common.{◌≡◌, ◌≢◌, ℕ, ◌+◌, List, [], ◌∷◌, ◌++◌, map, take, drop, string_bytes, arith, refl, Some, sym, ap, ◌∙◌}
+use Rattle.std.proofs.Common.{◌≡◌, ◌≢◌, ℕ, ◌+◌, List, [], ◌∷◌, ◌++◌, map, take, drop, string_bytes, arith, refl, Some, sym, ap, ◌∙◌, rules}
 use Rattle.std.proofs.lemmas.List.{map-append}
 use Rattle.std.proofs.lemmas.List.Elements.{All-pop}
 use Rattle.std.proofs.lemmas.Result.{err_from_is_err_and}
@@ -64,3 +64,6 @@ loop-word-preserved g c =
           let none = All-pop (λ (w : List ℕ). w ≢ STANDARD_INPUT.now) (names ++ name ∷ []) names (Some name) refl (rw one_more at files) in
           unasked none.1 ∙ l.invariant.2 none.0,
     )
+
+pub returns-clause-err : goal.returns-clause-err
+returns-clause-err c = search rules
