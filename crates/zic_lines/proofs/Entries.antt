@@ -1,6 +1,6 @@
 -- What the fields of a line say, and what a line says: something just where no check fails, and one thing.
-use Rattle.std.proofs.Common.{◌≡◌, ℕ, Bool, true, false, List, [], ◌∷◌, length, Option, Some, None, refl, sym, ap, subst, ◌∙◌}
-use Rattle.std.specs.Prelude.{IfSome}
+use Rattle.std.proofs.Common.{◌≡◌, ℕ, Bool, true, false, List, [], ◌∷◌, length, Option, Some, None, refl, sym, ap, subst, ◌∙◌, ◌<◌, arith}
+use Rattle.std.specs.Prelude.{IfSome, IfOk, Result, Ok, Err, map, get_or, slice_index_or}
 use Rattle.std.proofs.lemmas.Bool.{le-leb, leb-true}
 use Rattle.zic_base.specs.Check.{first_failed}
 use Rattle.zic_base.specs.declared.place.Place.{Place}
@@ -19,6 +19,7 @@ use Rattle.zic_lines.specs.Line.{PlacedLine}
 use Rattle.zic_lines.specs.Field.{fields}
 use Rattle.zic_lines.specs.Entry.{is_continuation}
 use Rattle.zic_lines.specs.Grammar.{IsLine, FieldsSay, Says}
+use Rattle.zic_lines.specs.code.Entries.{IsOtherLine}
 use Rattle.zic_lines.specs.Checks.{byte_checks, continuation_checks, keyword_checks, field_checks, line_checks}
 use Rattle.zic_lines.proofs.RuleLines.{rule_said, rule_passes, rule_once}
 use Rattle.zic_lines.proofs.ZoneLines.{continuation_said, continuation_passes, continuation_once, zone_said, zone_passes}
@@ -128,3 +129,35 @@ says_passes awaited line entry says a =
 pub says_once : (awaited : Bool) (line : PlacedLine) (entry other : Option Entry) → Says line entry → IfSome entry (λ said. is_continuation said ≡ awaited)
     → Says line other → IfSome other (λ said. is_continuation said ≡ awaited) → entry ≡ other
 says_once awaited line entry other says a also b = said_once awaited line.place (fields line.bytes) entry other says.1 a also.1 b
+
+-- ---- the checks of fields, by what is awaited and by the first of them
+
+pub checks_of_awaited : (awaited : Bool) (texts : List (List ℕ)) → awaited ≡ true → 0 < length texts → field_checks awaited texts ≡ continuation_checks texts
+checks_of_awaited true (field ∷ texts) e some = refl
+checks_of_awaited true [] e some = absurd (omega arith)
+checks_of_awaited false texts e some = absurd cc
+
+pub checks_by_keyword : (awaited : Bool) (texts : List (List ℕ)) (keyword : Option Keyword) → awaited ≡ false → 0 < length texts → keyword_of (slice_index_or texts 0 []) ≡ keyword → field_checks awaited texts ≡ keyword_checks keyword texts
+checks_by_keyword false (field ∷ texts) keyword e some k = ap (λ (o : Option Keyword). keyword_checks o (field ∷ texts)) k
+checks_by_keyword false [] keyword e some k = absurd (omega arith)
+checks_by_keyword true texts keyword e some k = absurd cc
+
+-- the keyword that the first text stands for
+pub first_keyword : {A : Type 0} (text : A → List ℕ) (xs : List A) (x : A) (found : List ℕ) (keyword : Option Keyword) → 0 < length xs → x ≡ get_or xs 0 x → found ≡ text x → keyword_of found ≡ keyword
+    → keyword_of (slice_index_or (map text xs) 0 []) ≡ keyword
+first_keyword text (y ∷ ys) x found keyword some at is stands = ap keyword_of (ap text (sym at) ∙ sym is) ∙ stands
+first_keyword text [] x found keyword some at is stands = absurd (omega arith)
+
+-- ---- what an entry of no continuation line says
+
+pub other_says : {K E : Type 0} (place : Place) (texts : List (List ℕ)) (result : Result (Result Entry E) K) → IfOk result (λ made. IfOk made (IsOtherLine place texts))
+    → IfOk result (λ made. IfOk made (λ entry. FieldsSay place texts (Some entry)))
+other_says place texts (Ok (Ok entry)) is = is.0
+other_says place texts (Ok (Err e)) is = tt
+other_says place texts (Err k) is = tt
+
+pub other_goes_on : {K E : Type 0} (place : Place) (texts : List (List ℕ)) (awaited : Bool) (result : Result (Result Entry E) K) → awaited ≡ false → IfOk result (λ made. IfOk made (IsOtherLine place texts))
+    → IfOk result (λ made. IfOk made (λ entry. is_continuation entry ≡ awaited))
+other_goes_on place texts awaited (Ok (Ok entry)) plain is = is.1 ∙ sym plain
+other_goes_on place texts awaited (Ok (Err e)) plain is = tt
+other_goes_on place texts awaited (Err k) plain is = tt

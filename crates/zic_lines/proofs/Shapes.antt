@@ -24,3 +24,7 @@ module _ {A : Type 0} (text : A → List ℕ) where
   -- as many texts as fields
   pub few : (xs : List A) {n : ℕ} → length xs ≤ n → length (map text xs) ≤ n
   few xs h = rw (length-map xs text) h
+
+  -- a text where there is a field
+  pub some_texts : (xs : List A) → 0 < length xs → 0 < length (map text xs)
+  some_texts xs h = rw (length-map xs text) h

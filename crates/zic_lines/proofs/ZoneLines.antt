@@ -1,5 +1,5 @@
 -- What the fields of Zone and continuation lines say, where no check fails.
-use Rattle.std.proofs.Common.{◌≡◌, ◌≤◌, leb, ℕ, List, [], ◌∷◌, length, Option, Some, None, Result, Ok, Err, true, false, refl, ap, subst, ◌∙◌, arith}
+use Rattle.std.proofs.Common.{◌≡◌, ◌≤◌, leb, ℕ, List, [], ◌∷◌, length, Option, Some, None, Result, Ok, Err, true, false, refl, sym, ap, subst, ◌∙◌, arith}
 use Rattle.std.proofs.lemmas.Bool.{le-leb}
 use Rattle.zic_base.specs.Check.{check, first_failed}
 use Rattle.zic_base.specs.declared.place.Place.{Place}
@@ -19,6 +19,8 @@ use Rattle.zic_lines.specs.Checks.{zone_part_checks, zone_checks, continuation_c
 use Rattle.std.specs.Prelude.{IfOk, ℤ}
 use Rattle.zic_lines.specs.declared.rules.Rules.{Rules}
 use Rattle.zic_lines.specs.declared.format.Format.{Format}
+use Rattle.zic_lines.specs.declared.entry.Entry.{Entry}
+use Rattle.zic_lines.specs.code.Entries.{IsOtherLine, IsZoneOf}
 use Rattle.zic_lines.proofs.Parsed.{kept}
 use Rattle.zic_lines.proofs.Options.{there}
 
@@ -111,17 +113,18 @@ module _ {texts : List (List ℕ)} {keyword name stdoff rules format : List ℕ}
   pub part_decides : is_name name ≡ true → first_failed (zone_checks texts) ≡ first_failed (zone_part_checks stdoff rules format until)
   part_decides named = ap (λ (ts : List (List ℕ)). first_failed (zone_checks ts)) are ∙ rw (le-leb (length until) 4 few, named) refl
 
-  pub zone_made : {E : Type 0} (place : Place) (made : Result (List ℕ × ZoneLine) E) (made_name : Result (List ℕ) E) (made_line : Result ZoneLine E) → keyword_of keyword ≡ Some keywords.Zone → is_name name ≡ true
+  pub zone_made : {E : Type 0} (place : Place) (made : Result Entry E) (made_name : Result (List ℕ) E) (made_line : Result ZoneLine E) → keyword_of keyword ≡ Some keywords.Zone → is_name name ≡ true
       → IfOk made_name (λ n. n ≡ name) → IfOk made_line (IsContinuationLine place (stdoff ∷ rules ∷ format ∷ until))
-      → IfOk made (λ zone. made_name ≡ Ok zone.0) → IfOk made (λ zone. made_line ≡ Ok zone.1) → IfOk made (λ zone. IsZoneLine place texts zone.0 zone.1)
-  zone_made {E = E} place (Ok zone) made_name made_line begins named n is a b =
-      let same : zone.0 ≡ name = kept made_name name zone.0 a n in
-      record {
+      → IfOk made (IsZoneOf made_name made_line) → IfOk made (IsOtherLine place texts)
+  zone_made {E = E} place (Ok entry) made_name made_line begins named n is zone =
+      let same : zone.name ≡ name = kept made_name name zone.name zone.named n in
+      let said : IsZoneLine place texts zone.name zone.line = record {
         keyword = keyword;
         others = stdoff ∷ rules ∷ format ∷ until;
         are = are ∙ rw same refl;
         is_zone = begins;
         named = rw same named;
-        says = subst (λ (l : Result ZoneLine E). IfOk l (IsContinuationLine place (stdoff ∷ rules ∷ format ∷ until))) b is;
-      }
-  zone_made {E = E} place (Err e) made_name made_line begins named n is a b = tt
+        says = subst (λ (l : Result ZoneLine E). IfOk l (IsContinuationLine place (stdoff ∷ rules ∷ format ∷ until))) zone.lined is;
+      } in
+      subst (IsOtherLine place texts) (sym zone.is) (said, refl)
+  zone_made {E = E} place (Err e) made_name made_line begins named n is zone = tt

@@ -2,3 +2,4 @@
 pub mod Texts
 pub mod Taken
 pub mod LineParts
+pub mod Entries

@@ -48,11 +48,9 @@ fn parse_entry(
         return Ok(continuation_line(alloc, place, fields)?.map(Entry::Continuation));
     }
     match parse_keyword(fields[0].as_slice()) {
-        Some(Keyword::Rule) => Ok(rule_line(alloc, place, fields)?.map(Entry::Rule)),
-        Some(Keyword::Zone) => Ok(zone_line(alloc, place, fields)?.map(|zone| Entry::Zone(
-            zone.0, zone.1,
-        ))),
-        Some(Keyword::Link) => Ok(link_line(alloc, place, fields)?.map(Entry::Link)),
+        Some(Keyword::Rule) => rule_line(alloc, place, fields),
+        Some(Keyword::Zone) => zone_line(alloc, place, fields),
+        Some(Keyword::Link) => link_line(alloc, place, fields),
         None => Err(Kind::Keyword),
     }
 }

@@ -40,7 +40,7 @@ fn is_plain(byte: u8) -> bool
 }
 
 /// The role of a byte in its line.
-#[derive(Clone, Copy, Debug)]
+#[derive(Clone, Copy)]
 enum Role {
     /// It begins the comment.
     Comment,

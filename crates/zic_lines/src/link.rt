@@ -4,9 +4,10 @@ ghost use Rattle.std.specs.Prelude.{◌≡◌, OnOk, IfOk, IfErr, Some, None};
 ghost use Rattle.zic_base.specs.Check.{first_failed};
 ghost use Rattle.zic_words.specs.declared.keyword.Keyword.TheVariants as keywords;
 ghost use Rattle.zic_lines.specs.Checks.{link_checks};
-ghost use Rattle.zic_lines.specs.LinkLine.{IsLinkLine};
+ghost use Rattle.zic_lines.specs.code.Entries.{IsOtherLine};
 ghost use Rattle.zic_lines.specs.code.Texts.{texts_of, BeginsWith};
 
+use crate::entry::Entry;
 use std::alloc::{AllocError, Global};
 use std::borrow::CowSlice;
 use zic_base::{Kind, Place};
@@ -40,15 +41,15 @@ fn link_of(
     })
 }
 
-/// Returns the link of the fields of a Link line, or the kind of their first fault.
+/// Returns the entry of the fields of a Link line, or the kind of their first fault.
 pub(crate) fn link_line(
     alloc: Global,
     place: Place,
     fields: &[CowSlice<'_, u8>],
-) -> Result<Result<Link, AllocError>, Kind>
+) -> Result<Result<Entry, AllocError>, Kind>
     requires { BeginsWith keywords.Link (texts_of fields.now) }
     ensures ok { OnOk result (first_failed (link_checks (texts_of fields.now)) ≡ None) }
-    ensures says { IfOk result (λ made. IfOk made (IsLinkLine place (texts_of fields.now))) }
+    ensures says { IfOk result (λ made. IfOk made (IsOtherLine place (texts_of fields.now))) }
     ensures fault { IfErr result
         (λ kind. first_failed (link_checks (texts_of fields.now)) ≡ Some kind) }
 {
@@ -61,5 +62,5 @@ pub(crate) fn link_line(
     let Some(name) = Name::parse(alloc, name.as_slice()) else {
         return Err(Kind::Name);
     };
-    Ok(link_of(place, target, name))
+    Ok(link_of(place, target, name).map(Entry::Link))
 }

@@ -4,10 +4,11 @@ ghost use Rattle.std.specs.Prelude.{◌≡◌, OnOk, IfOk, IfErr, Some, None};
 ghost use Rattle.zic_base.specs.Check.{first_failed};
 ghost use Rattle.zic_words.specs.declared.keyword.Keyword.TheVariants as keywords;
 ghost use Rattle.zic_lines.specs.Checks.{rule_checks};
-ghost use Rattle.zic_lines.specs.RuleLine.{IsRuleLine};
+ghost use Rattle.zic_lines.specs.code.Entries.{IsOtherLine};
 ghost use Rattle.zic_lines.specs.code.LineParts.{year_checks, SayYears, moment_checks, SayMoment, rule_with};
 ghost use Rattle.zic_lines.specs.code.Texts.{texts_of, BeginsWith};
 
+use crate::entry::Entry;
 use crate::moment::Moment;
 use crate::rule::Rule;
 use std::alloc::{AllocError, Global};
@@ -19,7 +20,7 @@ use zic_words::{
 };
 
 /// The years of a rule.
-#[derive(Clone, Copy, Debug)]
+#[derive(Clone, Copy)]
 struct Years {
     first: u16,
     /// `None` where there is no last year.
@@ -85,15 +86,15 @@ fn rule_of(
     })
 }
 
-/// Returns the rule of the fields of a Rule line, or the kind of their first fault.
+/// Returns the entry of the fields of a Rule line, or the kind of their first fault.
 pub(crate) fn rule_line(
     alloc: Global,
     place: Place,
     fields: &[CowSlice<'_, u8>],
-) -> Result<Result<Rule, AllocError>, Kind>
+) -> Result<Result<Entry, AllocError>, Kind>
     requires { BeginsWith keywords.Rule (texts_of fields.now) }
     ensures ok { OnOk result (first_failed (rule_checks (texts_of fields.now)) ≡ None) }
-    ensures says { IfOk result (λ made. IfOk made (IsRuleLine place (texts_of fields.now))) }
+    ensures says { IfOk result (λ made. IfOk made (IsOtherLine place (texts_of fields.now))) }
     ensures fault { IfErr result
         (λ kind. first_failed (rule_checks (texts_of fields.now)) ≡ Some kind) }
 {
@@ -114,5 +115,5 @@ pub(crate) fn rule_line(
     let Some(letter) = Letter::parse(alloc, letter.as_slice()) else {
         return Err(Kind::Letter);
     };
-    Ok(rule_of(place, name, years, moment, saving, letter))
+    Ok(rule_of(place, name, years, moment, saving, letter).map(Entry::Rule))
 }

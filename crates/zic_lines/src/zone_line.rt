@@ -4,9 +4,11 @@ ghost use Rattle.std.specs.Prelude.{◌≡◌, ◌≤◌, ◌∷◌, OnOk, IfOk,
 ghost use Rattle.zic_base.specs.Check.{first_failed};
 ghost use Rattle.zic_words.specs.declared.keyword.Keyword.TheVariants as keywords;
 ghost use Rattle.zic_lines.specs.Checks.{zone_part_checks, zone_checks, continuation_checks};
-ghost use Rattle.zic_lines.specs.ZoneLine.{IsZoneLine, IsContinuationLine};
+ghost use Rattle.zic_lines.specs.ZoneLine.{IsContinuationLine};
+ghost use Rattle.zic_lines.specs.code.Entries.{IsOtherLine, IsZoneOf};
 ghost use Rattle.zic_lines.specs.code.Texts.{texts_of, BeginsWith};
 
+use crate::entry::Entry;
 use crate::format::{Format, parse_format};
 use crate::rules::{Rules, parse_rules};
 use crate::until::{Until, parse_until};
@@ -116,17 +118,15 @@ pub(crate) fn continuation_line(
     )
 }
 
-/// Returns the zone's name and first line of the fields of a Zone line, or the kind of their first
-/// fault.
+/// Returns the entry of the fields of a Zone line, or the kind of their first fault.
 pub(crate) fn zone_line(
     alloc: Global,
     place: Place,
     fields: &[CowSlice<'_, u8>],
-) -> Result<Result<(Name, ZoneLine), AllocError>, Kind>
+) -> Result<Result<Entry, AllocError>, Kind>
     requires { BeginsWith keywords.Zone (texts_of fields.now) }
     ensures ok { OnOk result (first_failed (zone_checks (texts_of fields.now)) ≡ None) }
-    ensures says { IfOk result
-        (λ made. IfOk made (λ zone. IsZoneLine place (texts_of fields.now) zone.0 zone.1)) }
+    ensures says { IfOk result (λ made. IfOk made (IsOtherLine place (texts_of fields.now))) }
     ensures fault { IfErr result
         (λ kind. first_failed (zone_checks (texts_of fields.now)) ≡ Some kind) }
 {
@@ -150,16 +150,15 @@ pub(crate) fn zone_line(
     Ok(named(name, line))
 }
 
-/// Returns this name and this line, or out of memory where one of them is.
+/// Returns the entry of this name and this line, or out of memory where one of them is.
 fn named(
     name: Result<Name, AllocError>,
     line: Result<ZoneLine, AllocError>,
-) -> Result<(Name, ZoneLine), AllocError>
-    ensures name { IfOk result (λ zone. name ≡ Ok zone.0) }
-    ensures line { IfOk result (λ zone. line ≡ Ok zone.1) }
+) -> Result<Entry, AllocError>
+    ensures { IfOk result (IsZoneOf name line) }
 {
     match (name, line) {
-        (Ok(name), Ok(line)) => Ok((name, line)),
+        (Ok(name), Ok(line)) => Ok(Entry::Zone(name, line)),
         _ => Err(AllocError),
     }
 }

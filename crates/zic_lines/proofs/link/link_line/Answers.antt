@@ -2,7 +2,11 @@ use Rattle.std.proofs.Common.{◌∙◌, arith, refl, ap, List, ℕ}
 use Rattle.std.specs.Cow.{cow_slice_items}
 use Rattle.zic_base.specs.Check.{first_failed}
 use Rattle.zic_lines.specs.Checks.{link_checks}
-use Rattle.zic_lines.proofs.Parsed.{refused}
+use Rattle.zic_lines.specs.declared.entry.Entry.TheVariants as entries
+use Rattle.zic_lines.specs.LinkLine.{IsLinkLine}
+use Rattle.zic_lines.specs.code.Entries.{IsOtherLine}
+use Rattle.zic_lines.specs.code.Texts.{texts_of}
+use Rattle.zic_lines.proofs.Parsed.{refused, wrapped}
 use Rattle.zic_lines.proofs.Shapes.{three_texts}
 use Rattle.zic_lines.proofs.LinkLines.{link_made}
 use Rattle.zic_lines.proofs.link.link_line.Goals as goal
@@ -24,7 +28,8 @@ returns-clause-ok c =
 
 pub returns-clause-says : goal.returns-clause-says
 returns-clause-says c =
-    link_made c.args.place c.link_of.result c.in-Some.target c.in-Some-parse.name
+    wrapped entries.Link (IsLinkLine c.args.place (texts_of c.args.fields.now)) (IsOtherLine c.args.place (texts_of c.args.fields.now)) c.link_of.result c.map.result c.map.ensures.cases (λ link is. (is, refl))
+    (link_made c.args.place c.link_of.result c.in-Some.target c.in-Some-parse.name
     (three_texts cow_slice_items c.args.fields.now (omega arith) (omega arith) c.target-item.is c.name-item.is c.as_slice.ensures.value c.as_slice-2.ensures.value)
     c.requires (c.in-Some.ensures.just.0 refl) (c.in-Some-parse.ensures.just.0 refl) c.in-Some.ensures.name c.in-Some-parse.ensures.name
-    c.link_of.ensures.place c.link_of.ensures.target c.link_of.ensures.name
+    c.link_of.ensures.place c.link_of.ensures.target c.link_of.ensures.name)

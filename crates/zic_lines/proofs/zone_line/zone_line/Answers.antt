@@ -24,4 +24,4 @@ returns-clause-ok c =
 pub returns-clause-says : goal.returns-clause-says
 returns-clause-says c =
     zone_made (five_texts cow_slice_items c.args.fields.now (omega arith) c.name-item.is c.stdoff-item.is c.rules-item.is c.format-item.is c.as_slice.ensures.value c.as_slice-2.ensures.value c.as_slice-3.ensures.value c.as_slice-4.ensures.value) (few cow_slice_items _ c.if-until-gt4.false)
-    c.args.place c.named.result c.in-Some.name c.in_ok-line.line c.requires (c.in-Some.ensures.just.0 refl) c.in-Some.ensures.name c.in_ok-line.ensures.says c.named.ensures.name c.named.ensures.line
+    c.args.place c.named.result c.in-Some.name c.in_ok-line.line c.requires (c.in-Some.ensures.just.0 refl) c.in-Some.ensures.name c.in_ok-line.ensures.says c.named.ensures
