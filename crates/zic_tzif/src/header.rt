@@ -1,7 +1,7 @@
 //! Headers.
 
 ghost use Rattle.std.specs.Prelude.{◌≡◌, ◌+◌, ◌≤◌, length};
-ghost use Rattle.zic_tzif.specs.Header.{counts_at, block_length};
+ghost use Rattle.zic_tzif.specs.Header.{number_at, counts_at, block_length};
 ghost use Rattle.zic_tzif.specs.Reading.{are_counts};
 
 use byteorder::{BigEndian, ByteOrder};
@@ -20,18 +20,26 @@ pub struct Counts {
     pub characters: u32,
 }
 
+/// Returns the number in the four bytes at a place, the highest first.
+fn number_at(octets: &[u8], place: usize) -> u32
+    requires { place + 4 ≤ length octets.now }
+    ensures { result ≡ number_at octets.now place }
+{
+    BigEndian::read_u32(&octets[place..])
+}
+
 /// Returns the counts of the header at a place.
 pub fn counts_at(octets: &[u8], place: usize) -> Counts
     requires { place + 44 ≤ length octets.now }
     ensures { result ≡ counts_at octets.now place }
 {
     Counts {
-        ut_indicators: BigEndian::read_u32(&octets[place + 20..]),
-        standard_indicators: BigEndian::read_u32(&octets[place + 24..]),
-        leap_seconds: BigEndian::read_u32(&octets[place + 28..]),
-        transitions: BigEndian::read_u32(&octets[place + 32..]),
-        types: BigEndian::read_u32(&octets[place + 36..]),
-        characters: BigEndian::read_u32(&octets[place + 40..]),
+        ut_indicators: number_at(octets, place + 20),
+        standard_indicators: number_at(octets, place + 24),
+        leap_seconds: number_at(octets, place + 28),
+        transitions: number_at(octets, place + 32),
+        types: number_at(octets, place + 36),
+        characters: number_at(octets, place + 40),
     }
 }
 

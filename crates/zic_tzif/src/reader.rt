@@ -11,6 +11,7 @@ ghost use Rattle.zic_tzif.specs.Content.{IsFooter, type_state};
 ghost use Rattle.zic_tzif.specs.Header.{second_header, footer_place};
 ghost use Rattle.zic_tzif.specs.Reading.{first_checks, second_checks, footer_checks, checks, HasFooter, IsFile, IsSomeFile, IsFault, ReadNeedsMemory, reason_of};
 ghost use Rattle.zic_tzif.specs.code.Kept.{IsKept};
+ghost use Rattle.zic_tzif.specs.code.Stored.{stored_content};
 ghost use Rattle.zic_tzif.specs.code.Parts.{Checks, IsFirstPart, IsBlock, IsText, AreParts, DoesAgree, checks_of, content_of};
 
 use crate::content::LocalType;
@@ -19,8 +20,9 @@ use crate::designation::{designation, place_of};
 use crate::header::{HEADER_LENGTH, counts_at};
 use crate::reason::{ReadStop, Reason};
 use crate::stored::Stored;
+use crate::times::Times;
 use crate::transition::{last_change, times};
-use crate::type_record::{local_types, type_at};
+use crate::type_record::type_at;
 use crate::zone::Zone;
 use std::alloc::{AllocError, Global};
 use zic_base::{LONGEST_FILE, State};
@@ -206,21 +208,22 @@ fn zone_of(alloc: Global, parts: &Parts<'_>, footer: Option<Footer>) -> Result<Z
     requires { IsKept (content_of parts.now) footer }
     ensures { IfOk result (λ zone. zone ≡ content_of parts.now) }
 {
+    let stored = stored_of(alloc, parts)?;
+    Zone::new(alloc, stored, footer)
+}
+
+/// Copies what a zone keeps out of these parts.
+fn stored_of(alloc: Global, parts: &Parts<'_>) -> Result<Stored, AllocError>
+    ensures as_many { IfOk result
+        (λ stored. length stored.times.times.items ≡ length stored.numbers.items) }
+    ensures content { IfOk result (λ stored. stored_content stored ≡ content_of parts.now) }
+{
     let block = &parts.block;
     let times = times(alloc, block.numbers.len(), block.times)?;
-    let numbers = Vec::from_slice(alloc, block.numbers)?;
-    let types = local_types(alloc, block.types, block.records)?;
-    let names = Vec::from_slice(alloc, block.names)?;
-    let text = Vec::from_slice(alloc, parts.text)?;
-    let stored = Stored {
-        version: parts.version,
-        times,
-        numbers,
-        types,
-        names,
-        text,
-    };
-    Zone::new(alloc, stored, footer)
+    let times = Times::new(alloc, times)?;
+    let mut stored = Stored::new(alloc, parts.version, times);
+    stored.copy(alloc, parts)?;
+    Ok(stored)
 }
 
 /// Reads a TZif file of version 2 or 3 of at most 1,048,576 bytes, or returns the first check that

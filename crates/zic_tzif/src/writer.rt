@@ -128,11 +128,18 @@ fn put_types(out: &mut Vec<u8>, types: &[LocalType]) -> Result<(), AllocError>
     ensures { OnOk result (out.new.items ≡ out.old.items ++ flat_map type_octets types.now) }
 {
     for local_type in types {
-        let mut record = [0; RECORD_LENGTH];
-        BigEndian::write_i32(&mut record, local_type.offset);
-        record[4] = u8::from(local_type.daylight);
-        record[5] = local_type.place;
-        out.extend_from_slice(&record)?;
+        put_type(out, local_type)?;
     }
     Ok(())
+}
+
+/// Appends a local time type.
+fn put_type(out: &mut Vec<u8>, local_type: &LocalType) -> Result<(), AllocError>
+    ensures { OnOk result (out.new.items ≡ out.old.items ++ type_octets local_type.now) }
+{
+    let mut record = [0; RECORD_LENGTH];
+    BigEndian::write_i32(&mut record, local_type.offset);
+    record[4] = u8::from(local_type.daylight);
+    record[5] = local_type.place;
+    out.extend_from_slice(&record)
 }

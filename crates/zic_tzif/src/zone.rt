@@ -81,14 +81,14 @@ impl Zone {
         stored: Stored,
         footer: Option<Footer>,
     ) -> Result<Zone, AllocError>
-        requires as_many { length stored.times.items ≡ length stored.numbers.items }
+        requires as_many { length stored.times.times.items ≡ length stored.numbers.items }
         requires kept { IsKept (stored_content stored) footer }
         ensures { IfOk result (λ zone. zone ≡ stored_content stored) }
     {
         let lengths = name_lengths(alloc, &stored.names, &stored.types)?;
         Ok(Zone {
             version: stored.version,
-            times: Times::new(alloc, stored.times)?,
+            times: stored.times,
             numbers: stored.numbers,
             types: stored.types,
             lengths,

@@ -7,7 +7,7 @@ use Rattle.zic_tzif.specs.Block.{changes_at}
 abbrev pub stored_content : Stored → Content
 stored_content stored = record {
   version = stored.version;
-  changes = changes_at stored.times.items stored.numbers.items;
+  changes = changes_at stored.times.times.items stored.numbers.items;
   types = stored.types.items;
   names = stored.names.items;
   text = stored.text.items;
