@@ -9,6 +9,7 @@ ghost use Rattle.zic_dump.specs.Changes.{Change, AreChanges};
 ghost use Rattle.zic_dump.specs.Text.{change_line, IsDump};
 ghost use Rattle.zic_dump.specs.Years.{IsListed};
 ghost use Rattle.zic_dump.specs.code.Offsets.{HaveOffsets};
+ghost use Rattle.zic_dump.specs.code.Listing.{IsTextOf};
 
 use crate::line::{head, push_change};
 use crate::years::Years;
@@ -26,9 +27,17 @@ pub fn dump(alloc: Global, path: &str, bytes: &[u8], years: &Years) -> Result<Ve
     ensures err { IfRefusal reason_of result (IsFault bytes.now) }
 {
     let zone = read(alloc, bytes)?;
+    Ok(text_of(alloc, path, &zone, years)?)
+}
+
+/// Returns the text for a file at a path.
+fn text_of(alloc: Global, path: &str, zone: &Zone, years: &Years) -> Result<Vec<u8>, AllocError>
+    requires { HaveOffsets zone.now }
+    ensures { IfOk result (λ text. IsTextOf path.now zone.now years.now text.items) }
+{
     let first = years.first_instant();
     let mut text = head(alloc, path, &zone.at(first))?;
-    push_changes(alloc, &mut text, &zone, first, years.last_instant())?;
+    push_changes(alloc, &mut text, zone, first, years.last_instant())?;
     Ok(text)
 }
 

@@ -1,16 +1,17 @@
 //! Lines of the text.
 
-ghost use Rattle.std.specs.Prelude.{◌≡◌, ◌≤◌, ◌<◌, ◌++◌, pos, unsigned_abs, OnOk, IfOk};
+ghost use Rattle.std.specs.Prelude.{◌≡◌, ◌≤◌, ◌<◌, ◌++◌, ◌∷◌, [], if◌then◌else◌, pos, unsigned_abs, OnOk, IfOk};
 ghost use Rattle.std.specs.Char.{is_ascii_alphabetic};
 ghost use Rattle.std.specs.Int.{int_rem_euclid};
 ghost use Rattle.std.specs.List.{list_all};
+ghost use Rattle.zic_base.specs.Digits.{two_digits};
 ghost use Rattle.zic_base.specs.State.{shown};
 ghost use Rattle.zic_base.specs.declared.limit.TheConstants.{FARTHEST_FILE_OFFSET};
 ghost use Rattle.zic_tzif.specs.Answer.{answered};
 ghost use Rattle.zic_dump.specs.Changes.{Change, told, HasLocalTime, IsLocalAt};
 ghost use Rattle.zic_dump.specs.Text.{change_line, line_text, head_text, date_text, time_text, clock_text, is_placeholder, zdump_offset, escaped, quoted, is_word, name_text, state_text};
 ghost use Rattle.zic_dump.specs.Years.{IsListed};
-ghost use Rattle.zic_dump.specs.code.Written.{IsWritten};
+ghost use Rattle.zic_dump.specs.code.Written.{IsWritten, text_with};
 
 use std::alloc::{AllocError, Global};
 use zic_base::{State, two_digits};
@@ -78,12 +79,22 @@ fn push_line(
     ensures { OnOk result (text.new.items
         ≡ text.old.items ++ line_text local.now (shown state.now)) }
 {
+    push_local(text, local)?;
+    push_state(alloc, text, state)?;
+    text.push(b'\n')?;
+    Ok(())
+}
+
+/// Adds a date and a time of day, and a tab after each.
+fn push_local(text: &mut Vec<u8>, local: &Civil) -> Result<(), AllocError>
+    requires { IsWritten local.now }
+    ensures { OnOk result (text.new.items
+        ≡ text.old.items ++ (date_text local.now ++ 9 ∷ (time_text local.now ++ 9 ∷ []))) }
+{
     push_date(text, local)?;
     text.push(b'\t')?;
     push_time(text, local)?;
     text.push(b'\t')?;
-    push_state(alloc, text, state)?;
-    text.push(b'\n')?;
     Ok(())
 }
 
@@ -141,13 +152,20 @@ fn push_clock(
     if minute == 0 && second == 0 {
         return Ok(());
     }
-    text.extend_from_slice(mark)?;
-    text.extend_from_slice(&two_digits(minute))?;
+    push_part(text, mark, minute)?;
     if second == 0 {
         return Ok(());
     }
+    push_part(text, mark, second)
+}
+
+/// Adds minutes or seconds after a mark.
+fn push_part(text: &mut Vec<u8>, mark: &[u8], part: u32) -> Result<(), AllocError>
+    requires { part < 100 }
+    ensures { OnOk result (text.new.items ≡ text.old.items ++ (mark.now ++ two_digits part)) }
+{
     text.extend_from_slice(mark)?;
-    text.extend_from_slice(&two_digits(second))
+    text.extend_from_slice(&two_digits(part))
 }
 
 /// Adds an offset, an abbreviation and a daylight flag.
@@ -156,19 +174,44 @@ fn push_state(alloc: Global, text: &mut Vec<u8>, state: &State<'_>) -> Result<()
     ensures { OnOk result (text.new.items ≡ text.old.items ++ state_text (shown state.now)) }
 {
     let offset = zdump_offset(alloc, state)?;
-    text.extend_from_slice(&offset)?;
-    let same = offset.as_slice() == state.name;
-    if !same {
+    push_state_of(text, &offset, state)
+}
+
+/// Adds an offset's text, and the abbreviation and the daylight flag of its state.
+fn push_state_of(text: &mut Vec<u8>, offset: &[u8], state: &State<'_>) -> Result<(), AllocError>
+    ensures { OnOk result (text.new.items
+        ≡ text.old.items ++ text_with offset.now (shown state.now)) }
+{
+    let same = offset == state.name;
+    text.extend_from_slice(offset)?;
+    push_abbreviation(text, state.name, same)?;
+    push_flag(text, state.daylight, same)
+}
+
+/// Adds a tab and an abbreviation, or nothing where it is the same as the offset's text.
+fn push_abbreviation(text: &mut Vec<u8>, name: &[u8], same: bool) -> Result<(), AllocError>
+    ensures { OnOk result (text.new.items
+        ≡ text.old.items ++ (if same then [] else 9 ∷ name_text name.now)) }
+{
+    if same {
+        return Ok(());
+    }
+    text.push(b'\t')?;
+    push_name(text, name)
+}
+
+/// Adds the flag of daylight saving time, after a tab for an abbreviation that was left out.
+fn push_flag(text: &mut Vec<u8>, daylight: bool, same: bool) -> Result<(), AllocError>
+    ensures { OnOk result (text.new.items ≡ text.old.items
+        ++ (if daylight then (if same then 9 ∷ [] else []) ++ 9 ∷ 49 ∷ [] else [])) }
+{
+    if !daylight {
+        return Ok(());
+    }
+    if same {
         text.push(b'\t')?;
-        push_name(text, state.name)?;
     }
-    if state.daylight {
-        if same {
-            text.push(b'\t')?;
-        }
-        text.extend_from_slice(b"\t1")?;
-    }
-    Ok(())
+    text.extend_from_slice(b"\t1")
 }
 
 /// Returns an offset.

@@ -1,39 +1,18 @@
-use Rattle.std.proofs.Common.{◌≡◌, ℤ, ℕ, List, ◌++◌, to_z, of_z, w64, subst, ◌∙◌, ap, rules}
-use Rattle.std.specs.List.{flat_map}
-use Rattle.zic_tzif.specs.Answer.{Answers, answered}
-use Rattle.zic_dump.specs.Changes.{AreChanges}
-use Rattle.zic_dump.specs.Text.{change_line}
-use Rattle.zic_dump.specs.Years.{year_instant}
 use Rattle.zic_dump.proofs.OffsetLemmas.{have_offsets}
 use Rattle.zic_dump.proofs.changes.dump.Goals as goal
 
-pub head-requires : goal.head-requires
-head-requires c = have_offsets c.args.bytes.now c.in_ok-zone.zone c.in_ok-zone.ensures.ok _ (answered c.at.result) c.at.ensures
-
-pub push_changes-requires-clause-offsets : goal.push_changes-requires-clause-offsets
-push_changes-requires-clause-offsets c = have_offsets c.args.bytes.now c.in_ok-zone.zone c.in_ok-zone.ensures.ok
-
-pub push_changes-requires-clause-order : goal.push_changes-requires-clause-order
-push_changes-requires-clause-order c =
-    let f : to_z w64 (of_z w64 c.first_instant-first.result) ≡ year_instant c.args.years.now.from = search rules in
-    let l : to_z w64 (of_z w64 c.last_instant.result) ≡ c.last_instant.result = search rules in
-    let order = c.last_instant.ensures.order in
-    rw (f, l) order
+pub text_of-requires : goal.text_of-requires
+text_of-requires c = have_offsets c.args.bytes.now c.in_ok-zone.zone c.in_ok-zone.ensures.ok
 
 pub returns-clause-ok : goal.returns-clause-ok
 returns-clause-ok c =
-    let years = c.args.years.now in
-    let zone = c.in_ok-zone.zone in
-    let f : to_z w64 (of_z w64 c.first_instant-first.result) ≡ year_instant years.from = search rules in
-    let l : to_z w64 (of_z w64 c.last_instant.result) ≡ year_instant years.to = search rules in
-    let pushed = c.in_ok-push_changes.ensures in
-    let before = answered c.at.result in
+    let made = c.in_ok-text_of.ensures in
     record {
-      content = zone;
+      content = c.in_ok-zone.zone;
       is_file = c.in_ok-zone.ensures.ok;
-      before = before;
-      answers = subst (λ (z : ℤ). Answers zone z before) f c.at.ensures;
-      changes = pushed.0;
-      are_changes = subst (λ (z : ℤ). AreChanges zone (year_instant years.from) z pushed.0) l (subst (λ (z : ℤ). AreChanges zone z (to_z w64 (of_z w64 c.last_instant.result)) pushed.0) f pushed.1);
-      is = pushed.2 ∙ ap (λ (text : List ℕ). text ++ flat_map change_line pushed.0) c.in_ok-text.ensures;
+      before = made.before;
+      answers = made.answers;
+      changes = made.changes;
+      are_changes = made.are_changes;
+      is = made.is;
     }
