@@ -28,3 +28,9 @@ module _ {A : Type 0} (text : A → List ℕ) where
   -- a text where there is a field
   pub some_texts : (xs : List A) → 0 < length xs → 0 < length (map text xs)
   some_texts xs h = rw (length-map xs text) h
+
+  pub three_first : (xs : List A) {x0 x1 x2 : A} {t0 t1 t2 : List ℕ} → 3 ≤ length xs → x0 ≡ get_or xs 0 x0 → x1 ≡ get_or xs 1 x1 → x2 ≡ get_or xs 2 x2
+      → t0 ≡ text x0 → t1 ≡ text x1 → t2 ≡ text x2
+      → map text xs ≡ t0 ∷ t1 ∷ t2 ∷ map text (take (length xs - 3) (drop 3 xs))
+  three_first (y0 ∷ y1 ∷ y2 ∷ others) least p0 p1 p2 q0 q1 q2 = rw (q0, p0, q1, p1, q2, p2, take_all (length (y0 ∷ y1 ∷ y2 ∷ others) - 3) others (omega arith)) refl
+  three_first xs least p0 p1 p2 q0 q1 q2 = absurd (omega arith)

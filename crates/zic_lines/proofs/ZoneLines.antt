@@ -13,10 +13,10 @@ use Rattle.zic_lines.specs.declared.until.Until.{Until}
 use Rattle.zic_lines.specs.declared.zone_line.ZoneLine.{ZoneLine}
 use Rattle.zic_lines.specs.RulesField.{rules_of}
 use Rattle.zic_lines.specs.Format.{format_of}
-use Rattle.zic_lines.specs.Until.{until_of}
+use Rattle.zic_lines.specs.Until.{until_of, until_at}
 use Rattle.zic_lines.specs.ZoneLine.{IsZoneLine, IsContinuationLine}
 use Rattle.zic_lines.specs.Checks.{zone_part_checks, zone_checks, continuation_checks}
-use Rattle.std.specs.Prelude.{IfOk, ℤ}
+use Rattle.std.specs.Prelude.{IfOk, ℤ, ◌<◌, slice_index_or, option_map, codes}
 use Rattle.zic_lines.specs.declared.rules.Rules.{Rules}
 use Rattle.zic_lines.specs.declared.format.Format.{Format}
 use Rattle.zic_lines.specs.declared.entry.Entry.{Entry}
@@ -128,3 +128,31 @@ module _ {texts : List (List ℕ)} {keyword name stdoff rules format : List ℕ}
       } in
       subst (IsOtherLine place texts) (sym zone.is) (said, refl)
   zone_made {E = E} place (Err e) made_name made_line begins named n is zone = tt
+
+-- ---- what the code makes of the fields of a continuation line
+
+pub part_continues : {texts : List (List ℕ)} {stdoff rules format : List ℕ} {until : List (List ℕ)} → texts ≡ stdoff ∷ rules ∷ format ∷ until → length until ≤ 4
+    → first_failed (continuation_checks texts) ≡ first_failed (zone_part_checks stdoff rules format until)
+part_continues {until = until} are few = ap (λ (ts : List (List ℕ)). first_failed (continuation_checks ts)) are ∙ rw (le-leb (length until) 4 few) refl
+
+-- ---- the fields of an UNTIL, and what stands for those that are missing
+
+pub until_by : (texts : List (List ℕ)) → 0 < length texts → length texts ≤ 4
+    → option_map (λ until. Some until) (until_at (slice_index_or texts 0 []) (slice_index_or texts 1 (codes "Jan")) (slice_index_or texts 2 (codes "1")) (slice_index_or texts 3 (codes "-"))) ≡ until_of texts
+unfolding until_of
+until_by [] some few = absurd (omega arith)
+until_by (a ∷ []) some few = refl
+until_by (a ∷ b ∷ []) some few = refl
+until_by (a ∷ b ∷ c ∷ []) some few = refl
+until_by (a ∷ b ∷ c ∷ d ∷ []) some few = refl
+until_by (a ∷ b ∷ c ∷ d ∷ e ∷ others) some few = absurd (omega arith)
+
+pub until_made : (texts : List (List ℕ)) (year month day time : List ℕ) (until : Option Until) → 0 < length texts → length texts ≤ 4
+    → year ≡ slice_index_or texts 0 [] → month ≡ slice_index_or texts 1 (codes "Jan") → day ≡ slice_index_or texts 2 (codes "1") → time ≡ slice_index_or texts 3 (codes "-")
+    → until ≡ until_at year month day time → option_map (λ until. Some until) until ≡ until_of texts
+until_made texts year month day time until some few y m d t e = rw (e, y, m, d, t) (until_by texts some few)
+
+pub until_of_none : (texts : List (List ℕ)) → length texts ≡ 0 → Some None ≡ until_of texts
+unfolding until_of
+until_of_none [] none = refl
+until_of_none (text ∷ texts) none = absurd (omega arith)

@@ -1,6 +1,6 @@
 //! The UNTIL of a zone's line.
 
-ghost use Rattle.std.specs.Prelude.{◌≡◌, ◌≤◌, length};
+ghost use Rattle.std.specs.Prelude.{◌≡◌, ◌≤◌, length, slice_index_or};
 ghost use Rattle.zic_lines.specs.Until.{until_of, until_at};
 ghost use Rattle.zic_lines.specs.code.Texts.{texts_of};
 
@@ -31,24 +31,29 @@ fn until_at(year: &[u8], month: &[u8], day: &[u8], time: &[u8]) -> Option<Until>
     Some(Until { year, moment })
 }
 
+/// Returns the text of the field at this index, or this one where there is no such field.
+fn text_or<'a>(fields: &'a [CowSlice<'_, u8>], index: usize, missing: &'a [u8]) -> &'a [u8]
+    ensures { result.now ≡ slice_index_or (texts_of fields.now) index missing.now }
+{
+    if index < fields.len() {
+        fields[index].as_slice()
+    } else {
+        missing
+    }
+}
+
 /// Returns the UNTIL of the fields YEAR [MONTH [DAY [TIME]]], and `Some(None)` of no field; `None`
 /// where a field is wrong.
-#[tactic(auto, unfolding(crate::specs::Until::until_of))]
 pub(crate) fn parse_until(fields: &[CowSlice<'_, u8>]) -> Option<Option<Until>>
     requires { length fields.now ≤ 4 }
     ensures { result ≡ until_of (texts_of fields.now) }
 {
-    let until = match fields {
-        [] => return Some(None),
-        [year] => until_at(year.as_slice(), b"Jan", b"1", b"-")?,
-        [year, month] => until_at(year.as_slice(), month.as_slice(), b"1", b"-")?,
-        [year, month, day] => until_at(year.as_slice(), month.as_slice(), day.as_slice(), b"-")?,
-        [year, month, day, time, ..] => until_at(
-            year.as_slice(),
-            month.as_slice(),
-            day.as_slice(),
-            time.as_slice(),
-        )?,
-    };
-    Some(Some(until))
+    if fields.is_empty() {
+        return Some(None);
+    }
+    let year = text_or(fields, 0, b"");
+    let month = text_or(fields, 1, b"Jan");
+    let day = text_or(fields, 2, b"1");
+    let time = text_or(fields, 3, b"-");
+    Some(Some(until_at(year, month, day, time)?))
 }
