@@ -7,7 +7,7 @@ use zic_base::Kind;
 use zic_words::{Name, is_one_leap_year, parse_day_form, parse_month, parse_year};
 
 /// The part of a line that a fault is about.
-#[derive(Clone, Copy, Debug)]
+#[derive(Clone, Copy)]
 pub(crate) struct Part {
     /// Where it stands in the line.
     pub(crate) span: Span,

@@ -4,14 +4,14 @@
 use std::alloc::{AllocError, Global};
 
 /// A part of a line, from a byte up to another.
-#[derive(Clone, Copy, Debug, PartialEq, Eq)]
+#[derive(Clone, Copy)]
 pub(crate) struct Span {
     pub(crate) start: usize,
     pub(crate) end: usize,
 }
 
 /// A field of a line.
-#[derive(Debug, Drop)]
+#[derive(Drop)]
 pub(crate) struct Field {
     /// Where it stands in its line, with its double quotes.
     pub(crate) span: Span,

@@ -5,7 +5,7 @@ use std::alloc::{AllocError, Global};
 use zic_words::{Keyword, parse_keyword};
 
 /// What a line of a source is.
-#[derive(Clone, Copy, Debug, PartialEq, Eq)]
+#[derive(Clone, Copy, PartialEq, Eq)]
 pub(crate) enum Form {
     Rule,
     Zone,
