@@ -16,7 +16,7 @@ use Rattle.zic_columns.proofs.MachineFacts.{ends_both, ends_byte, one_whole, rea
 use Rattle.zic_columns.proofs.SomeRecords.{step_before, whole_both, whole_none}
 
 -- within a record
-abbrev in_record : State → Bool
+abbrev pub in_record : State → Bool
 in_record st.StartRecord = false
 in_record st.StartField = true
 in_record st.InField = true
@@ -38,14 +38,14 @@ ends_there st.AfterCr is over = cc is
 
 -- ---- a byte within a record ends it, or is of it
 
-abbrev Stays : State × Action → Type 0
+abbrev pub Stays : State × Action → Type 0
 Stays to = is_end to.1 ≡ false → in_record to.0 ≡ true
 
 in_field_stays : (byte : ℕ) → Stays (in_field default_config byte)
 in_field_stays byte = cond_both (byte == 44) (st.StartField, act.EndField) (cond (ends_with term.CRLF byte) (after_end term.CRLF byte, act.EndRecord) (st.InField, act.Copy)) Stays (λ _ _. refl)
     (λ _. cond_both (ends_with term.CRLF byte) (after_end term.CRLF byte, act.EndRecord) (st.InField, act.Copy) Stays (λ _ no. absurd (cc no)) (λ _ _. refl))
 
-stays : (s : State) (byte : ℕ) → in_record s ≡ true → Stays (step default_config s byte)
+pub stays : (s : State) (byte : ℕ) → in_record s ≡ true → Stays (step default_config s byte)
 stays st.StartRecord byte is = absurd (cc is)
 stays st.StartField byte is = cond_both (byte == 34) (st.InQuoted, act.Skip) (in_field default_config byte) Stays (λ _ _. refl) (λ _. in_field_stays byte)
 stays st.InField byte is = in_field_stays byte

@@ -5,10 +5,10 @@ use Rattle.std.proofs.lemmas.List.{append-nil, drop-drop, drop_at, drop_all, len
 use Rattle.std.proofs.lemmas.List.Elements.{All-head, All-nil, All-push, All-tail, All-weaker}
 use Rattle.std.proofs.lemmas.Bool.{cases_lt, eqb-true}
 use Rattle.std.proofs.lemmas.Grind.{flat_map-append}
-use Rattle.std.specs.List.{flat_map}
 use Rattle.zic_columns.specs.Column.{AreWholeRecords, column_records}
 use Rattle.zic_columns.specs.Cut.{AreCutAfter}
-use Rattle.zic_columns.specs.Round.{ArePiecesOf, records_of}
+use Rattle.zic_columns.specs.Own.{Whole, whole_records}
+use Rattle.zic_columns.specs.Round.{ArePiecesOf, wholes_of}
 use Rattle.zic_columns.specs.code.Range.{AreWithin, piece_at, pieces_at}
 use Rattle.zic_columns.specs.code.Cutting.{IsCut}
 use Rattle.zic_columns.specs.code.Line.{IsFirstRecord}
@@ -17,6 +17,7 @@ use Rattle.zic_columns.proofs.Ranges.{within_front}
 use Rattle.zic_columns.specs.declared.pieces.Cut.{Cut}
 use Rattle.zic_columns.specs.declared.pieces.TheConstants.{MAX_ROUND_PIECES}
 use Rattle.zic_columns.proofs.SomeRecords.{column_records-nil, joined, whole_both, whole_none}
+use Rattle.zic_columns.proofs.Wholes.{none_of_wholes, wholes_cut, wholes_joined, wholes_none}
 use Rattle.zic_columns.specs.declared.pieces.PieceRange.{PieceRange}
 
 -- each piece has so many records
@@ -50,7 +51,7 @@ pub record IsCutTo (bytes : List ℕ) (size : ℕ) (ranges : List PieceRange) (r
   pub inside : AreWithin ranges at
   pub sizes : ArePiecesOf size (pieces_at bytes ranges)
   pub full : (column_records rest ≡ []) ⊎ AreFull size (pieces_at bytes ranges)
-  pub records : column_records (take at bytes) ≡ records_of (pieces_at bytes ranges)
+  pub records : whole_records (take at bytes) ≡ wholes_of (pieces_at bytes ranges)
   pub whole : (rest ≡ []) ⊎ AreWholeRecords (take at bytes)
 
 pub cut_none : (bytes : List ℕ) (size : ℕ) → IsCutTo bytes size [] bytes
@@ -62,7 +63,7 @@ cut_none bytes size = record {
   inside = All-nil (λ range. (range.start ≤ range.end) × (range.end ≤ 0));
   sizes = tt;
   full = inr (full_none size);
-  records = column_records-nil;
+  records = wholes_none [] column_records-nil;
   whole = inr whole_none;
 }
 
@@ -123,9 +124,9 @@ cut_more bytes size ranges rest first after some to has cut =
       sizes = rw pieces (full_last size (pieces_at bytes ranges) first full (omega (arith, number, has, some)) (omega (arith, number)));
       full = rw pieces (full_or_none rest size first after (pieces_at bytes ranges) cut full);
       records =
-          ap column_records front ∙ whole first ∙ ap (λ (r : List (List (List ℕ))). r ++ column_records first) to.records
-          ∙ sym (ap (flat_map column_records) pieces ∙ flat_map-append column_records (pieces_at bytes ranges) (first ∷ [])
-          ∙ ap (λ (r : List (List (List ℕ))). flat_map column_records (pieces_at bytes ranges) ++ r) (append-nil (column_records first)));
+          ap whole_records front ∙ wholes_cut (take at bytes) first whole ∙ ap (λ (r : List Whole). r ++ whole_records first) to.records
+          ∙ sym (ap wholes_of pieces ∙ flat_map-append whole_records (pieces_at bytes ranges) (first ∷ [])
+          ∙ ap (λ (r : List Whole). wholes_of (pieces_at bytes ranges) ++ r) (append-nil (whole_records first)));
       whole = ⊎_elim
           (λ none. inl none)
           (λ (one : AreWholeRecords first). inr (subst AreWholeRecords (sym front) (whole_both (take at bytes) first whole one)))
@@ -143,7 +144,7 @@ cut_done bytes size cut rest to len many =
       ranges = subst (AreWithin cut.ranges.items) same to.inside;
       few = omega (arith, many);
       sizes = to.sizes;
-      records = ap (λ (n : ℕ). column_records (take n bytes)) (sym same) ∙ to.records;
+      records = ap (λ (n : ℕ). whole_records (take n bytes)) (sym same) ∙ to.records;
       whole = subst (λ (n : ℕ). (drop n bytes ≡ []) ⊎ AreWholeRecords (take n bytes)) same
           (subst (λ (r : List ℕ). (r ≡ []) ⊎ AreWholeRecords (take to.at bytes)) to.after to.whole);
       none = λ no. absurd (omega (arith, no, many));
@@ -155,19 +156,19 @@ pub cut_to_end : (bytes : List ℕ) (size : ℕ) (cut : Cut) (rest : List ℕ) �
     → IsCut bytes size cut
 cut_to_end bytes size cut rest to len few left =
     let all : take cut.len bytes ≡ bytes = take_all cut.len bytes (omega (arith, len)) in
-    let pieces = records_of (pieces_at bytes cut.ranges.items) in
-    let parts : column_records bytes ≡ pieces =
-    ap column_records (sym (take-append-drop to.at bytes)) ∙ joined (take to.at bytes) (drop to.at bytes) (subst (λ (r : List ℕ). (r ≡ []) ⊎ AreWholeRecords (take to.at bytes)) to.after to.whole)
-    ∙ ap (λ (r : List (List (List ℕ))). r ++ column_records (drop to.at bytes)) to.records ∙ ap (λ (r : List (List (List ℕ))). pieces ++ r) (ap column_records (sym to.after) ∙ left)
+    let pieces = wholes_of (pieces_at bytes cut.ranges.items) in
+    let parts : whole_records bytes ≡ pieces =
+    ap whole_records (sym (take-append-drop to.at bytes)) ∙ wholes_joined (take to.at bytes) (drop to.at bytes) (subst (λ (r : List ℕ). (r ≡ []) ⊎ AreWholeRecords (take to.at bytes)) to.after to.whole)
+    ∙ ap (λ (r : List Whole). r ++ whole_records (drop to.at bytes)) to.records ∙ ap (λ (r : List Whole). pieces ++ r) (ap whole_records (sym to.after) ∙ wholes_none rest left)
     ∙ append-nil pieces in
     record {
       within = omega (arith, len);
       ranges = All-weaker (λ s. (s.start ≤ s.end) × (s.end ≤ to.at)) (λ s. (s.start ≤ s.end) × (s.end ≤ cut.len)) (λ s is. (is.0, omega (arith, is.1, to.within, len))) cut.ranges.items to.inside;
       few = few;
       sizes = to.sizes;
-      records = ap column_records all ∙ parts;
+      records = ap whole_records all ∙ parts;
       whole = inl (drop_all cut.len bytes (omega (arith, len)));
-      none = λ no. parts ∙ ap (λ (r : List PieceRange). records_of (pieces_at bytes r)) (nil_from_length cut.ranges.items no);
+      none = λ no. none_of_wholes bytes (parts ∙ ap (λ (r : List PieceRange). wholes_of (pieces_at bytes r)) (nil_from_length cut.ranges.items no));
     }
 
 -- pieces stand in the first bytes as in all

@@ -11,7 +11,8 @@ use Rattle.csv.specs.declared.parser.State.{State}
 use Rattle.csv.specs.declared.parser.State.TheVariants as st
 use Rattle.zic_columns.specs.Column.{column_records}
 use Rattle.zic_columns.specs.Exchange.{AreDelimitedRecords, CanDelimit, config_of, exchange, exchanged}
-use Rattle.zic_columns.specs.Laws.{RecordsAreExchanged}
+use Rattle.zic_columns.specs.Laws.{RecordsAreExchanged, TextsAreExchanged}
+use Rattle.zic_columns.specs.Own.{delimited_texts, own_after, own_from}
 use Rattle.zic_columns.proofs.SomeRecords.{are_read}
 
 -- the delimiter becomes a comma
@@ -31,7 +32,7 @@ twice d [] = refl
 twice d (b ∷ bytes) = rw (byte_twice d b, twice d bytes) refl
 
 -- what was a comma is the delimiter, and the other way round
-as_comma : (d b : ℕ) → (exchange d b == d) ≡ (b == 44)
+pub as_comma : (d b : ℕ) → (exchange d b == d) ≡ (b == 44)
 as_comma d b =
     cond_both (b == 44) d (if b == d then 44 else b) (λ x. (x == d) ≡ (b == 44))
     (λ comma. rw comma (eq-eqb d d refl))
@@ -121,6 +122,27 @@ module _ (d : ℕ) (can : CanDelimit d) where
     next_exchanged are.0 [] [] are.1 ∙ ap (option_map read_exchanged) are.3,
   )
 
+  own_kept : (s : State) (b : ℕ) (own : List ℕ) → own_after s (exchange d b) (exchanged d own) ≡ exchanged d (own_after s b own)
+  own_kept s b own =
+      cond_both (ends_at_end s) (own ++ b ∷ []) [] (λ (l : List ℕ). (if ends_at_end s then exchanged d own ++ exchange d b ∷ [] else []) ≡ exchanged d l)
+      (λ yes. rw yes (sym (map-append (exchange d) own (b ∷ [])))) (λ no. rw no refl)
+
+  -- and so are the own bytes of records
+  own_exchanged : (s : State) (own bytes : List ℕ) → own_from (config_of d) s (exchanged d own) (exchanged d bytes) ≡ map (exchanged d) (own_from default_config s own bytes)
+  unfolding own_from
+  own_exchanged s own [] =
+      cond_both (ends_at_end s) (own ∷ []) [] (λ (l : List (List ℕ)). (if ends_at_end s then exchanged d own ∷ [] else []) ≡ map (exchanged d) l)
+      (λ yes. rw yes refl) (λ no. rw no refl)
+  own_exchanged s own (b ∷ bytes) =
+      let to = step default_config s b in
+      let after = own_after to.0 b own in
+      rw (step_exchanged s b, own_kept to.0 b own)
+      (cond_both (is_end to.1) (own ∷ own_from default_config to.0 [] bytes) (own_from default_config to.0 after bytes)
+      (λ (l : List (List ℕ)). (if is_end to.1 then exchanged d own ∷ own_from (config_of d) to.0 [] (exchanged d bytes)
+      else own_from (config_of d) to.0 (exchanged d after) (exchanged d bytes)) ≡ map (exchanged d) l)
+      (λ yes. rw yes (ap (λ (l : List (List ℕ)). exchanged d own ∷ l) (own_exchanged to.0 [] bytes)))
+      (λ no. rw no (own_exchanged to.0 after bytes)))
+
   -- neither is a byte of the byte order mark
   bom_exchanged : (a b c : ℕ) → is_bom (exchange d a) (exchange d b) (exchange d c) ≡ is_bom a b c
   bom_exchanged a b c =
@@ -141,6 +163,12 @@ records_exchanged d column can =
     let other = strip_bom (exchanged d column) in
     let same : exchanged d other ≡ strip_bom column = rw (strip_exchanged d can column) (twice d (strip_bom column)) in
     subst (λ (l : List ℕ). AreDelimitedRecords d l (map (map (exchanged d)) (column_records other))) same (are_exchanged d can other (column_records other) (are_read other))
+
+pub texts_exchanged : TextsAreExchanged
+texts_exchanged d column can =
+    let other = strip_bom (exchanged d column) in
+    let same : exchanged d other ≡ strip_bom column = rw (strip_exchanged d can column) (twice d (strip_bom column)) in
+    ap (delimited_texts d) (sym same) ∙ own_exchanged d can st.StartRecord [] other
 
 -- a comma stands in its own place
 byte_comma : (b : ℕ) → exchange 44 b ≡ b

@@ -19,3 +19,7 @@ pub mod Passing
 pub mod PairFacts
 pub mod Exchanges
 pub mod Fields
+pub mod OwnFacts
+pub mod OwnLens
+pub mod Wholes
+pub mod Written

@@ -1,90 +1,122 @@
 -- Bytes whose first record is passed over.
-use Rattle.std.proofs.Common.{◌≡◌, ℕ, ◌<◌, ◌≤◌, List, [], ◌∷◌, ◌++◌, length, take, drop, Option, Some, None, refl, sym, ap, ◌∙◌, arith, subst, ⊎_elim, append_assoc}
-use Rattle.std.proofs.lemmas.List.{append-nil, drop_at, length-append, length-take, take-append-drop, take_all}
+use Rattle.std.proofs.Common.{◌≡◌, ◌⊎◌, ℕ, ◌≤◌, List, [], ◌∷◌, ◌++◌, length, take, drop, Option, Some, None, IfSome, refl, sym, ap, ◌∙◌, arith, subst, ⊎_elim, append_assoc}
+use Rattle.std.proofs.lemmas.List.{append-nil, drop_all, drop_at, length-append, length-drop, length-take, nil_from_length, take-append-drop}
 use Rattle.std.specs.Io.KnownBytes.{prepend_known}
 use Rattle.zic_columns.specs.Column.{AreWholeRecords, column_records}
 use Rattle.zic_columns.specs.Cut.{AreCutAfter}
+use Rattle.zic_columns.specs.Own.{Whole, first_own, first_text, own_texts, whole_records}
 use Rattle.zic_columns.specs.Round.{PassesFirst}
 use Rattle.zic_columns.specs.code.Hand.{AreSomeRecords, CanBeCut, Takes}
-use Rattle.zic_columns.proofs.SomeRecords.{column_records-nil}
+use Rattle.zic_columns.proofs.OwnFacts.{own_counted}
+use Rattle.zic_columns.proofs.Wholes.{owns_joined, owns_same, wholes_counted, wholes_cut, wholes_joined}
 
-abbrev Records : Type 0
-Records = List (List (List ℕ))
+-- ---- where bytes were gathered before
 
--- the first of some records, and what follows
-drop_first : (rs others : Records) → 0 < length rs → drop 1 (take 1 rs ++ others) ≡ others
-drop_first [] others some = absurd (omega (arith, some))
-drop_first (r ∷ rs) others some = refl
-
-drop_of_both : (rs others : Records) → 0 < length rs → drop 1 (rs ++ others) ≡ drop 1 rs ++ others
-drop_of_both [] others some = absurd (omega (arith, some))
-drop_of_both (r ∷ rs) others some = refl
-
--- where bytes were gathered before
 pub passes_next : (old mid new : Option (List ℕ)) → Takes old mid [] → PassesFirst mid new → PassesFirst old new
 passes_next None mid new first next = tt
 passes_next (Some bytes) mid new first next =
     let later = rw first.1 at next in
     (later.0, later.1, later.2 ∙ ap (drop 1) (sym first.2))
 
+-- these are the own bytes of the first record, where the bytes are known
+abbrev pub AreFirstOwn : List ℕ → Option (List ℕ) → Type 0
+AreFirstOwn own known = IfSome known (λ bytes. own ≡ first_own bytes)
+
+pub own_next : (own : List ℕ) (old mid : Option (List ℕ)) → Takes old mid [] → AreFirstOwn own mid → AreFirstOwn own old
+own_next own None mid first next = tt
+own_next own (Some bytes) mid first next =
+    let later : own ≡ first_own first.0 = rw first.1 at next in
+    later ∙ sym (ap first_text (owns_same bytes first.0 first.2))
+
+-- ---- one record, and those after it
+
+-- the first bytes have one record, or none where there is no other
+record AreInTwo (bytes first after : List ℕ) : Type 0 where
+  parts : whole_records bytes ≡ whole_records first ++ whole_records after
+  few : length (column_records first) ≤ 1
+  some : length (column_records first) ≡ 0 → length (column_records after) ≡ 0
+
+drop_first : (first after : List Whole) → length first ≤ 1 → (length first ≡ 0 → length after ≡ 0) → drop 1 (first ++ after) ≡ after
+drop_first [] after few some = let none = nil_from_length after (some refl) in rw none refl
+drop_first (w ∷ []) after few some = refl
+drop_first (w ∷ v ∷ ws) after few some = absurd (omega (arith, few))
+
+left_after : (bytes first after : List ℕ) → AreInTwo bytes first after → whole_records after ≡ drop 1 (whole_records bytes)
+left_after bytes first after two =
+    let few : length (whole_records first) ≤ 1 = omega (arith, two.few, wholes_counted first) in
+    let some : length (whole_records first) ≡ 0 → length (whole_records after) ≡ 0 =
+    λ none. wholes_counted after ∙ two.some (sym (wholes_counted first) ∙ none) in
+    sym (ap (drop 1) two.parts ∙ drop_first (whole_records first) (whole_records after) few some)
+
+text_first : (first after : List (List ℕ)) → (length first ≡ 0 → length after ≡ 0) → first_text (first ++ after) ≡ first_text first
+text_first [] after some = let none = nil_from_length after (some refl) in rw none refl
+text_first (text ∷ first) after some = refl
+
+own_first : (bytes first after : List ℕ) → AreInTwo bytes first after → first_own first ≡ first_own bytes
+own_first bytes first after two =
+    let some : length (own_texts first) ≡ 0 → length (own_texts after) ≡ 0 =
+    λ none. own_counted after ∙ two.some (sym (own_counted first) ∙ none) in
+    sym (ap first_text (owns_joined bytes first after two.parts) ∙ text_first (own_texts first) (own_texts after) some)
+
 module _ (held : List ℕ) (count : ℕ) (first rest : List ℕ) (cut : AreCutAfter (take count held) 1 first rest) where
+  in_hand : held ≡ first ++ (rest ++ drop count held)
+  in_hand = sym (take-append-drop count held) ∙ ap (λ (b : List ℕ). b ++ drop count held) cut.parts ∙ append_assoc first rest (drop count held)
+
   -- what is left in hand
   left_in_hand : drop (length first) held ≡ rest ++ drop count held
-  left_in_hand =
-      let parts : held ≡ first ++ (rest ++ drop count held) =
-      sym (take-append-drop count held) ∙ ap (λ (b : List ℕ). b ++ drop count held) cut.parts ∙ append_assoc first rest (drop count held) in
-      ap (drop (length first)) parts ∙ drop_at first (rest ++ drop count held) (length first) refl
+  left_in_hand = ap (drop (length first)) in_hand ∙ drop_at first (rest ++ drop count held) (length first) refl
 
   pub within : length first ≤ length held
   within = omega (arith, ap length cut.parts, length-append first rest, length-take count held)
 
-  module _ (more : List ℕ) (some : AreSomeRecords (take count held)) where
+  number : length (column_records first) ≡ length (take 1 (column_records (take count held)))
+  number = ap length cut.first_records
+
+  module _ (more : List ℕ) where
+    abbrev after : List ℕ
+    after = drop (length first) held ++ more
+
     -- the bytes in hand, and those to come
-    in_hand : held ++ more ≡ take count held ++ (drop count held ++ more)
-    in_hand = ap (λ (b : List ℕ). b ++ more) (sym (take-append-drop count held)) ∙ append_assoc (take count held) (drop count held) more
+    in_two : held ++ more ≡ first ++ after
+    in_two = ap (λ (b : List ℕ). b ++ more) (in_hand ∙ ap (λ (b : List ℕ). first ++ b) (sym left_in_hand)) ∙ append_assoc first (drop (length first) held) more
 
-    left : drop (length first) held ++ more ≡ rest ++ (drop count held ++ more)
-    left = ap (λ (b : List ℕ). b ++ more) left_in_hand ∙ append_assoc rest (drop count held) more
+    -- whatever follows the bytes in hand
+    some_in_two : AreSomeRecords (take count held) → AreInTwo (held ++ more) first after
+    some_in_two some =
+        let whole : AreWholeRecords first = ⊎_elim
+        (λ (none : rest ≡ []). subst AreWholeRecords (cut.parts ∙ ap (λ (b : List ℕ). first ++ b) none ∙ append-nil first) some.0)
+        (λ (whole : AreWholeRecords first). whole)
+        cut.whole in
+        let size = length-take 1 (column_records (take count held)) in
+        record {
+          parts = ap whole_records in_two ∙ wholes_cut first after whole;
+          few = omega (arith, number, size);
+          some = λ none. absurd (omega (arith, number, size, some.1, none));
+        }
 
-    -- the record is whole
-    whole_passed : AreWholeRecords first → column_records (drop (length first) held ++ more) ≡ drop 1 (column_records (held ++ more))
-    whole_passed whole =
-        let tail = drop count held ++ more in
-        let all : column_records (held ++ more) ≡ take 1 (column_records (take count held)) ++ column_records (rest ++ tail) =
-        ap column_records (in_hand ∙ ap (λ (b : List ℕ). b ++ tail) cut.parts ∙ append_assoc first rest tail) ∙ whole (rest ++ tail)
-        ∙ ap (λ (r : Records). r ++ column_records (rest ++ tail)) cut.first_records in
-        ap column_records left ∙ sym (ap (drop 1) all ∙ drop_first (column_records (take count held)) (column_records (rest ++ tail)) some.1)
+    -- at the end of the column
+    end_in_two : (count ≡ length held) × (more ≡ []) → AreInTwo (held ++ more) first after
+    end_in_two last =
+        let none : drop count held ≡ [] = drop_all count held (omega (arith, last.0)) in
+        let left : after ≡ rest = ap (λ (b : List ℕ). drop (length first) held ++ b) last.1 ∙ append-nil (drop (length first) held) ∙ left_in_hand
+        ∙ ap (λ (b : List ℕ). rest ++ b) none ∙ append-nil rest in
+        let size = length-take 1 (column_records (take count held)) in
+        let others = length-drop 1 (column_records (take count held)) in
+        record {
+          parts = ap whole_records in_two ∙ wholes_joined first after (subst (λ (r : List ℕ). (r ≡ []) ⊎ AreWholeRecords first) (sym left) cut.whole);
+          few = omega (arith, number, size);
+          some = λ no. ap (λ (b : List ℕ). length (column_records b)) left ∙ ap length cut.rest_records ∙ omega (arith, number, size, others, no);
+        }
 
-    -- there is no other record among the bytes that were to be cut
-    last_passed : rest ≡ [] → column_records (drop (length first) held ++ more) ≡ drop 1 (column_records (held ++ more))
-    last_passed none =
-        let tail = drop count held ++ more in
-        let all : column_records (held ++ more) ≡ column_records (take count held) ++ column_records tail = ap column_records in_hand ∙ some.0 tail in
-        let no_other : drop 1 (column_records (take count held)) ≡ [] = sym cut.rest_records ∙ ap column_records none ∙ column_records-nil in
-        ap column_records (left ∙ ap (λ (b : List ℕ). b ++ tail) none)
-        ∙ sym (ap (drop 1) all ∙ drop_of_both (column_records (take count held)) (column_records tail) some.1
-        ∙ ap (λ (r : Records). r ++ column_records tail) no_other)
-
-  -- at the end of the column
-  end_passed : count ≡ length held → column_records (drop (length first) held ++ []) ≡ drop 1 (column_records (held ++ []))
-  end_passed all =
-      let same : take count held ≡ held = take_all count held (omega (arith, all)) in
-      let parts : held ≡ first ++ rest = sym same ∙ cut.parts in
-      ap column_records (append-nil (drop (length first) held) ∙ ap (drop (length first)) parts ∙ drop_at first rest (length first) refl)
-      ∙ cut.rest_records ∙ ap (λ (b : List ℕ). drop 1 (column_records b)) (same ∙ sym (append-nil held))
+    are_in_two : CanBeCut held (Some more) count → AreInTwo (held ++ more) first after
+    are_in_two can = ⊎_elim some_in_two end_in_two can.1
 
   -- the first record in hand is passed over
   pub passes_first : (come : Option (List ℕ)) → CanBeCut held come count → PassesFirst (prepend_known held come) (prepend_known (drop (length first) held) come)
   passes_first None can = tt
-  passes_first (Some more) can = ⊎_elim
-      (λ (some : AreSomeRecords (take count held)). (
-        drop (length first) held ++ more,
-        refl,
-        ⊎_elim (last_passed more some) (whole_passed more some) cut.whole,
-      ))
-      (λ (last : (count ≡ length held) × (more ≡ [])). (
-        drop (length first) held ++ more,
-        refl,
-        subst (λ (r : List ℕ). column_records (drop (length first) held ++ r) ≡ drop 1 (column_records (held ++ r))) (sym last.1) (end_passed last.0),
-      ))
-      can.1
+  passes_first (Some more) can = (after more, refl, left_after (held ++ more) first (after more) (are_in_two more can))
+
+  -- and its own bytes are the first
+  pub are_first_own : (come : Option (List ℕ)) → CanBeCut held come count → AreFirstOwn (first_own first) (prepend_known held come)
+  are_first_own None can = tt
+  are_first_own (Some more) can = own_first (held ++ more) first (after more) (are_in_two more can)

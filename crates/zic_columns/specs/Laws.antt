@@ -1,8 +1,11 @@
 -- Laws about the records of a column.
-use Rattle.std.specs.Prelude.{◌≡◌, ℕ, List, map}
+use Rattle.std.specs.Prelude.{◌≡◌, ℕ, List, ◌++◌, length, map}
 use Rattle.csv.specs.Reading.{strip_bom}
+use Rattle.csv.specs.Writing.{default_writer, row_text, with_delimiter}
 use Rattle.zic_columns.specs.Column.{AreColumnRecords, AreWholeRecords, HasNoQuote, StandsBeforeRecord, column_records, plain_records}
 use Rattle.zic_columns.specs.Exchange.{AreDelimitedRecords, CanDelimit, exchanged}
+use Rattle.zic_columns.specs.Own.{Whole, beside, delimited_texts, own_texts, whole_records}
+use Rattle.zic_columns.specs.Round.{records_of, wholes_of}
 
 -- a CSV reader gives bytes these records
 abbrev pub ColumnRecordsAreRead : Type 0
@@ -31,3 +34,38 @@ RecordsAreCut = (bytes : List ℕ) → StandsBeforeRecord bytes → AreWholeReco
 abbrev pub RecordsAreExchanged : Type 0
 RecordsAreExchanged = (delimiter : ℕ) (column : List ℕ) → CanDelimit delimiter
     → AreDelimitedRecords delimiter (strip_bom column) (map (map (exchanged delimiter)) (column_records (strip_bom (exchanged delimiter column))))
+
+-- Each record has its own bytes: there are as many of both.
+abbrev pub OwnTextsAreOfRecords : Type 0
+OwnTextsAreOfRecords = (bytes : List ℕ)
+    → (map (λ (w : Whole). w.own) (whole_records bytes) ≡ own_texts bytes) × (map (λ (w : Whole). w.fields) (whole_records bytes) ≡ column_records bytes)
+
+-- Whatever follows whole records, its records with their own bytes come after theirs.
+abbrev pub WholeRecordsAreCut : Type 0
+WholeRecordsAreCut = (bytes rest : List ℕ) → AreWholeRecords bytes → whole_records (bytes ++ rest) ≡ whole_records bytes ++ whole_records rest
+
+-- The records of pieces with their own bytes have the fields of the records of the pieces.
+abbrev pub PiecesHaveRecords : Type 0
+PiecesHaveRecords = (pieces : List (List ℕ)) → map (λ (w : Whole). w.fields) (wholes_of pieces) ≡ records_of pieces
+
+-- The own bytes of the records of a column with another delimiter are those of the column in which it and the comma stand in each other's
+-- place, with the two put back.
+abbrev pub TextsAreExchanged : Type 0
+TextsAreExchanged = (delimiter : ℕ) (column : List ℕ) → CanDelimit delimiter
+    → delimited_texts delimiter (strip_bom column) ≡ map (exchanged delimiter) (own_texts (strip_bom (exchanged delimiter column)))
+
+-- Each record of a column with another delimiter has its own bytes: there are as many of both.
+abbrev pub TextsAreCounted : Type 0
+TextsAreCounted = (delimiter : ℕ) (bytes : List ℕ) (records : List (List (List ℕ))) → AreDelimitedRecords delimiter bytes records
+    → length (delimited_texts delimiter bytes) ≡ length records
+
+-- Where own bytes and fields are changed, each by itself, those that stood beside each other still do.
+abbrev pub BesideIsKept : Type 0
+BesideIsKept = (f : List ℕ → List ℕ) (g : List (List ℕ) → List (List ℕ)) (texts : List (List ℕ)) (records : List (List (List ℕ)))
+    → beside (map f texts) (map g records) ≡ map (λ (w : Whole). record { own = f w.own; fields = g w.fields }) (beside texts records)
+
+-- What a CSV writer makes of some fields has the delimiter for each comma that another CSV writer makes of the fields in which the two
+-- stand in each other's place.
+abbrev pub RowsAreExchanged : Type 0
+RowsAreExchanged = (delimiter : ℕ) (fields : List (List ℕ)) → CanDelimit delimiter
+    → exchanged delimiter (row_text default_writer fields) ≡ row_text (with_delimiter default_writer delimiter) (map (exchanged delimiter) fields)

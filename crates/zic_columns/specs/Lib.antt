@@ -4,5 +4,6 @@ pub mod Cut
 pub mod Round
 pub mod Exchange
 pub mod Wide
+pub mod Own
 pub mod Laws
 pub mod code

@@ -8,5 +8,6 @@ pub mod Cutting
 pub mod Hand
 pub mod Split
 pub mod Wide
+pub mod Own
 pub mod Block
 pub mod Pair

@@ -3,6 +3,7 @@
 ghost use Rattle.std.specs.Prelude.{◌≡◌, ◌↔◌, ◌+◌, ◌<◌, ◌≤◌, [], Some, false, length, take, drop, IfOk, IfSome, IsTrue};
 ghost use Rattle.std.specs.Io.KnownBytes.{IsAtEnd, Keeps};
 ghost use Rattle.csv.specs.Reading.{strip_bom};
+ghost use Rattle.zic_columns.specs.Own.{first_own};
 ghost use Rattle.zic_columns.specs.Round.{ArePiecesOf, HasNoRecord, PassesRecord, TakesRound, unread};
 ghost use Rattle.zic_columns.specs.declared.pieces.TheConstants.{MAX_ROUND_PIECES};
 ghost use Rattle.zic_columns.specs.code.Range.{AreWithin, pieces_at};
@@ -13,6 +14,7 @@ use crate::first::{first_record, split_records};
 use crate::hand::{Scan, scan_on, scan_rest};
 use crate::limit::Bounded;
 use crate::mark::without_mark;
+use crate::own::first_own_bytes;
 use crate::pieces::{PieceRange, cut_pieces};
 use crate::rounds::Round;
 use std::alloc::{AllocError, Global};
@@ -135,6 +137,7 @@ impl<R: Read> Column<R> {
     }
 
     /// Passes over the first record that no round had, if there is one, and leaves an empty round.
+    /// Returns the record's own bytes, or no bytes where there is no record.
     ///
     /// Reads until `wanted` bytes are in hand, but not again after a read that gave fewer than
     /// 64 KiB, unless no whole record is in hand.
@@ -143,15 +146,18 @@ impl<R: Read> Column<R> {
     ///
     /// Fails where the reader fails or gives more bytes than the column may have, or memory is
     /// refused.
-    pub fn pass_record(&mut self, alloc: Global, wanted: usize) -> Result<(), Unread>
+    pub fn pass_record(&mut self, alloc: Global, wanted: usize) -> Result<Vec<u8>, Unread>
         ensures passes { IfOk result (λ _. PassesRecord R.remaining self.old self.new) }
+        ensures own { IfOk result (λ own. IfSome (unread R.remaining self.old)
+            (λ bytes. own.items ≡ first_own bytes)) }
         ensures none { IfOk result (λ _. self.new.round ≡ []) }
     {
         let count = self.gather(alloc, wanted)?;
         let (record, _) = split_records(&self.window.held()[..count], 1);
+        let own = first_own_bytes(alloc, record)?;
         let len = record.len();
         self.pass(len, Vec::new(alloc));
-        Ok(())
+        Ok(own)
     }
 
     /// Returns the round that was taken last.

@@ -2,6 +2,9 @@
 
 ghost use Rattle.zic_columns.specs.Laws.{ColumnRecordsAreRead, PlainRecordsAreRead, RecordsAreCut};
 ghost use Rattle.zic_columns.specs.Laws.{DelimitedRecordsAreOne, RecordsAreExchanged, RecordsAreOne};
+ghost use Rattle.zic_columns.specs.Laws.{RowsAreExchanged};
+ghost use Rattle.zic_columns.specs.Laws.{BesideIsKept, OwnTextsAreOfRecords, PiecesHaveRecords};
+ghost use Rattle.zic_columns.specs.Laws.{TextsAreCounted, TextsAreExchanged, WholeRecordsAreCut};
 
 /// States that a CSV reader gives bytes their records.
 pub fn column_records_are_read()
@@ -33,4 +36,40 @@ pub fn records_are_cut()
 /// and the comma stand in each other's place.
 pub fn records_are_exchanged()
     ensures { RecordsAreExchanged }
+{}
+
+/// States that each record has its own bytes.
+pub fn own_texts_are_of_records()
+    ensures { OwnTextsAreOfRecords }
+{}
+
+/// States that whatever follows whole records, its records with their own bytes come after theirs.
+pub fn whole_records_are_cut()
+    ensures { WholeRecordsAreCut }
+{}
+
+/// States that the records of pieces with their own bytes have the fields of the records.
+pub fn pieces_have_records()
+    ensures { PiecesHaveRecords }
+{}
+
+/// States that a column with another delimiter has the own bytes of the column in which the
+/// delimiter and the comma stand in each other's place.
+pub fn texts_are_exchanged()
+    ensures { TextsAreExchanged }
+{}
+
+/// States that each record of a column with another delimiter has its own bytes.
+pub fn texts_are_counted()
+    ensures { TextsAreCounted }
+{}
+
+/// States that own bytes and fields that are changed still stand beside each other.
+pub fn beside_is_kept()
+    ensures { BesideIsKept }
+{}
+
+/// States that what a CSV writer makes of fields is exchanged as its fields are.
+pub fn rows_are_exchanged()
+    ensures { RowsAreExchanged }
 {}

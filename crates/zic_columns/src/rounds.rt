@@ -3,10 +3,11 @@
 ghost use Rattle.std.specs.Prelude.{◌≡◌, ◌<◌, ◌≤◌, length, take, Some, IfOk, IfSome};
 ghost use Rattle.std.specs.List.{slice_get};
 ghost use Rattle.zic_columns.specs.Column.{column_records};
+ghost use Rattle.zic_columns.specs.Own.{whole_records};
 
+use crate::own::EntrySplit;
 use crate::pieces::PieceRange;
 use crate::splits::Split;
-use crate::wide::WideSplit;
 use std::alloc::{AllocError, Global};
 use std::marker::Model;
 
@@ -73,16 +74,16 @@ impl<'a> Round<'a> {
         Split::new(alloc, self.piece(index))
     }
 
-    /// Divides the piece with this index into records of any number of fields.
+    /// Divides the piece with this index into records with their own bytes.
     ///
     /// # Errors
     ///
     /// Fails where memory is refused.
-    pub fn split_wide(&self, alloc: Global, index: usize) -> Result<WideSplit<'a>, AllocError>
+    pub fn split_entries(&self, alloc: Global, index: usize) -> Result<EntrySplit<'a>, AllocError>
         requires { index < length self.now }
         ensures { IfOk result
-            (λ split. IfSome (slice_get self.now index) (λ piece. split ≡ column_records piece)) }
+            (λ split. IfSome (slice_get self.now index) (λ piece. split ≡ whole_records piece)) }
     {
-        WideSplit::new(alloc, self.piece(index))
+        EntrySplit::new(alloc, self.piece(index))
     }
 }

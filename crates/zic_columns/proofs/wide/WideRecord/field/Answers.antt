@@ -1,4 +1,4 @@
-use Rattle.std.proofs.Common.{◌∙◌, rules}
+use Rattle.std.proofs.Common.{◌∙◌}
 use Rattle.csv.specs.Records.{fields_of}
 use Rattle.zic_columns.proofs.Fields.{csv_field}
 use Rattle.zic_columns.proofs.wide.WideRecord.field.Goals as goal

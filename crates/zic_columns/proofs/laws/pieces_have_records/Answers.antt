@@ -1,0 +1,5 @@
+use Rattle.zic_columns.proofs.Wholes.{pieces_fields}
+use Rattle.zic_columns.proofs.laws.pieces_have_records.Goals as goal
+
+pub returns : goal.returns
+returns c = pieces_fields

@@ -1,0 +1,5 @@
+use Rattle.zic_columns.proofs.Wholes.{wholes_cut}
+use Rattle.zic_columns.proofs.laws.whole_records_are_cut.Goals as goal
+
+pub returns : goal.returns
+returns c = wholes_cut
