@@ -1,10 +1,12 @@
 -- How a column is read, and what its rows are: own choice.
 use Rattle.std.specs.Prelude.{◌≡◌, ℕ, Bool, ◌==◌, nat_le}
+use Rattle.zic_plan.specs.declared.layout.AtFault.TheVariants as at
 use Rattle.zic_plan.specs.declared.layout.Layout.{Layout}
 use Rattle.zic_plan.specs.declared.layout.FieldCount.{FieldCount}
 use Rattle.zic_plan.specs.declared.layout.FieldCount.TheVariants as fields
 use Rattle.zic_plan.specs.declared.layout.Header.{Header}
 use Rattle.zic_plan.specs.declared.layout.Header.TheVariants as header
+use Rattle.zic_plan.specs.declared.layout.RowStart.TheVariants as starts
 use Rattle.zic_plan.specs.declared.layout.Unit.TheVariants as units
 use Rattle.zic_plan.specs.declared.layout.ZoneFrom.TheVariants as from
 
@@ -18,10 +20,13 @@ abbrev pub records_before : Header → ℕ
 records_before header.Absent = 0
 records_before header.First = 1
 
--- a record has two fields, the name of a zone and seconds, with a comma between them
+-- A record has two fields, the name of a zone and seconds, with a comma between them. Rows begin with these fields, and the first fault
+-- ends the conversion.
 pub record HasPlainRows (layout : Layout) : Type 0 where
   pub zone : layout.zone ≡ from.Field 0
   pub time : layout.time ≡ 1
   pub count : layout.count ≡ fields.Exactly 2
   pub unit : layout.unit ≡ units.Second
   pub delimiter : layout.delimiter ≡ 44
+  pub start : layout.start ≡ starts.Fields
+  pub at_fault : layout.at_fault ≡ at.End

@@ -49,6 +49,25 @@ pub enum Header {
     First,
 }
 
+/// What a row begins with.
+#[derive(Clone, Copy, Debug, PartialEq, Eq)]
+pub enum RowStart {
+    /// The name of its zone and its instant.
+    Fields,
+    /// The bytes of its record, as they stand in the column, without its line end.
+    Record,
+}
+
+/// What a row with a fault does.
+#[derive(Clone, Copy, Debug, PartialEq, Eq)]
+pub enum AtFault {
+    /// It ends the conversion.
+    End,
+    /// It is written without local time, and the conversion goes on. A row more than there may be
+    /// ends it.
+    GoOn,
+}
+
 /// How a column is read, and what its rows are.
 #[derive(Debug, Drop)]
 pub struct Layout {
@@ -64,11 +83,15 @@ pub struct Layout {
     pub delimiter: Delimiter,
     /// Whether there is a header.
     pub header: Header,
+    /// What a row begins with.
+    pub start: RowStart,
+    /// What a row with a fault does.
+    pub at_fault: AtFault,
 }
 
 impl Layout {
     /// Returns the layout of plain columns: two fields, the name of a zone and seconds, with a
-    /// comma between them.
+    /// comma between them. Rows begin with these fields, and the first fault ends the conversion.
     pub fn plain(header: Header) -> Layout
         ensures rows { HasPlainRows result }
         ensures header { result.header ≡ header }
@@ -80,6 +103,8 @@ impl Layout {
             unit: Unit::Second,
             delimiter: Delimiter::comma(),
             header,
+            start: RowStart::Fields,
+            at_fault: AtFault::End,
         }
     }
 
@@ -91,6 +116,9 @@ impl Layout {
         let zone = matches!(&self.zone, ZoneFrom::Field(0));
         let count = matches!(self.count, FieldCount::Exactly(2));
         let unit = matches!(self.unit, Unit::Second);
-        zone && self.time == 1 && count && unit && self.delimiter.byte() == b','
+        let start = matches!(self.start, RowStart::Fields);
+        let at_fault = matches!(self.at_fault, AtFault::End);
+        let fields = zone && self.time == 1 && count && unit && self.delimiter.byte() == b',';
+        fields && start && at_fault
     }
 }

@@ -3,13 +3,15 @@
 #![tactic(auto)]
 
 mod delimiter;
+mod fault_log;
 mod layout;
 mod plan;
 mod stop;
 mod word;
 
 pub use delimiter::Delimiter;
-pub use layout::{FieldCount, Header, Layout, Unit, ZoneFrom};
+pub use fault_log::{FaultLog, Unnoted};
+pub use layout::{AtFault, FieldCount, Header, Layout, RowStart, Unit, ZoneFrom};
 pub use plan::{MAX_BYTES, MAX_OF_PIECE, MAX_ROWS, MAX_WORKERS, Plan};
-pub use stop::{RowKind, RunStop};
+pub use stop::{RowFault, RowKind, RunStop};
 pub use word::{STANDARD_INPUT, parse_instant_word};

@@ -31,12 +31,19 @@ impl RowKind {
     }
 }
 
+/// A row with a fault, by its number from 1, and the fault.
+#[derive(Clone, Copy, Debug, PartialEq, Eq)]
+pub struct RowFault {
+    pub row: u64,
+    pub kind: RowKind,
+}
+
 /// Why a run ends early.
 #[derive(Clone, Copy, Debug, PartialEq, Eq)]
 pub enum RunStop {
     /// The first fault of a source or of its zones.
     Source(Fault),
-    /// The first row with a fault, by its number from 1, and the fault.
+    /// The row that ends the run, by its number from 1, and its fault.
     Row { row: u64, kind: RowKind },
     /// The reader failed.
     ReadFailed,
