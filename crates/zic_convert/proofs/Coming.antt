@@ -1,28 +1,40 @@
 -- What records come to, put together.
-use Rattle.std.proofs.Common.{◌≡◌, ◌≤◌, ◌+◌, ℕ, suc, List, [], ◌∷◌, ◌++◌, length, Option, Some, None, inl, inr, refl, sym, ap, subst, ◌∙◌, arith}
+use Rattle.std.proofs.Common.{◌≡◌, ◌≤◌, ◌+◌, ℕ, suc, List, [], ◌∷◌, ◌++◌, length, Option, Some, None, inl, inr, refl, sym, ap, ap₂, append_assoc, subst, ◌∙◌, arith}
 use Rattle.std.specs.Prelude.{nat_le}
 use Rattle.std.specs.List.{concat}
 use Rattle.std.proofs.lemmas.Bool.{cases_Bool}
 use Rattle.std.proofs.lemmas.List.Folds.{concat-append}
 use Rattle.std.proofs.lemmas.List.{append-nil, length-append}
+use Rattle.zic_columns.specs.Own.{Whole}
 use Rattle.zic_files.specs.File.{File}
+use Rattle.zic_plan.specs.declared.layout.AtFault.{AtFault}
+use Rattle.zic_plan.specs.declared.layout.AtFault.TheVariants as at_fault
 use Rattle.zic_plan.specs.declared.layout.Layout.{Layout}
+use Rattle.zic_plan.specs.declared.stop.RowFault.{RowFault}
 use Rattle.zic_plan.specs.declared.stop.RowKind.{RowKind}
-use Rattle.zic_convert.specs.LayoutRows.{ComeToBy, IsTextBy, fault_by}
+use Rattle.zic_plan.specs.declared.stop.RowKind.TheVariants as kinds
+use Rattle.zic_convert.specs.LayoutRows.{ComeToBy, IsRowBy, ending, ends_by, fault_by, faults_by, noted}
 use Rattle.zic_convert.specs.code.Row.{AreRowsOf, RowsOf}
 use Rattle.zic_convert.specs.code.Pieces.{followed_by}
 
+-- a record that is one too many ends each run
+pub too_many_ends : (at : AtFault) → ending at (Some kinds.TooManyRows) ≡ Some kinds.TooManyRows
+too_many_ends at_fault.End = refl
+too_many_ends at_fault.GoOn = refl
+
 module _ (layout : Layout) (files : List File) (most : ℕ) where
-  -- a row without a fault is one of so many
-  pub within : (number : ℕ) (fields : List (List ℕ)) → fault_by layout files most number fields ≡ None → number ≤ most
+  -- a row that doesn't end the run is one of so many
+  pub within : (number : ℕ) (fields : List (List ℕ)) → ends_by layout files most number fields ≡ None → number ≤ most
   within number fields e =
       elim (cases_Bool (nat_le number most)) [
         | inl is ↦ grind (arith, is)
-        | inr beyond ↦ (let bad = rw beyond at e in cc bad)
+        | inr beyond ↦
+            let ends : ending layout.at_fault (Some kinds.TooManyRows) ≡ None = rw beyond at e in
+            absurd (cc (sym (too_many_ends layout.at_fault) ∙ ends))
       ]
 
   -- rows without a fault, and the rows of the records after theirs
-  pub come_after : (number : ℕ) (xs ys : List (List (List ℕ))) (ts us : List (List ℕ)) (fault : Option RowKind)
+  pub come_after : (number : ℕ) (xs ys : List Whole) (ts us : List (List ℕ)) (fault : Option RowKind)
       → ComeToBy layout files most number xs ts None → ComeToBy layout files most (number + length ts) ys us fault → ComeToBy layout files most number (xs ++ ys) (ts ++ us) fault
   come_after number [] ys [] us fault before after =
       let at : number + 0 ≡ number = omega arith in
@@ -33,49 +45,87 @@ module _ (layout : Layout) (files : List File) (most : ℕ) where
       let at : number + suc (length ts) ≡ number + 1 + length ts = omega arith in
       (before.0, before.1, come_after (number + 1) xs ys ts us fault before.2 (subst (λ (n : ℕ). ComeToBy layout files most n ys us fault) at after))
 
-  -- records after a row with a fault change nothing
-  pub come_more : (number : ℕ) (xs ys : List (List (List ℕ))) (ts : List (List ℕ)) (kind : RowKind)
+  -- records after a row that ends the run change nothing
+  pub come_more : (number : ℕ) (xs ys : List Whole) (ts : List (List ℕ)) (kind : RowKind)
       → ComeToBy layout files most number xs ts (Some kind) → ComeToBy layout files most number (xs ++ ys) ts (Some kind)
   come_more number [] ys ts kind come = absurd cc
   come_more number (x ∷ xs) ys [] kind come = come
   come_more number (x ∷ xs) ys (t ∷ ts) kind come = (come.0, come.1, come_more (number + 1) xs ys ts kind come.2)
 
   -- each row has a record
-  pub few_texts : (number : ℕ) (xs : List (List (List ℕ))) (ts : List (List ℕ)) (fault : Option RowKind) → ComeToBy layout files most number xs ts fault → length ts ≤ length xs
+  pub few_texts : (number : ℕ) (xs : List Whole) (ts : List (List ℕ)) (fault : Option RowKind) → ComeToBy layout files most number xs ts fault → length ts ≤ length xs
   few_texts number [] [] fault come = omega arith
   few_texts number [] (t ∷ ts) fault come = absurd cc
   few_texts number (x ∷ xs) [] fault come = omega arith
   few_texts number (x ∷ xs) (t ∷ ts) fault come = omega (arith, few_texts (number + 1) xs ts fault come.2)
 
-  -- without a fault each record has a row
-  pub all_texts : (number : ℕ) (xs : List (List (List ℕ))) (ts : List (List ℕ)) → ComeToBy layout files most number xs ts None → length ts ≡ length xs
+  -- where none ends the run each record has a row
+  pub all_texts : (number : ℕ) (xs : List Whole) (ts : List (List ℕ)) → ComeToBy layout files most number xs ts None → length ts ≡ length xs
   all_texts number [] [] come = refl
   all_texts number [] (t ∷ ts) come = absurd cc
   all_texts number (x ∷ xs) [] come = absurd cc
   all_texts number (x ∷ xs) (t ∷ ts) come = ap suc (all_texts (number + 1) xs ts come.2)
 
   -- and there are no more rows than there may be
-  pub all_within : (number : ℕ) (xs : List (List (List ℕ))) (ts : List (List ℕ)) → ComeToBy layout files most number xs ts None → number ≤ most + 1 → number + length ts ≤ most + 1
+  pub all_within : (number : ℕ) (xs : List Whole) (ts : List (List ℕ)) → ComeToBy layout files most number xs ts None → number ≤ most + 1 → number + length ts ≤ most + 1
   all_within number xs [] come h = omega (arith, h)
   all_within number [] (t ∷ ts) come h = absurd cc
   all_within number (x ∷ xs) (t ∷ ts) come h =
-      let here = within number x come.0 in
+      let here = within number x.fields come.0 in
       let rest = all_within (number + 1) xs ts come.2 (omega (arith, here)) in
       omega (arith, rest)
 
+  -- the faults of records, none of which ends the run, and of those after them
+  pub faults_after : (number : ℕ) (xs ys : List Whole) (ts : List (List ℕ)) → ComeToBy layout files most number xs ts None
+      → faults_by layout files most number (xs ++ ys) ≡ faults_by layout files most number xs ++ faults_by layout files most (number + length xs) ys
+  faults_after number [] ys ts come =
+      let at : number ≡ number + 0 = omega arith in
+      ap (λ (n : ℕ). faults_by layout files most n ys) at
+  faults_after number (x ∷ xs) ys [] come = absurd cc
+  faults_after number (x ∷ xs) ys (t ∷ ts) come =
+      let at : number + 1 + length xs ≡ number + suc (length xs) = omega arith in
+      let here = noted number (fault_by layout files most number x.fields) in
+      let first = faults_by layout files most (number + 1) xs in
+      rw come.0 (ap (λ (l : List RowFault). here ++ l) (faults_after (number + 1) xs ys ts come.2 ∙ ap (λ (n : ℕ). first ++ faults_by layout files most n ys) at)
+      ∙ sym (append_assoc here first (faults_by layout files most (number + suc (length xs)) ys)))
+
+  -- records after one that ends the run have none
+  pub faults_more : (number : ℕ) (xs ys : List Whole) (ts : List (List ℕ)) (kind : RowKind) → ComeToBy layout files most number xs ts (Some kind)
+      → faults_by layout files most number (xs ++ ys) ≡ faults_by layout files most number xs
+  faults_more number [] ys ts kind come = absurd cc
+  faults_more number (x ∷ xs) ys [] kind come = rw (sym come.0) refl
+  faults_more number (x ∷ xs) ys (t ∷ ts) kind come =
+      rw come.0 (ap (λ (l : List RowFault). noted number (fault_by layout files most number x.fields) ++ l) (faults_more (number + 1) xs ys ts kind come.2))
+
+  begin_first : (number : ℕ) (x : Whole) (xs ys : List Whole) (end : Option RowKind) → ends_by layout files most number x.fields ≡ end
+      → ((more : List RowFault) × (faults_by layout files most (number + 1) (xs ++ ys) ≡ faults_by layout files most (number + 1) xs ++ more))
+      → (more : List RowFault) × (faults_by layout files most number ((x ∷ xs) ++ ys) ≡ faults_by layout files most number (x ∷ xs) ++ more)
+  begin_first number x xs ys (Some kind) e rest = ([], rw e refl)
+  begin_first number x xs ys None e rest =
+      let here = noted number (fault_by layout files most number x.fields) in
+      (rest.0, rw e (ap (λ (l : List RowFault). here ++ l) rest.1 ∙ sym (append_assoc here (faults_by layout files most (number + 1) xs) rest.0)))
+
+  -- the faults of all records begin with those of the first
+  pub faults_begin : (number : ℕ) (xs ys : List Whole) → (more : List RowFault) × (faults_by layout files most number (xs ++ ys) ≡ faults_by layout files most number xs ++ more)
+  faults_begin number [] ys = (faults_by layout files most number ys, refl)
+  faults_begin number (x ∷ xs) ys = begin_first number x xs ys (ends_by layout files most number x.fields) refl (faults_begin (number + 1) xs ys)
+
   -- no records
-  pub no_rows : (number : ℕ) → AreRowsOf layout files most number [] (record { text = []; count = 0; fault = None })
-  no_rows number = record { texts = []; come = (refl, refl); text = refl; count = refl }
+  pub no_rows : (number : ℕ) → AreRowsOf layout files most number [] (record { text = []; count = 0; fault = None; faults = [] })
+  no_rows number = record { texts = []; come = (refl, refl); text = refl; count = refl; faults = refl }
 
   -- some rows, and those of the records after theirs
-  pub rows_followed : (number : ℕ) (xs ys : List (List (List ℕ))) (rows others : RowsOf) (fault : Option RowKind) → rows.fault ≡ fault → AreRowsOf layout files most number xs rows
+  pub rows_followed : (number : ℕ) (xs ys : List Whole) (rows others : RowsOf) (fault : Option RowKind) → rows.fault ≡ fault → AreRowsOf layout files most number xs rows
       → (rows.fault ≡ None → AreRowsOf layout files most (number + length xs) ys others) → AreRowsOf layout files most number (xs ++ ys) (followed_by rows others fault)
-  rows_followed number xs ys rows others (Some kind) e are next = record {
-    texts = are.texts;
-    come = rw e (come_more number xs ys are.texts kind (rw e at are.come));
-    text = are.text;
-    count = are.count;
-  }
+  rows_followed number xs ys rows others (Some kind) e are next =
+      let come = rw e at are.come in
+      record {
+        texts = are.texts;
+        come = rw e (come_more number xs ys are.texts kind come);
+        text = are.text;
+        count = are.count;
+        faults = are.faults ∙ sym (faults_more number xs ys are.texts kind come);
+      }
   rows_followed number xs ys rows others None e are next =
       let after = next e in
       let come = rw e at are.come in
@@ -86,31 +136,48 @@ module _ (layout : Layout) (files : List File) (most : ℕ) where
             (subst (λ (n : ℕ). ComeToBy layout files most (number + n) ys after.texts others.fault) (sym long) after.come);
         text = rw (are.text, after.text) (sym (concat-append are.texts after.texts));
         count = omega (arith, are.count, after.count, length-append are.texts after.texts);
+        faults = ap₂ (λ (a b : List RowFault). a ++ b) are.faults after.faults ∙ sym (faults_after number xs ys are.texts come);
       }
 
-  -- rows, and the row of one record more
-  pub one_more : (number : ℕ) (xs : List (List (List ℕ))) (text : List ℕ) (count : ℕ) (fields : List (List ℕ)) (last : List ℕ)
-      → AreRowsOf layout files most number xs (record { text = text; count = count; fault = None }) → fault_by layout files most (number + count) fields ≡ None → IsTextBy layout files fields last
-      → AreRowsOf layout files most number (xs ++ fields ∷ []) (record { text = text ++ last; count = count + 1; fault = None })
-  one_more number xs text count fields last are none is =
-      let at = subst (λ (n : ℕ). fault_by layout files most (number + n) fields ≡ None) are.count none in
-      record {
-        texts = are.texts ++ last ∷ [];
-        come = come_after number xs (fields ∷ []) are.texts (last ∷ []) None are.come (at, is, (refl, refl));
-        text = ap (λ (l : List ℕ). l ++ last) are.text ∙ sym (concat-append are.texts (last ∷ []) ∙ ap (λ (l : List ℕ). concat are.texts ++ l) (append-nil last));
-        count = omega (arith, are.count, length-append are.texts (last ∷ []));
-      }
+  -- the faults of rows, and of one record more
+  module _ (number : ℕ) (xs : List Whole) (text : List ℕ) (count : ℕ) (faults : List RowFault)
+      (are : AreRowsOf layout files most number xs (record { text = text; count = count; fault = None; faults = faults })) (whole : Whole) where
+    many : number + length xs ≡ number + count
+    many = ap (λ (n : ℕ). number + n) (sym (are.count ∙ all_texts number xs are.texts are.come))
 
-  -- rows, and a record with a fault, after which more may come
-  pub one_fault : (number : ℕ) (xs : List (List (List ℕ))) (text : List ℕ) (count : ℕ) (fields : List (List ℕ)) (more : List (List (List ℕ))) (kind : RowKind)
-      → AreRowsOf layout files most number xs (record { text = text; count = count; fault = None }) → fault_by layout files most (number + count) fields ≡ Some kind
-      → AreRowsOf layout files most number (xs ++ fields ∷ more) (record { text = text; count = count; fault = Some kind })
-  one_fault number xs text count fields more kind are is =
-      let at = subst (λ (n : ℕ). fault_by layout files most (number + n) fields ≡ Some kind) are.count is in
-      let come = come_after number xs (fields ∷ more) are.texts [] (Some kind) are.come (sym at, refl) in
-      record {
-        texts = are.texts;
-        come = subst (λ (l : List (List ℕ)). ComeToBy layout files most number (xs ++ fields ∷ more) l (Some kind)) (append-nil are.texts) come;
-        text = are.text;
-        count = are.count;
-      }
+    faults_on : (more : List Whole) → faults_by layout files most number (xs ++ whole ∷ more) ≡ faults ++ faults_by layout files most (number + count) (whole ∷ more)
+    faults_on more =
+        faults_after number xs (whole ∷ more) are.texts are.come
+        ∙ ap₂ (λ (l : List RowFault) (n : ℕ). l ++ faults_by layout files most n (whole ∷ more)) (sym are.faults) many
+
+    -- rows, and the row of one record more
+    pub one_more : (last : List ℕ) → ends_by layout files most (number + count) whole.fields ≡ None → IsRowBy layout files most (number + count) whole last
+        → AreRowsOf layout files most number (xs ++ whole ∷ [])
+        (record { text = text ++ last; count = count + 1; fault = None; faults = faults ++ noted (number + count) (fault_by layout files most (number + count) whole.fields) })
+    one_more last none is =
+        let at = subst (λ (n : ℕ). ends_by layout files most (number + n) whole.fields ≡ None) are.count none in
+        let row = subst (λ (n : ℕ). IsRowBy layout files most (number + n) whole last) are.count is in
+        let here = noted (number + count) (fault_by layout files most (number + count) whole.fields) in
+        let one : faults_by layout files most (number + count) (whole ∷ []) ≡ here = rw none (append-nil here) in
+        record {
+          texts = are.texts ++ last ∷ [];
+          come = come_after number xs (whole ∷ []) are.texts (last ∷ []) None are.come (at, row, (refl, refl));
+          text = ap (λ (l : List ℕ). l ++ last) are.text ∙ sym (concat-append are.texts (last ∷ []) ∙ ap (λ (l : List ℕ). concat are.texts ++ l) (append-nil last));
+          count = omega (arith, are.count, length-append are.texts (last ∷ []));
+          faults = sym (faults_on [] ∙ ap (λ (l : List RowFault). faults ++ l) one);
+        }
+
+    -- rows, and a record that ends the run, after which more may come
+    pub one_fault : (more : List Whole) (kind : RowKind) → ends_by layout files most (number + count) whole.fields ≡ Some kind
+        → AreRowsOf layout files most number (xs ++ whole ∷ more) (record { text = text; count = count; fault = Some kind; faults = faults })
+    one_fault more kind is =
+        let at = subst (λ (n : ℕ). ends_by layout files most (number + n) whole.fields ≡ Some kind) are.count is in
+        let come = come_after number xs (whole ∷ more) are.texts [] (Some kind) are.come (sym at, refl) in
+        let none : faults_by layout files most (number + count) (whole ∷ more) ≡ [] = rw is refl in
+        record {
+          texts = are.texts;
+          come = subst (λ (l : List (List ℕ)). ComeToBy layout files most number (xs ++ whole ∷ more) l (Some kind)) (append-nil are.texts) come;
+          text = are.text;
+          count = are.count;
+          faults = sym (faults_on more ∙ ap (λ (l : List RowFault). faults ++ l) none ∙ append-nil faults);
+        }

@@ -1,26 +1,27 @@
 -- The fault and the text of a row by a layout.
-use Rattle.std.proofs.Common.{◌≡◌, ◌≤◌, ◌+◌, ◌-◌, ◌++◌, ℕ, ℤ, ◌≤ℤ◌, false, true, List, length, take, drop, Option, Some, None, refl, sym, ap, ap₂, subst, ◌∙◌, length-append, arith}
-use Rattle.std.specs.Prelude.{int_le, Contains, IsSomeAnd}
+use Rattle.std.proofs.Common.{◌≡◌, ◌≤◌, ◌++◌, ℕ, ℤ, ◌≤ℤ◌, false, true, List, ◌∷◌, length, take, drop, Option, Some, None, refl, ap₂, subst, ◌∙◌, arith}
+use Rattle.std.specs.Prelude.{int_le, IsSomeAnd}
+use Rattle.std.specs.Fmt.{signed_decimal}
 use Rattle.std.proofs.lemmas.Bool.{le-leb}
 use Rattle.std.proofs.lemmas.Int.{ints}
-use Rattle.std.proofs.lemmas.List.{length-map, take-append-le}
-use Rattle.std.proofs.lemmas.Slice.{take-put_mid}
-use Rattle.std.proofs.Math.Seq.{drop-append_seam, take-append_seam, take-length}
-use borrow.Rule.Slice.PartMut.{mid_of, put_mid, same_len_mid}
-use Rattle.zic_base.specs.State.{Shown}
+use Rattle.std.proofs.lemmas.List.{map-append}
+use Rattle.std.proofs.Math.Seq.{drop-append_seam, take-append_seam}
 use Rattle.zic_tzif.specs.Content.{Content}
 use Rattle.zic_columns.specs.Exchange.{exchange, exchanged}
 use Rattle.zic_files.specs.File.{File}
 use Rattle.zic_plan.specs.Layout.{has_count}
 use Rattle.zic_plan.specs.declared.layout.Layout.{Layout}
+use Rattle.zic_plan.specs.declared.layout.RowStart.{RowStart}
+use Rattle.zic_plan.specs.declared.layout.RowStart.TheVariants as starts
 use Rattle.zic_plan.specs.declared.stop.RowKind.{RowKind}
 use Rattle.zic_plan.specs.declared.stop.RowKind.TheVariants as kind
-use Rattle.zic_rows.specs.Count.{count_of, counted_row_text, second_of}
+use Rattle.zic_rows.specs.Count.{count_of, second_of}
 use Rattle.zic_rows.specs.declared.limit.TheConstants.{FIRST_INSTANT, LAST_INSTANT}
 use Rattle.zic_tzif.specs.Answer.{Answers}
 use Rattle.zic_convert.specs.Rows.{is_named, is_row_instant}
-use Rattle.zic_convert.specs.LayoutRows.{IsTextBy, fault_by, field_at, zone_in}
+use Rattle.zic_convert.specs.LayoutRows.{beginning, fault_by, field_at, zone_in}
 use Rattle.zic_convert.specs.code.Query.{IsCounted, IsFaultOfCount}
+use Rattle.zic_convert.specs.code.Row.{comma_start}
 use Rattle.zic_convert.specs.code.ZoneCache.{IsShownBy, IsZoneOf, Told}
 use Rattle.zic_convert.specs.declared.query.CountQuery.{CountQuery}
 use Rattle.zic_convert.proofs.Faults.{named_by}
@@ -65,7 +66,7 @@ shown_by layout old new most number fields name zone query is admits files named
     let some = named_by old.files name of.file of.among of.named in
     record {
       sound = rw files (counts_soundly layout old.files most number fields is admits (rw named at some) query.count asked);
-      text = record {
+      text = λ own. record {
         file = of.file;
         among = rw files of.among;
         named = of.named ∙ named;
@@ -77,17 +78,13 @@ shown_by layout old new most number fields name zone query is admits files named
       };
     }
 
--- a row that was appended, and then exchanged in its place
-pub row_exchanged : (d k : ℕ) (old row copied given behind : List ℕ) (start size : ℕ) → start ≡ length old → copied ≡ old ++ row → k ≡ length row
-    → given ≡ exchanged d (mid_of start k copied) → size ≡ length copied → take size (put_mid start k copied given ++ behind) ≡ old ++ exchanged d row
-row_exchanged d k old row copied given behind start size at is left exchanges whole =
-    let long : length copied ≡ length old + length row = ap length is ∙ length-append old row in
-    let part : mid_of start k copied ≡ row =
-    ap (λ (l : List ℕ). mid_of start k l) is ∙ ap (λ (n : ℕ). take k (drop n (old ++ row))) at ∙ ap (take k) (drop-append_seam old row)
-    ∙ ap (λ (n : ℕ). take n row) left ∙ take-length row in
-    let new : given ≡ exchanged d row = exchanges ∙ ap (exchanged d) part in
-    let size_given : length given ≡ length row = ap length new ∙ length-map row (exchange d) in
-    let same : length (put_mid start k copied given) ≡ length copied = same_len_mid start k copied given (omega (arith, size_given, ap length part)) in
-    take-append-le size (put_mid start k copied given) behind (omega (arith, same, whole))
-    ∙ take-put_mid start k copied given size (omega (arith, whole, long, at, size_given)) (omega (arith, long, at))
-    ∙ ap₂ (λ (xs ys : List ℕ). xs ++ ys) (ap (take start) is ∙ ap (λ (n : ℕ). take n (old ++ row)) at ∙ take-append_seam old row) new
+-- what a row begins with, and its rest, exchanged together
+pub row_put_back : (start : RowStart) (d : ℕ) (own name : List ℕ) (count : ℤ) (rest : List ℕ)
+    → exchanged d (comma_start start own name count ++ rest) ≡ beginning start d (exchanged d own) name count ++ exchanged d rest
+row_put_back starts.Fields d own name count rest = map-append (exchange d) (name ++ 44 ∷ signed_decimal count) rest
+row_put_back starts.Record d own name count rest = map-append (exchange d) own rest
+
+-- a row that was appended, and then put back in its place
+pub row_exchanged : (d start : ℕ) (old row all : List ℕ) → start ≡ length old → all ≡ old ++ row → take start all ++ exchanged d (drop start all) ≡ old ++ exchanged d row
+row_exchanged d start old row all at is =
+    rw (is, at) (ap₂ (λ (xs ys : List ℕ). xs ++ exchanged d ys) (take-append_seam old row) (drop-append_seam old row))

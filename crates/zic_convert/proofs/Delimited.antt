@@ -1,40 +1,45 @@
 -- Records in which the delimiter and the comma stand in each other's place have the same rows.
-use Rattle.std.proofs.Common.{◌≡◌, ◌≢◌, ◌+◌, ◌<◌, ◌==◌, ℕ, ℤ, Bool, true, false, not, List, [], ◌∷◌, length, map, drop, Option, Some, None, inl, inr, refl, sym, ap, subst, ◌∙◌, arith}
-use Rattle.std.specs.Prelude.{All, Contains, bytes_eq, nat_le, option_map, ◌&&◌, ◌||◌, if◌then◌else◌}
+use Rattle.std.proofs.Common.{◌≡◌, ◌≢◌, ◌<◌, ◌==◌, ℕ, Bool, true, false, not, List, [], ◌∷◌, length, map, drop, Option, Some, None, inl, inr, refl, sym, ap, subst, ◌∙◌, arith}
+use Rattle.std.specs.Prelude.{All, Contains, bytes_eq, nat_le, ◌&&◌, ◌||◌, if◌then◌else◌}
 use Rattle.std.specs.Char.{is_ascii_alphanumeric, is_ascii_digit}
 use Rattle.std.specs.Cmp.Lexicographic.{bytes_decides}
-use Rattle.std.specs.List.{list_all, list_any, slice_split}
+use Rattle.std.specs.List.{list_all, slice_split}
 use Rattle.std.proofs.Math.ListN.{get_or-map}
-use Rattle.std.proofs.lemmas.Bool.{and_parts, cases_Bool, cond_both, eqb-false, eqb-true, leb-true}
+use Rattle.std.proofs.lemmas.Bool.{and_parts, cases_Bool, cond_both, eqb-false, eqb-true}
 use Rattle.std.proofs.lemmas.Bool.Decides.{nat_tests, same_from_decides}
-use Rattle.std.proofs.lemmas.List.{drop-map, length-map}
+use Rattle.std.proofs.lemmas.List.{length-map}
 use Rattle.std.proofs.lemmas.List.Elements.{All-contains, All-tail}
 use Rattle.csv.specs.Reading.{strip_bom}
 use Rattle.zic_words.specs.Dash.{is_dash}
-use Rattle.zic_words.specs.Name.{is_name, is_name_byte, is_name_part}
+use Rattle.zic_words.specs.Name.{is_name_byte, is_name_part}
 use Rattle.zic_words.specs.declared.name.TheConstants.{LONGEST_NAME}
 use Rattle.zic_columns.specs.Column.{column_records}
 use Rattle.zic_columns.specs.Exchange.{CanDelimit, exchange, exchanged}
-use Rattle.zic_columns.specs.Laws.{RecordsAreExchanged}
+use Rattle.zic_columns.specs.Laws.{RecordsAreExchanged, TextsAreExchanged}
+use Rattle.zic_columns.specs.Own.{Whole, beside, delimited_texts, first_text, own_texts}
 use Rattle.zic_columns.proofs.Exchanges.{as_other, twice}
 use Rattle.zic_files.specs.File.{File}
 use Rattle.zic_files.specs.Sound.{AreSoundFiles, IsSoundFile}
 use Rattle.zic_plan.specs.Delimiter.{is_csv_byte, is_delimiter, is_row_byte}
 use Rattle.zic_plan.specs.Layout.{records_before}
+use Rattle.zic_plan.specs.declared.layout.Header.{Header}
+use Rattle.zic_plan.specs.declared.layout.Header.TheVariants as headers
 use Rattle.zic_plan.specs.declared.layout.Layout.{Layout}
 use Rattle.zic_plan.specs.declared.layout.Unit.{Unit}
 use Rattle.zic_plan.specs.declared.layout.ZoneFrom.{ZoneFrom}
 use Rattle.zic_plan.specs.declared.layout.ZoneFrom.TheVariants as zone
 use Rattle.zic_plan.specs.declared.stop.RowKind.{RowKind}
 use Rattle.zic_rows.specs.Count.{count_of}
-use Rattle.zic_rows.specs.Instant.{decimal_value, is_negative, number}
-use Rattle.zic_convert.specs.Column.{ConvertsBy}
+use Rattle.zic_rows.specs.Instant.{decimal_value, number}
+use Rattle.zic_convert.specs.Column.{ConvertsBy, header_of, header_text, own_header}
 use Rattle.zic_convert.specs.Rows.{is_named}
-use Rattle.zic_convert.specs.LayoutRows.{ComeToBy, IsTextBy, count_in, fault_by, field_at, zone_in}
-use Rattle.zic_convert.specs.code.Progress.{RowsOfColumn}
+use Rattle.zic_convert.specs.LayoutRows.{ComeToBy, IsTextBy, count_in, fault_by, faults_by, field_at, zone_in}
+use Rattle.zic_convert.specs.Log.{AreFaultsBy}
+use Rattle.zic_convert.specs.code.Progress.{RowsOfColumn, faults_of_column, header_in}
+use Rattle.zic_convert.specs.code.Row.{put_back, wholes_in}
 
 -- what a byte that can stand between fields is not
-record IsOutside (d : ℕ) : Type 0 where
+pub record IsOutside (d : ℕ) : Type 0 where
   ascii : d < 128
   row : is_row_byte d ≡ false
   csv : is_csv_byte d ≡ false
@@ -43,7 +48,7 @@ not_false : (b : Bool) → not b ≡ true → b ≡ false
 not_false true h = absurd (cc h)
 not_false false h = refl
 
-outside : (d : ℕ) → is_delimiter d ≡ true → IsOutside d
+pub outside : (d : ℕ) → is_delimiter d ≡ true → IsOutside d
 outside d is =
     let (others, csv) = and_parts _ (not (is_csv_byte d)) is in
     let (ascii, row) = and_parts _ (not (is_row_byte d)) others in
@@ -174,11 +179,14 @@ module _ (d : ℕ) (o : IsOutside d) where
       count_in_same : (fields : List (List ℕ)) → count_in layout (map (exchanged d) fields) ≡ count_in layout fields
       count_in_same fields = rw (field_same fields layout.time) (count_same layout.unit (field_at fields layout.time))
 
-      fault_same : (most n : ℕ) (fields : List (List ℕ)) → fault_by layout files most n (map (exchanged d) fields) ≡ fault_by layout files most n fields
+      -- a record whose fields are exchanged has the fault that it has
+      pub fault_same : (most n : ℕ) (fields : List (List ℕ)) → fault_by layout files most n (map (exchanged d) fields) ≡ fault_by layout files most n fields
       fault_same most n fields = rw (length-map fields (exchanged d), zone_same layout.zone fields, count_in_same fields) refl
 
-      text_same : (fields : List (List ℕ)) (text : List ℕ) → IsTextBy layout files fields text → IsTextBy layout files (map (exchanged d) fields) text
-      text_same fields text is = record {
+      -- and the text, whatever its own bytes are
+      pub text_same : (own : List ℕ) (fields : List (List ℕ)) (text : List ℕ) → IsTextBy layout files (record { own = own; fields = fields }) text
+          → IsTextBy layout files (record { own = own; fields = map (exchanged d) fields }) text
+      text_same own fields text is = record {
         file = is.file;
         among = is.among;
         named = zone_named layout.zone fields is.file is.among is.named;
@@ -189,23 +197,64 @@ module _ (d : ℕ) (o : IsOutside d) where
         is = is.is;
       }
 
-      come_same : (most n : ℕ) (records : List (List (List ℕ))) (texts : List (List ℕ)) (fault : Option RowKind) → ComeToBy layout files most n records texts fault
-          → ComeToBy layout files most n (map (map (exchanged d)) records) texts fault
-      come_same most n [] texts fault come = come
-      come_same most n (fields ∷ records) [] fault come = (come.0 ∙ sym (fault_same most n fields), come.1)
-      come_same most n (fields ∷ records) (text ∷ texts) fault come =
-          (fault_same most n fields ∙ come.0, text_same fields text come.1, come_same most (n + 1) records texts fault come.2)
+-- records and their own bytes, with the delimiter put back in both
+beside_put : (d : ℕ) (texts : List (List ℕ)) (records : List (List (List ℕ)))
+    → beside (map (exchanged d) texts) (map (map (exchanged d)) records) ≡ map (put_back d) (beside texts records)
+beside_put d [] records = refl
+beside_put d (own ∷ texts) [] = refl
+beside_put d (own ∷ texts) (fields ∷ records) =
+    ap (λ (l : List Whole). record { own = exchanged d own; fields = map (exchanged d) fields } ∷ l) (beside_put d texts records)
 
--- the rows of a column with another delimiter are those of the records with commas
-pub as_delimited : (layout : Layout) (files : List File) (most : ℕ) → RecordsAreExchanged → AreSoundFiles files → is_delimiter layout.delimiter ≡ true
+-- the records of a column with another delimiter that make rows are those with the delimiter put back
+wholes_delimited : (layout : Layout) → TextsAreExchanged → is_delimiter layout.delimiter ≡ true → (column : List ℕ)
+    → let d = layout.delimiter in
+    let inside = strip_bom (exchanged d column) in
+    let k = records_before layout.header in
+    drop k (beside (delimited_texts d (strip_bom column)) (map (map (exchanged d)) (column_records inside))) ≡ drop k (wholes_in d inside)
+wholes_delimited layout own_law is column =
+    let d = layout.delimiter in
+    let inside = strip_bom (exchanged d column) in
+    let records = column_records inside in
+    let k = records_before layout.header in
+    ap (λ (t : List (List ℕ)). drop k (beside t (map (map (exchanged d)) records))) (own_law d column (can_delimit d is)) ∙ ap (drop k) (beside_put d (own_texts inside) records)
+
+-- so are its rows
+pub as_delimited : (layout : Layout) (files : List File) (most : ℕ) → RecordsAreExchanged → TextsAreExchanged → is_delimiter layout.delimiter ≡ true
     → (column : List ℕ) (texts : List (List ℕ)) (fault : Option RowKind) → RowsOfColumn layout files most (exchanged layout.delimiter column) texts fault
     → ConvertsBy files layout most column texts fault
-as_delimited layout files most law sound is column texts fault come =
+as_delimited layout files most law own_law is column texts fault come =
     let d = layout.delimiter in
-    let records = column_records (strip_bom (exchanged d column)) in
+    let inside = strip_bom (exchanged d column) in
     record {
-      records = map (map (exchanged d)) records;
+      records = map (map (exchanged d)) (column_records inside);
       are = law d column (can_delimit d is);
-      rows = rw (drop-map (map (exchanged d)) (records_before layout.header) records)
-          (come_same d (outside d is) files sound layout most 1 (drop (records_before layout.header) records) texts fault come);
+      rows = subst (λ (l : List Whole). ComeToBy layout files most 1 l texts fault) (sym (wholes_delimited layout own_law is column)) come;
     }
+
+-- and its faults
+pub faults_delimited : (layout : Layout) (files : List File) (most : ℕ) → RecordsAreExchanged → TextsAreExchanged → is_delimiter layout.delimiter ≡ true
+    → (column : List ℕ) → AreFaultsBy files layout most column (faults_of_column layout files most (exchanged layout.delimiter column))
+faults_delimited layout files most law own_law is column =
+    let d = layout.delimiter in
+    let inside = strip_bom (exchanged d column) in
+    record {
+      records = map (map (exchanged d)) (column_records inside);
+      are = law d column (can_delimit d is);
+      is = sym (ap (faults_by layout files most 1) (wholes_delimited layout own_law is column));
+    }
+
+first_put : (d : ℕ) (texts : List (List ℕ)) → exchanged d (first_text texts) ≡ first_text (map (exchanged d) texts)
+first_put d [] = refl
+first_put d (text ∷ texts) = refl
+
+header_put : (d : ℕ) (header : Header) (texts : List (List ℕ)) → exchanged d (own_header header texts) ≡ own_header header (map (exchanged d) texts)
+header_put d headers.Absent texts = refl
+header_put d headers.First texts = first_put d texts
+
+-- and so is its header
+pub header_delimited : (layout : Layout) → TextsAreExchanged → is_delimiter layout.delimiter ≡ true → (column : List ℕ)
+    → header_in layout (exchanged layout.delimiter column) ≡ header_text layout column
+header_delimited layout own_law is column =
+    let d = layout.delimiter in
+    let texts = own_texts (strip_bom (exchanged d column)) in
+    ap (header_of layout.start d) (header_put d layout.header texts ∙ ap (own_header layout.header) (sym (own_law d column (can_delimit d is))))

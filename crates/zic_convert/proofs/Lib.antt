@@ -1,3 +1,4 @@
+pub mod Wholes
 pub mod Coming
 pub mod Bytes
 pub mod Joining
@@ -8,9 +9,13 @@ pub mod Caches
 pub mod Plain
 pub mod Delimited
 pub mod CountedRows
+pub mod Headers
+pub mod NextRows
 pub mod SoFar
 pub mod Writings
 pub mod Totals
+pub mod Options
+pub mod Logs
 pub mod Progress
 pub mod Halts
 pub mod Once

@@ -1,16 +1,24 @@
 -- The rows of a column's records, by a layout: own choice. A record has an instant, and perhaps a zone's name. Its row has the text of
--- what the file of that name answers at the instant, or a fault.
-use Rattle.std.specs.Prelude.{◌≡◌, ℕ, ◌+◌, nat_le, ℤ, List, [], ◌∷◌, length, Option, Some, None, option_map, is_some, IsSome, Contains, slice_index_or, string_bytes}
+-- what the file of that name answers at the instant, or a fault. A row with a fault ends the run, or has no local time.
+use Rattle.std.specs.Prelude.{◌≡◌, ℕ, ◌+◌, nat_le, ℤ, List, [], ◌∷◌, ◌++◌, length, Option, Some, None, option_map, is_some, IsSome, Contains, slice_index_or, string_bytes, if◌then◌else◌}
+use Rattle.std.specs.Fmt.{signed_decimal}
+use Rattle.csv.specs.Writing.{default_writer, row_text, with_delimiter}
 use Rattle.zic_base.specs.Check.{Check, check, first_failed}
 use Rattle.zic_base.specs.State.{Shown}
 use Rattle.zic_tzif.specs.Answer.{Answers}
-use Rattle.zic_rows.specs.Count.{count_of, counted_row_text, second_of}
+use Rattle.zic_rows.specs.Count.{count_of, counted_rest_text, second_of}
 use Rattle.zic_columns.specs.Exchange.{exchanged}
+use Rattle.zic_columns.specs.Own.{Whole}
 use Rattle.zic_files.specs.File.{File}
 use Rattle.zic_plan.specs.Layout.{has_count}
+use Rattle.zic_plan.specs.declared.layout.AtFault.{AtFault}
+use Rattle.zic_plan.specs.declared.layout.AtFault.TheVariants as at
 use Rattle.zic_plan.specs.declared.layout.Layout.{Layout}
+use Rattle.zic_plan.specs.declared.layout.RowStart.{RowStart}
+use Rattle.zic_plan.specs.declared.layout.RowStart.TheVariants as start
 use Rattle.zic_plan.specs.declared.layout.ZoneFrom.{ZoneFrom}
 use Rattle.zic_plan.specs.declared.layout.ZoneFrom.TheVariants as zone
+use Rattle.zic_plan.specs.declared.stop.RowFault.{RowFault}
 use Rattle.zic_plan.specs.declared.stop.RowKind.{RowKind}
 use Rattle.zic_plan.specs.declared.stop.RowKind.TheVariants as kind
 use Rattle.zic_convert.specs.Rows.{is_named, is_row_instant}
@@ -42,22 +50,78 @@ checks_by layout files most number fields =
 abbrev pub fault_by : Layout → List File → ℕ → ℕ → List (List ℕ) → Option RowKind
 fault_by layout files most number fields = first_failed (checks_by layout files most number fields)
 
--- The text of a record's row: the name, the count of the instant, and the state that the file of that name answers at its whole second.
--- The delimiter stands in the place of commas; no field of a row has it.
-pub record IsTextBy (layout : Layout) (files : List File) (fields : List (List ℕ)) (text : List ℕ) : Type 0 where
+-- what a row begins with: the name and the count of the instant, or the record's own bytes
+abbrev pub beginning : RowStart → ℕ → List ℕ → List ℕ → ℤ → List ℕ
+beginning start.Fields delimiter own name count = exchanged delimiter (name ++ 44 ∷ signed_decimal count)
+beginning start.Record delimiter own name count = own
+
+abbrev pub start_text : Layout → List ℕ → List ℕ → ℤ → List ℕ
+start_text layout own name count = beginning layout.start layout.delimiter own name count
+
+-- The text of a record's row: what rows begin with, and the state that the file of the zone's name answers at the whole second of the
+-- record's count. The delimiter stands in the place of commas; no name of a file and no field that a row adds to a record has it.
+pub record IsTextBy (layout : Layout) (files : List File) (whole : Whole) (text : List ℕ) : Type 0 where
   pub file : File
   pub among : Contains files file
-  pub named : file.name ≡ zone_in layout.zone fields
+  pub named : file.name ≡ zone_in layout.zone whole.fields
   pub count : ℤ
-  pub says : count_in layout fields ≡ Some count
+  pub says : count_in layout whole.fields ≡ Some count
   pub state : Shown
   pub answers : Answers file.image.content (second_of layout.unit count) (Some state)
-  pub is : text ≡ exchanged layout.delimiter (counted_row_text layout.unit file.name count state)
+  pub is : text ≡ start_text layout whole.own file.name count ++ exchanged layout.delimiter (counted_rest_text layout.unit count state)
 
--- The outcome of records, the first of which is the row of this number: the texts of the rows up to the first that has a fault, and that
+abbrev pub empty_fields : ℕ → List ℕ
+empty_fields delimiter = delimiter ∷ delimiter ∷ delimiter ∷ delimiter ∷ []
+
+-- The text of a row without local time. Where rows begin with names, it is what a CSV writer with the layout's delimiter writes of six
+-- fields: the zone's name, the field of the instant as it was read, and four empty ones. Where they begin with their records, it is the
+-- record's own bytes and four empty fields.
+abbrev pub timeless_text : RowStart → Layout → Whole → List ℕ
+timeless_text start.Fields layout whole =
+    row_text (with_delimiter default_writer layout.delimiter) (zone_in layout.zone whole.fields ∷ field_at whole.fields layout.time ∷ [] ∷ [] ∷ [] ∷ [] ∷ [])
+timeless_text start.Record layout whole = whole.own ++ (empty_fields layout.delimiter ++ 10 ∷ [])
+
+-- The text of a row with a fault: one without local time, or, of a record with another number of fields than the layout's, the record's
+-- own bytes alone.
+abbrev pub faulty_text : Layout → RowKind → Whole → List ℕ
+faulty_text layout kind.RowFields whole = whole.own ++ 10 ∷ []
+faulty_text layout _ whole = timeless_text layout.start layout whole
+
+-- the fault that ends a run: any, or only that of a record that is one too many
+abbrev pub ending : AtFault → Option RowKind → Option RowKind
+ending at.End fault = fault
+ending at.GoOn (Some kind.TooManyRows) = Some kind.TooManyRows
+ending at.GoOn _ = None
+
+-- the fault that ends a run at the row of a record, or none
+abbrev pub ends_by : Layout → List File → ℕ → ℕ → List (List ℕ) → Option RowKind
+ends_by layout files most number fields = ending layout.at_fault (fault_by layout files most number fields)
+
+-- the row of a record, which has this fault or none
+abbrev pub IsRowAt : Layout → List File → Option RowKind → Whole → List ℕ → Type 0
+IsRowAt layout files None whole text = IsTextBy layout files whole text
+IsRowAt layout files (Some kind) whole text = text ≡ faulty_text layout kind whole
+
+-- the row of a record, as the row of a number
+abbrev pub IsRowBy : Layout → List File → ℕ → ℕ → Whole → List ℕ → Type 0
+IsRowBy layout files most number whole text = IsRowAt layout files (fault_by layout files most number whole.fields) whole text
+
+-- The outcome of records, the first of which is the row of this number: the texts of the rows up to the first that ends the run, and its
 -- fault, or none.
-abbrev pub ComeToBy : Layout → List File → ℕ → ℕ → List (List (List ℕ)) → List (List ℕ) → Option RowKind → Type 0
+abbrev pub ComeToBy : Layout → List File → ℕ → ℕ → List Whole → List (List ℕ) → Option RowKind → Type 0
 ComeToBy layout files most number [] texts fault = (texts ≡ []) × (fault ≡ None)
-ComeToBy layout files most number (fields ∷ records) [] fault = (fault ≡ fault_by layout files most number fields) × IsSome fault
-ComeToBy layout files most number (fields ∷ records) (text ∷ texts) fault =
-    (fault_by layout files most number fields ≡ None) × IsTextBy layout files fields text × ComeToBy layout files most (number + 1) records texts fault
+ComeToBy layout files most number (whole ∷ wholes) [] fault = (fault ≡ ends_by layout files most number whole.fields) × IsSome fault
+ComeToBy layout files most number (whole ∷ wholes) (text ∷ texts) fault =
+    (ends_by layout files most number whole.fields ≡ None) × IsRowBy layout files most number whole text × ComeToBy layout files most (number + 1) wholes texts fault
+
+-- the fault of the row of a number, if it has one
+abbrev pub noted : ℕ → Option RowKind → List RowFault
+noted number None = []
+noted number (Some kind) = record { row = number; kind = kind } ∷ []
+
+-- the faults of the rows of records, the first of which is the row of this number, up to the row that ends the run
+abbrev pub faults_by : Layout → List File → ℕ → ℕ → List Whole → List RowFault
+faults_by layout files most number [] = []
+faults_by layout files most number (whole ∷ wholes) =
+    if is_some (ends_by layout files most number whole.fields) then []
+    else noted number (fault_by layout files most number whole.fields) ++ faults_by layout files most (number + 1) wholes

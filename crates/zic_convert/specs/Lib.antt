@@ -3,6 +3,7 @@ pub mod Rows
 pub mod LayoutRows
 pub mod Column
 pub mod Convert
+pub mod Log
 pub mod Laws
 pub use Rattle.zic_rows.specs.Instant
 pub use Rattle.zic_rows.specs.Row

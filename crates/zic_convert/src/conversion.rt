@@ -1,31 +1,39 @@
 //! Converts columns.
 
-ghost use Rattle.std.specs.Prelude.{◌≡◌, ◌≤◌, ◌+◌, IfOk, IfErr, IfSome};
+ghost use Rattle.std.specs.Prelude.{◌≡◌, ◌≤◌, ◌+◌, [], IfOk, IfErr, IfSome};
 ghost use Rattle.zic_plan.specs.Plan.{IsPlan};
 ghost use Rattle.zic_counted.specs.Counts.{HasFailedSince};
-ghost use Rattle.zic_columns.specs.Column.{column_records};
+ghost use Rattle.csv.specs.Reading.{strip_bom};
+ghost use Rattle.zic_columns.specs.Own.{own_texts};
 ghost use Rattle.zic_columns.specs.Round.{unread};
 ghost use Rattle.zic_convert.specs.Column.{ConvertsBodyTo, ConvertsBy, ConvertsTo};
+ghost use Rattle.zic_convert.specs.Column.{header_text, own_header};
 ghost use Rattle.zic_convert.specs.Convert.{IsCauseOf, WritesAll, WritesAllOf};
 ghost use Rattle.zic_convert.specs.Convert.{WritesAt, WritesAtOf};
+ghost use Rattle.zic_convert.specs.LayoutRows.{faults_by};
+ghost use Rattle.zic_convert.specs.Log.{Notes, NotesAll, NotesUntil};
 ghost use Rattle.zic_convert.specs.code.Progress.{BeginsRows, RowsOfColumn, RowsOfRecords};
+ghost use Rattle.zic_convert.specs.code.Progress.{faults_of_column, header_in};
+ghost use Rattle.zic_convert.specs.code.Row.{wholes_in};
 ghost use Rattle.zic_convert.specs.code.Halt.{IsCauseOfHalt, IsReadingStop, WritesAtHalt};
+ghost use Rattle.zic_convert.specs.code.Halt.{NotesAtHalt, NotesUntilHalt};
 
 use crate::halt::Halt;
-use crate::output::flush;
+use crate::output::{flush, header_line, write_all};
 use crate::pieces::RowPieces;
 use crate::round::convert_round;
 use crate::row_files::RowFiles;
+use crate::setting::Setting;
 use std::alloc::Global;
 use std::io::{Read, Write};
 use std::sync::Wait;
 use std::thread::Threads;
-use zic_columns::laws::records_are_exchanged;
+use zic_columns::laws::{records_are_exchanged, texts_are_exchanged};
 use zic_columns::{Column, Exchanged, Unread};
 use zic_counted::Counted;
 use zic_files::Files;
 use zic_pieces::{Gate, Open};
-use zic_plan::{Header, Layout, Plan, RunStop};
+use zic_plan::{FaultLog, Header, Layout, Plan, RunStop, Unnoted};
 use zic_tzif::laws::files_answer_once;
 
 /// The least number of bytes of a round, if the column has them at once.
@@ -40,16 +48,6 @@ const PIECES_FOR_EACH: u64 = 16;
 /// The number of bytes that a record usually has.
 const USUAL_RECORD: u64 = 48;
 
-/// What a column is converted with: threads, memory, files, a plan and a gate.
-#[derive(Drop)]
-struct Setting<'a, T, G> {
-    rt: &'a T,
-    alloc: Global,
-    files: &'a Files,
-    plan: &'a Plan,
-    gate: &'a G,
-}
-
 /// Returns the number of bytes that a round is to have: some pieces for each worker, of usual
 /// records.
 fn round_len(plan: &Plan) -> usize {
@@ -63,22 +61,30 @@ fn round_len(plan: &Plan) -> usize {
 /// # Errors
 ///
 /// `Unread` where the column can't be read on, `Memory`, or what ends a round.
-fn convert_rounds<T: Threads + Wait + Sync, R: Read + Drop, W: Write, G: Gate + Sync>(
+fn convert_rounds<T: Threads + Wait + Sync, R: Read + Drop, W: Write, G: Gate + Sync, L: FaultLog>(
     setting: &Setting<'_, T, G>,
     layout: &Layout,
     mut column: Column<R>,
     writer: &mut Counted<W>,
+    log: &mut L,
 ) -> Result<u64, Halt>
-    ensures all { IfOk result (λ n. IfSome (unread R.remaining column) (λ bytes. WritesAllOf
+    ensures all { IfOk result (λ n. IfSome (unread R.remaining column) (λ bytes. WritesAllOf []
         (RowsOfRecords layout.now setting.now.files.now setting.now.plan.now.max_rows
-        (column_records bytes))
+        (wholes_in layout.now.delimiter bytes))
         n (W.contents writer.old.inner) (W.contents writer.new.inner))) }
     ensures flushed { IfOk result (λ _. writer.new.failures ≡ writer.old.failures) }
-    ensures halt { IfErr result (λ halt. IfSome (unread R.remaining column) (λ bytes. WritesAtHalt
+    ensures halt { IfErr result (λ halt. IfSome (unread R.remaining column) (λ bytes. WritesAtHalt []
         (RowsOfRecords layout.now setting.now.files.now setting.now.plan.now.max_rows
-        (column_records bytes))
+        (wholes_in layout.now.delimiter bytes))
         halt (W.contents writer.old.inner) (W.contents writer.new.inner))) }
     ensures cause { IfErr result (IsCauseOfHalt writer.old writer.new) }
+    ensures noted { IfOk result (λ _. IfSome (unread R.remaining column) (λ bytes.
+        Notes (L.noted log.old) (L.noted log.new) (faults_by layout.now setting.now.files.now
+        setting.now.plan.now.max_rows 1 (wholes_in layout.now.delimiter bytes)))) }
+    ensures noted_until { IfErr result (λ halt. IfSome (unread R.remaining column) (λ bytes.
+        NotesAtHalt halt (L.noted log.old) (L.noted log.new) (faults_by layout.now
+        setting.now.files.now setting.now.plan.now.max_rows 1
+        (wholes_in layout.now.delimiter bytes)))) }
 {
     // The rest of a column that can't be read on has rows too: each file answers every instant,
     // as `len` tells.
@@ -90,17 +96,17 @@ fn convert_rounds<T: Threads + Wait + Sync, R: Read + Drop, W: Write, G: Gate + 
     let mut count = 0;
     while column.turn(setting.alloc, wanted, size)? {
         let pieces = RowPieces::new(layout, &files, column.round(), count + 1, setting.plan);
-        count += convert_round(
-            setting.rt,
-            setting.alloc,
-            &pieces,
-            writer,
-            setting.plan,
-            setting.gate,
-        )?;
+        count += convert_round(setting, &pieces, writer, log)?;
     }
     flush(writer)?;
     Ok(count)
+}
+
+/// A column after its header, and the header's own bytes, which are none where it has no header.
+#[derive(Drop)]
+struct Begun<R: Read> {
+    column: Column<R>,
+    header: Vec<u8>,
 }
 
 /// Begins a column after its header, if it has one.
@@ -112,16 +118,21 @@ fn begin_column<T: Threads + Wait + Sync, R: Read + Drop, G: Gate + Sync>(
     setting: &Setting<'_, T, G>,
     layout: &Layout,
     reader: R,
-) -> Result<Column<R>, Unread>
-    ensures { IfOk result (λ column. IfSome (R.remaining reader)
-        (λ bytes. BeginsRows layout.now.header bytes (unread R.remaining column))) }
+) -> Result<Begun<R>, Unread>
+    ensures begins { IfOk result (λ begun. IfSome (R.remaining reader)
+        (λ bytes. BeginsRows layout.now.header bytes (unread R.remaining begun.column))) }
+    ensures header { IfOk result (λ begun. IfSome (R.remaining reader)
+        (λ bytes. begun.header.items ≡ own_header layout.now.header (own_texts (strip_bom bytes)))) }
 {
     let mut column = Column::new(setting.alloc, reader, setting.plan.max_bytes())?;
     match layout.header {
-        Header::Absent => Ok(column),
+        Header::Absent => {
+            let header = Vec::new(setting.alloc);
+            Ok(Begun { column, header })
+        }
         Header::First => {
-            column.pass_record(setting.alloc, round_len(setting.plan))?;
-            Ok(column)
+            let header = column.pass_record(setting.alloc, round_len(setting.plan))?;
+            Ok(Begun { column, header })
         }
     }
 }
@@ -132,25 +143,36 @@ fn begin_column<T: Threads + Wait + Sync, R: Read + Drop, G: Gate + Sync>(
 /// # Errors
 ///
 /// As [`convert_rounds`].
-fn convert_records<T: Threads + Wait + Sync, R: Read + Drop, W: Write, G: Gate + Sync>(
+fn convert_records<T: Threads + Wait + Sync, R: Read + Drop, W: Write, G: Gate + Sync, L: FaultLog>(
     setting: &Setting<'_, T, G>,
     layout: &Layout,
     reader: R,
     writer: &mut Counted<W>,
+    log: &mut L,
 ) -> Result<u64, Halt>
-    ensures all { IfOk result (λ n. IfSome (R.remaining reader) (λ column. WritesAllOf
+    ensures all { IfOk result (λ n. IfSome (R.remaining reader) (λ column.
+        WritesAllOf (header_in layout.now column)
         (RowsOfColumn layout.now setting.now.files.now setting.now.plan.now.max_rows column) n
         (W.contents writer.old.inner) (W.contents writer.new.inner))) }
     ensures flushed { IfOk result (λ _. writer.new.failures ≡ writer.old.failures) }
-    ensures halt { IfErr result (λ halt. IfSome (R.remaining reader) (λ column. WritesAtHalt
+    ensures halt { IfErr result (λ halt. IfSome (R.remaining reader) (λ column.
+        WritesAtHalt (header_in layout.now column)
         (RowsOfColumn layout.now setting.now.files.now setting.now.plan.now.max_rows column) halt
         (W.contents writer.old.inner) (W.contents writer.new.inner))) }
     ensures cause { IfErr result (IsCauseOfHalt writer.old writer.new) }
+    ensures noted { IfOk result (λ _. IfSome (R.remaining reader) (λ column.
+        Notes (L.noted log.old) (L.noted log.new) (faults_of_column layout.now
+        setting.now.files.now setting.now.plan.now.max_rows column))) }
+    ensures noted_until { IfErr result (λ halt. IfSome (R.remaining reader) (λ column.
+        NotesAtHalt halt (L.noted log.old) (L.noted log.new) (faults_of_column layout.now
+        setting.now.files.now setting.now.plan.now.max_rows column))) }
 {
     prove!(setting.files.len() <= usize::MAX);
     files_answer_once();
-    let column = begin_column(setting, layout, reader)?;
-    convert_rounds(setting, layout, column, writer)
+    let Begun { column, header } = begin_column(setting, layout, reader)?;
+    let line = header_line(layout, header)?;
+    write_all(writer, &line)?;
+    convert_rounds(setting, layout, column, writer, log)
 }
 
 /// Converts a whole column. Returns the number of rows.
@@ -167,12 +189,13 @@ fn convert_column<T: Threads + Wait + Sync, R: Read + Drop, W: Write, G: Gate + 
         (λ column. WritesAll setting.now.files.now setting.now.plan.now.max_rows column n
         (W.contents writer.old.inner) (W.contents writer.new.inner))) }
     ensures flushed { IfOk result (λ _. writer.new.failures ≡ writer.old.failures) }
-    ensures halt { IfErr result (λ halt. IfSome (R.remaining reader) (λ column. WritesAtHalt
+    ensures halt { IfErr result (λ halt. IfSome (R.remaining reader) (λ column. WritesAtHalt []
         (ConvertsTo setting.now.files.now setting.now.plan.now.max_rows column) halt
         (W.contents writer.old.inner) (W.contents writer.new.inner))) }
     ensures cause { IfErr result (IsCauseOfHalt writer.old writer.new) }
 {
-    convert_records(setting, &Layout::plain(Header::Absent), reader, writer)
+    let layout = Layout::plain(Header::Absent);
+    convert_records(setting, &layout, reader, writer, &mut Unnoted)
 }
 
 /// Converts a column whose first record is a header. Returns the number of rows.
@@ -185,16 +208,17 @@ fn convert_body<T: Threads + Wait + Sync, R: Read + Drop, W: Write, G: Gate + Sy
     reader: R,
     writer: &mut Counted<W>,
 ) -> Result<u64, Halt>
-    ensures all { IfOk result (λ n. IfSome (R.remaining reader) (λ column. WritesAllOf
+    ensures all { IfOk result (λ n. IfSome (R.remaining reader) (λ column. WritesAllOf []
         (ConvertsBodyTo setting.now.files.now setting.now.plan.now.max_rows column) n
         (W.contents writer.old.inner) (W.contents writer.new.inner))) }
     ensures flushed { IfOk result (λ _. writer.new.failures ≡ writer.old.failures) }
-    ensures halt { IfErr result (λ halt. IfSome (R.remaining reader) (λ column. WritesAtHalt
+    ensures halt { IfErr result (λ halt. IfSome (R.remaining reader) (λ column. WritesAtHalt []
         (ConvertsBodyTo setting.now.files.now setting.now.plan.now.max_rows column) halt
         (W.contents writer.old.inner) (W.contents writer.new.inner))) }
     ensures cause { IfErr result (IsCauseOfHalt writer.old writer.new) }
 {
-    convert_records(setting, &Layout::plain(Header::First), reader, writer)
+    let layout = Layout::plain(Header::First);
+    convert_records(setting, &layout, reader, writer, &mut Unnoted)
 }
 
 /// Converts a column by a layout. Returns the number of rows.
@@ -202,26 +226,41 @@ fn convert_body<T: Threads + Wait + Sync, R: Read + Drop, W: Write, G: Gate + Sy
 /// # Errors
 ///
 /// As [`convert_rounds`].
-fn convert_delimited<T: Threads + Wait + Sync, R: Read + Drop, W: Write, G: Gate + Sync>(
+fn convert_delimited<
+    T: Threads + Wait + Sync,
+    R: Read + Drop,
+    W: Write,
+    G: Gate + Sync,
+    L: FaultLog,
+>(
     setting: &Setting<'_, T, G>,
     layout: &Layout,
     reader: R,
     writer: &mut Counted<W>,
+    log: &mut L,
 ) -> Result<u64, Halt>
-    ensures all { IfOk result (λ n. IfSome (R.remaining reader) (λ column. WritesAllOf
+    ensures all { IfOk result (λ n. IfSome (R.remaining reader) (λ column.
+        WritesAllOf (header_text layout.now column)
         (ConvertsBy setting.now.files.now layout.now setting.now.plan.now.max_rows column) n
         (W.contents writer.old.inner) (W.contents writer.new.inner))) }
     ensures flushed { IfOk result (λ _. writer.new.failures ≡ writer.old.failures) }
-    ensures halt { IfErr result (λ halt. IfSome (R.remaining reader) (λ column. WritesAtHalt
+    ensures halt { IfErr result (λ halt. IfSome (R.remaining reader) (λ column.
+        WritesAtHalt (header_text layout.now column)
         (ConvertsBy setting.now.files.now layout.now setting.now.plan.now.max_rows column) halt
         (W.contents writer.old.inner) (W.contents writer.new.inner))) }
     ensures cause { IfErr result (IsCauseOfHalt writer.old writer.new) }
+    ensures noted { IfOk result (λ _. IfSome (R.remaining reader) (λ column.
+        NotesAll setting.now.files.now layout.now setting.now.plan.now.max_rows column
+        (L.noted log.old) (L.noted log.new))) }
+    ensures noted_until { IfErr result (λ halt. IfSome (R.remaining reader) (λ column.
+        NotesUntilHalt setting.now.files.now layout.now setting.now.plan.now.max_rows column halt
+        (L.noted log.old) (L.noted log.new))) }
 {
-    // The names of files have no byte that is a delimiter, as `len` tells.
-    prove!(setting.files.len() <= usize::MAX);
     records_are_exchanged();
+    texts_are_exchanged();
     let delimiter = layout.delimiter.byte();
-    convert_records(setting, layout, Exchanged::new(reader, delimiter), writer)
+    let exchanged = Exchanged::new(reader, delimiter);
+    convert_records(setting, layout, exchanged, writer, log)
 }
 
 /// Returns why reading the column ended. The reader had counted `failures` failures and `taken`
@@ -331,13 +370,13 @@ pub fn convert_after_header<T: Threads + Wait + Sync, R: Read, W: Write>(
     plan: &Plan,
 ) -> Result<u64, RunStop>
     ensures ok { IfOk result (λ n. IfSome (R.remaining reader.old.inner)
-        (λ column. WritesAllOf (ConvertsBodyTo files.now plan.now.max_rows column) n
+        (λ column. WritesAllOf [] (ConvertsBodyTo files.now plan.now.max_rows column) n
         (W.contents writer.old.inner) (W.contents writer.new.inner))) }
     ensures within { IfOk result (λ _. reader.new.taken ≤ reader.old.taken + plan.now.max_bytes) }
     ensures unfailed { IfOk result (λ _. HasFailedSince reader.new reader.old.failures → ⊥) }
     ensures flushed { IfOk result (λ _. writer.new.failures ≡ writer.old.failures) }
     ensures err { IfErr result (λ stop. IfSome (R.remaining reader.old.inner)
-        (λ column. WritesAtOf (ConvertsBodyTo files.now plan.now.max_rows column) stop
+        (λ column. WritesAtOf [] (ConvertsBodyTo files.now plan.now.max_rows column) stop
         (W.contents writer.old.inner) (W.contents writer.new.inner))) }
     ensures cause { IfErr result
         (IsCauseOf plan.now.max_bytes reader.old reader.new writer.old writer.new) }
@@ -362,9 +401,11 @@ pub fn convert_after_header<T: Threads + Wait + Sync, R: Read, W: Write>(
     }
 }
 
-/// How a column is converted: how work is shared and how long the column may be, and what it has.
+/// How a column is converted: by which files, how work is shared and how long the column may be, and
+/// what it has.
 #[derive(Clone, Copy, Drop)]
 pub struct ColumnOrder<'a> {
+    pub files: &'a Files,
     pub plan: &'a Plan,
     pub layout: &'a Layout,
 }
@@ -378,30 +419,48 @@ pub struct ColumnOrder<'a> {
 /// and 1 to 18 digits, and as many more as a fraction of a second has. A row shows local time of its
 /// whole second, rounded down, and with that fraction. The workers pass no gate.
 ///
+/// A row begins with the name and the instant, or with the record's own bytes as they stand in the
+/// column, as the layout's `start` says. Where it begins with the record and there is a header, that
+/// comes first, with the names `local`, `offset`, `daylight` and `abbreviation` added.
+///
+/// As the layout's `at_fault` says, the first row with a fault ends the conversion, or rows with
+/// faults are written. Such a row has empty fields in the place of local time, and the instant as
+/// its record has it; where the record has another number of fields than the layout's, the row is
+/// only the record's own bytes. The log takes note of the fault.
+///
 /// # Errors
 ///
 /// As [`convert`]. A record of another number of fields than the layout's is `RowFields`, and a
-/// whole second out of range `RowRange`.
-pub fn convert_by<T: Threads + Wait + Sync, R: Read, W: Write>(
+/// whole second out of range `RowRange`. Where rows with faults are written, only `TooManyRows` ends
+/// the conversion as `Row`.
+pub fn convert_by<T: Threads + Wait + Sync, R: Read, W: Write, L: FaultLog>(
     rt: &T,
     alloc: Global,
-    files: &Files,
     reader: &mut Counted<R>,
     writer: &mut Counted<W>,
     order: &ColumnOrder<'_>,
+    log: &mut L,
 ) -> Result<u64, RunStop>
-    ensures ok { IfOk result (λ n. IfSome (R.remaining reader.old.inner) (λ column. WritesAllOf
-        (ConvertsBy files.now order.now.layout.now order.now.plan.now.max_rows column) n
+    ensures ok { IfOk result (λ n. IfSome (R.remaining reader.old.inner) (λ column.
+        WritesAllOf (header_text order.now.layout.now column)
+        (ConvertsBy order.now.files.now order.now.layout.now order.now.plan.now.max_rows column) n
         (W.contents writer.old.inner) (W.contents writer.new.inner))) }
     ensures within { IfOk result
         (λ _. reader.new.taken ≤ reader.old.taken + order.now.plan.now.max_bytes) }
     ensures unfailed { IfOk result (λ _. HasFailedSince reader.new reader.old.failures → ⊥) }
     ensures flushed { IfOk result (λ _. writer.new.failures ≡ writer.old.failures) }
-    ensures err { IfErr result (λ stop. IfSome (R.remaining reader.old.inner) (λ column. WritesAtOf
-        (ConvertsBy files.now order.now.layout.now order.now.plan.now.max_rows column) stop
-        (W.contents writer.old.inner) (W.contents writer.new.inner))) }
+    ensures err { IfErr result (λ stop. IfSome (R.remaining reader.old.inner) (λ column.
+        WritesAtOf (header_text order.now.layout.now column)
+        (ConvertsBy order.now.files.now order.now.layout.now order.now.plan.now.max_rows column)
+        stop (W.contents writer.old.inner) (W.contents writer.new.inner))) }
     ensures cause { IfErr result (IsCauseOf order.now.plan.now.max_bytes
         reader.old reader.new writer.old writer.new) }
+    ensures noted { IfOk result (λ _. IfSome (R.remaining reader.old.inner) (λ column.
+        NotesAll order.now.files.now order.now.layout.now order.now.plan.now.max_rows column
+        (L.noted log.old) (L.noted log.new))) }
+    ensures noted_until { IfErr result (λ stop. IfSome (R.remaining reader.old.inner) (λ column.
+        NotesUntil order.now.files.now order.now.layout.now order.now.plan.now.max_rows column stop
+        (L.noted log.old) (L.noted log.new))) }
 {
     let failures = reader.failures();
     let taken = reader.taken();
@@ -409,11 +468,11 @@ pub fn convert_by<T: Threads + Wait + Sync, R: Read, W: Write>(
     let setting = Setting {
         rt,
         alloc,
-        files,
+        files: order.files,
         plan,
         gate: &Open,
     };
-    match convert_delimited(&setting, order.layout, &mut *reader, writer) {
+    match convert_delimited(&setting, order.layout, &mut *reader, writer, log) {
         Ok(_) if reader.has_failed_since(failures) => Err(RunStop::ReadFailed),
         Ok(_) if reader.taken().saturating_sub(taken) > plan.max_bytes() => {
             Err(RunStop::ColumnTooLong)

@@ -4,8 +4,10 @@
 
 mod column;
 mod conversion;
+mod faulty;
 mod halt;
 pub mod laws;
+mod log;
 mod output;
 mod pieces;
 mod query;
@@ -13,6 +15,7 @@ mod ready_zone;
 mod round;
 mod row;
 mod row_files;
+mod setting;
 mod zone_cache;
 
 pub use column::{ColumnRows, rows_of_column};

@@ -1,17 +1,66 @@
 //! Writes rows.
 
 ghost use Rattle.std.specs.Prelude.{◌≡◌, ◌+◌, ◌^◌, ◌<◌, [], IfOk, OnOk, IfErr};
+ghost use Rattle.zic_columns.specs.Exchange.{exchanged};
 ghost use Rattle.zic_counted.specs.Written.{FailsWithin};
+ghost use Rattle.zic_plan.specs.declared.layout.RowStart.TheVariants as start;
+ghost use Rattle.zic_convert.specs.Column.{header_of};
 ghost use Rattle.zic_convert.specs.code.Pieces.{joined};
 ghost use Rattle.zic_convert.specs.code.Written.{Wrote, WritesRows, EndsAtRow};
 
+use crate::faulty::put_back;
+use crate::log::note_all;
 use crate::row::Rows;
+use std::alloc::AllocError;
 use std::io::Write;
 use zic_counted::{Counted, WriteFailed};
-use zic_plan::RunStop;
+use zic_plan::{FaultLog, Layout, RowStart, RunStop};
+
+/// The names of the fields that a row adds to its record.
+const ADDED_NAMES: &[u8; 35] = b",local,offset,daylight,abbreviation";
+
+/// Adds the names of the fields that a row adds to its record, and a newline, to the own bytes of a
+/// header, in which the delimiter and the comma stand in each other's place. Does nothing where
+/// there is no header.
+fn add_names(line: &mut Vec<u8>, delimiter: u8) -> Result<(), AllocError>
+    ensures { OnOk result (line.new.items
+        ≡ header_of start.Record delimiter (exchanged delimiter line.old.items)) }
+{
+    if line.is_empty() {
+        return Ok(());
+    }
+    line.extend_from_slice(ADDED_NAMES)?;
+    put_back(line, 0, delimiter);
+    line.push(b'\n')?;
+    Ok(())
+}
+
+/// Returns the header before rows, by the own bytes of the column's header, in which the delimiter
+/// and the comma stand in each other's place. Returns no bytes where rows don't begin with their
+/// records, or the column has no header.
+///
+/// # Errors
+///
+/// Fails where memory is refused.
+pub(crate) fn header_line(layout: &Layout, own: Vec<u8>) -> Result<Vec<u8>, AllocError>
+    ensures { IfOk result (λ line. line.items ≡ header_of layout.now.start layout.now.delimiter
+        (exchanged layout.now.delimiter own.items)) }
+{
+    let mut line = own;
+    match layout.start {
+        RowStart::Fields => {
+            line.clear();
+            Ok(line)
+        }
+        RowStart::Record => {
+            add_names(&mut line, layout.delimiter.byte())?;
+            Ok(line)
+        }
+    }
+}
 
 /// Writes all of the bytes, as `zic_counted` does.
-fn write_all<W: Write>(writer: &mut Counted<W>, bytes: &[u8]) -> Result<(), RunStop>
+pub(crate) fn write_all<W: Write>(writer: &mut Counted<W>, bytes: &[u8]) -> Result<(), RunStop>
     ensures ok { OnOk result (Wrote W.contents writer.old writer.new bytes.now) }
     ensures err { IfErr result (λ stop. (stop ≡ RunStop.WriteFailed)
         × FailsWithin W.contents writer.old writer.new bytes.now) }
@@ -34,27 +83,29 @@ pub(crate) fn flush<W: Write>(writer: &mut Counted<W>) -> Result<(), RunStop>
     }
 }
 
-/// Writes the rows of pieces, one piece after another, up to the first that has a fault, flushes,
-/// and returns the number of rows. The first is the row of this number.
+/// Writes the rows of pieces, one piece after another, up to the first that ends the run, notes
+/// their faults, flushes, and returns the number of rows. The first is the row of this number.
 ///
 /// # Errors
 ///
-/// `Row` with the number and the kind of the first fault, once the rows before it are written and
-/// flushed, or `WriteFailed`.
-pub(crate) fn write_rows<W: Write>(
+/// `Row` with the number and the kind of the fault that ends the run, once the rows before it are
+/// written and flushed, or `WriteFailed`.
+pub(crate) fn write_rows<W: Write, L: FaultLog>(
     writer: &mut Counted<W>,
     first: u64,
     pieces: &[Rows],
+    log: &mut L,
 ) -> Result<u64, RunStop>
     requires { first + (joined pieces.now).count < 2 ^ 64 }
-    ensures ok { IfOk result
-        (λ count. WritesRows W.contents writer.old writer.new (joined pieces.now) count) }
-    ensures err { IfErr result
-        (EndsAtRow W.contents writer.old writer.new first (joined pieces.now)) }
+    ensures ok { IfOk result (λ count. WritesRows W.contents writer.old writer.new
+        (L.noted log.old) (L.noted log.new) (joined pieces.now) count) }
+    ensures err { IfErr result (EndsAtRow W.contents writer.old writer.new
+        (L.noted log.old) (L.noted log.new) first (joined pieces.now)) }
 {
     let mut count = 0;
     for rows in pieces {
         write_all(writer, &rows.text)?;
+        note_all(log, &rows.faults);
         count += rows.count;
         if let Some(kind) = rows.fault {
             flush(writer)?;

@@ -32,8 +32,8 @@ pub(crate) struct RowPieces<'a, 's> {
     most: u64,
     /// The number of records of a piece; the last may have fewer.
     size: u64,
-    /// Whether a piece with a fault stops the task. If not, its rows before the fault are its
-    /// value.
+    /// Whether a piece with a row that ends the run stops the task. If not, its rows before that
+    /// row are its value.
     stops: bool,
 }
 
@@ -64,8 +64,8 @@ impl<'a, 's> Model for RowPieces<'a, 's> {
 }
 
 impl<'a, 's> RowPieces<'a, 's> {
-    /// Returns the pieces of a round, cut as the plan says, as a task that stops at a fault. The
-    /// first record is the row of this number.
+    /// Returns the pieces of a round, cut as the plan says, as a task that stops at a row that ends
+    /// the run. The first record is the row of this number.
     pub(crate) fn new(
         layout: &'a Layout,
         files: &'a RowFiles<'s>,
@@ -106,7 +106,7 @@ impl<'a, 's> RowPieces<'a, 's> {
         self.first
     }
 
-    /// Returns the pieces up to one that has a fault, as a task that doesn't stop there.
+    /// Returns the pieces up to one with a row that ends the run, as a task that doesn't stop there.
     pub(crate) fn up_to(&self, i: u64) -> RowPieces<'_, 's>
         requires { i < length self.now.pieces }
         ensures { result ≡ record self.now {
@@ -125,7 +125,7 @@ impl<'a, 's> RowPieces<'a, 's> {
         }
     }
 
-    /// Returns the rows of the piece with this index, up to the first that has a fault.
+    /// Returns the rows of the piece with this index, up to the first that ends the run.
     fn piece_rows(&self, alloc: Global, i: u64) -> Result<Rows, AllocError>
         requires { i < length self.now.pieces }
         ensures { IfOk result (AreRowsOfPiece self.now i) }
@@ -136,14 +136,14 @@ impl<'a, 's> RowPieces<'a, 's> {
             let split = self.round.split(alloc, i as usize)?;
             return rows_of(alloc, self.files, self.most, first, room, split.records());
         }
-        let wide = self.round.split_wide(alloc, i as usize)?;
+        let split = self.round.split_entries(alloc, i as usize)?;
         let order = RowOrder {
             files: self.files,
             layout: self.layout,
             most: self.most,
             first,
         };
-        rows_by(alloc, &order, room, wide.records())
+        rows_by(alloc, &order, room, split.entries())
     }
 }
 

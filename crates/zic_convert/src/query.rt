@@ -1,10 +1,12 @@
 //! The queries of records.
 
-ghost use Rattle.std.specs.Prelude.{◌≡◌, MatchResult};
+ghost use Rattle.std.specs.Prelude.{◌≡◌, [], MatchResult, slice_index_or};
+ghost use Rattle.zic_columns.specs.Wide.{wide_fields};
 ghost use Rattle.zic_rows.specs.Count.{second_of};
 ghost use Rattle.zic_rows.specs.Instant.{IsRowInstant};
 ghost use Rattle.zic_convert.specs.code.Query.{IsAsked, IsCounted, IsFaultOfCount, IsFaultOfField};
 
+use zic_columns::WideRecord;
 use zic_plan::{RowKind, Unit};
 use zic_rows::{FIRST_INSTANT, LAST_INSTANT, moment_of, parse_count, parse_instant};
 
@@ -35,6 +37,16 @@ pub(crate) fn row_instant(field: &[u8]) -> Result<i64, RowKind>
         return Err(RowKind::RowRange);
     }
     Ok(instant)
+}
+
+/// Returns the field with this index, or no text where there is none.
+pub(crate) fn field_or_none<'a>(line: &WideRecord<'a>, index: usize) -> &'a [u8]
+    ensures { result.now ≡ slice_index_or (wide_fields line.now) index [] }
+{
+    match line.field(index) {
+        Some(field) => field,
+        None => b"",
+    }
 }
 
 /// The query of a record: local time of the zone of a name, at the whole second of a count that a

@@ -1,6 +1,7 @@
 //! Files that are ready for rows.
 
 ghost use Rattle.std.specs.Prelude.{◌≡◌, false, IfOk, MatchOption};
+ghost use Rattle.zic_files.specs.Sound.{AreSoundFiles};
 ghost use Rattle.zic_convert.specs.Rows.{is_named};
 ghost use Rattle.zic_convert.specs.code.ZoneCache.{IsZoneOf};
 
@@ -40,6 +41,15 @@ impl<'a> RowFiles<'a> {
             zones.push(ReadyZone::new(alloc, files.zone(file))?)?;
         }
         Ok(RowFiles { files, zones })
+    }
+
+    /// States that the files are sound.
+    #[inline(always)]
+    pub(crate) fn are_sound(&self)
+        ensures { AreSoundFiles self.now }
+    {
+        // `len` tells it.
+        prove!(self.files.len() <= usize::MAX);
     }
 
     /// Returns the zone of the file of this name, or `None` where no file has it.

@@ -1,16 +1,28 @@
 -- How a conversion ends early.
 use Rattle.std.specs.Prelude.{◌≡◌, ℕ, ◌+◌, ◌<◌, ◌⊎◌, List, Option}
 use Rattle.zic_counted.specs.Counts.{Counts, HasFailedSince, greatest}
+use Rattle.zic_files.specs.File.{File}
+use Rattle.zic_plan.specs.declared.layout.Layout.{Layout}
+use Rattle.zic_plan.specs.declared.stop.RowFault.{RowFault}
 use Rattle.zic_plan.specs.declared.stop.RunStop.{RunStop}
 use Rattle.zic_plan.specs.declared.stop.RunStop.TheVariants as stop
 use Rattle.zic_convert.specs.Convert.{Outcome, WritesAtOf, WritesPartOf}
+use Rattle.zic_convert.specs.Log.{AreFaultsBy, NotesAt, NotesPart}
 use Rattle.zic_convert.specs.declared.halt.Halt.{Halt}
 use Rattle.zic_convert.specs.declared.halt.Halt.TheVariants as halt
 
 -- the output where the column could not be read on, or where the conversion ends for another cause
-abbrev pub WritesAtHalt : Outcome → Halt → Option (List ℕ) → Option (List ℕ) → Type 0
-WritesAtHalt Converts halt.Unread old new = WritesPartOf Converts old new
-WritesAtHalt Converts (halt.Stop stop) old new = WritesAtOf Converts stop old new
+abbrev pub WritesAtHalt : List ℕ → Outcome → Halt → Option (List ℕ) → Option (List ℕ) → Type 0
+WritesAtHalt head Converts halt.Unread old new = WritesPartOf head Converts old new
+WritesAtHalt head Converts (halt.Stop stop) old new = WritesAtOf head Converts stop old new
+
+-- the log there
+abbrev pub NotesAtHalt : Halt → Option (List RowFault) → Option (List RowFault) → List RowFault → Type 0
+NotesAtHalt halt.Unread old new faults = NotesPart old new faults
+NotesAtHalt (halt.Stop stop) old new faults = NotesAt stop old new faults
+
+abbrev pub NotesUntilHalt : List File → Layout → ℕ → List ℕ → Halt → Option (List RowFault) → Option (List RowFault) → Type 0
+NotesUntilHalt files layout most column why old new = (faults : List RowFault) × AreFaultsBy files layout most column faults × NotesAtHalt why old new faults
 
 -- a row with a fault where the writer did not fail, a writer that failed, or memory that ran out
 abbrev pub IsOwnCause : {W : Type 0} → Counts W → Counts W → RunStop → Type 0

@@ -1,20 +1,55 @@
 -- Rows as the code has them.
-use Rattle.std.specs.Prelude.{◌≡◌, ℕ, List, length, Option}
-use Rattle.std.specs.List.{concat}
+use Rattle.std.specs.Prelude.{◌≡◌, ◌+◌, ℕ, ℤ, List, ◌∷◌, ◌++◌, length, map, Option, Some, MatchOption}
+use Rattle.std.specs.Fmt.{signed_decimal}
+use Rattle.std.specs.List.{concat, flat_map}
+use Rattle.zic_columns.specs.Exchange.{exchanged}
+use Rattle.zic_columns.specs.Own.{Whole, whole_records}
 use Rattle.zic_files.specs.File.{File}
 use Rattle.zic_plan.specs.declared.layout.Layout.{Layout}
+use Rattle.zic_plan.specs.declared.layout.RowStart.{RowStart}
+use Rattle.zic_plan.specs.declared.layout.RowStart.TheVariants as start
+use Rattle.zic_plan.specs.declared.stop.RowFault.{RowFault}
 use Rattle.zic_plan.specs.declared.stop.RowKind.{RowKind}
-use Rattle.zic_convert.specs.LayoutRows.{ComeToBy}
+use Rattle.zic_convert.specs.LayoutRows.{ComeToBy, IsRowBy, ends_by, fault_by, faults_by, noted}
 
--- the text of some rows, how many there are, and the fault of the row after them, or none
+-- a record, in whose own bytes and fields the comma and the delimiter are put back in their places
+abbrev pub put_back : ℕ → Whole → Whole
+put_back delimiter whole = record { own = exchanged delimiter whole.own; fields = map (exchanged delimiter) whole.fields }
+
+-- the records of bytes in which the comma and the delimiter stand in each other's place, with the two put back
+abbrev pub wholes_in : ℕ → List ℕ → List Whole
+wholes_in delimiter bytes = map (put_back delimiter) (whole_records bytes)
+
+-- those of pieces, one piece after another
+abbrev pub wholes_of_all : ℕ → List (List ℕ) → List Whole
+wholes_of_all delimiter pieces = flat_map (wholes_in delimiter) pieces
+
+-- the fields of each record
+abbrev pub fields_of_all : List Whole → List (List (List ℕ))
+fields_of_all wholes = map (λ (w : Whole). w.fields) wholes
+
+-- what a row begins with, before the delimiter is put back
+abbrev pub comma_start : RowStart → List ℕ → List ℕ → ℤ → List ℕ
+comma_start start.Fields own name count = name ++ 44 ∷ signed_decimal count
+comma_start start.Record own name count = own
+
+-- the text of some rows, how many there are, the fault of the row after them that ends the run, or none, and the faults that they have
 pub record RowsOf : Type 0 where
   pub text : List ℕ
   pub count : ℕ
   pub fault : Option RowKind
+  pub faults : List RowFault
 
 -- the outcome of these records, by a layout, the first of which is the row of this number
-pub record AreRowsOf (layout : Layout) (files : List File) (most first : ℕ) (records : List (List (List ℕ))) (rows : RowsOf) : Type 0 where
+pub record AreRowsOf (layout : Layout) (files : List File) (most first : ℕ) (wholes : List Whole) (rows : RowsOf) : Type 0 where
   pub texts : List (List ℕ)
-  pub come : ComeToBy layout files most first records texts rows.fault
+  pub come : ComeToBy layout files most first wholes texts rows.fault
   pub text : rows.text ≡ concat texts
   pub count : rows.count ≡ length texts
+  pub faults : rows.faults ≡ faults_by layout files most first wholes
+
+-- Rows, and those with the row of one record more, as the row of a number, or with the fault that ends the run there.
+abbrev pub AreNext : Layout → List File → ℕ → ℕ → Whole → RowsOf → RowsOf → Type 0
+AreNext layout files most number whole old new = MatchOption (ends_by layout files most number whole.fields)
+    ((row : List ℕ) × IsRowBy layout files most number whole row × (new ≡ record { text = old.text ++ row; count = old.count + 1; fault = old.fault; faults = old.faults ++ noted number (fault_by layout files most number whole.fields) }))
+    (λ kind. new ≡ record old { fault = Some kind })

@@ -1,15 +1,15 @@
 -- The zone that a cache keeps from row to row.
-use Rattle.std.specs.Prelude.{◌≡◌, ℕ, false, List, [], ◌∷◌, Option, Some, None, Contains, IfSome, MatchOption}
+use Rattle.std.specs.Prelude.{◌≡◌, ℕ, false, List, [], ◌∷◌, ◌++◌, Option, Some, None, Contains, IfSome, MatchOption}
 use Rattle.zic_base.specs.State.{Shown}
 use Rattle.zic_files.specs.File.{File}
 use Rattle.zic_files.specs.Sound.{IsAlwaysKnown}
 use Rattle.zic_posix.specs.declared.instants.Instants.{Instants}
-use Rattle.zic_rows.specs.Count.{counted_row_text}
+use Rattle.zic_rows.specs.Count.{counted_rest_text}
 use Rattle.zic_rows.specs.Row.{row_text}
 use Rattle.zic_tzif.specs.Content.{Content}
 use Rattle.zic_tzif.specs.Answer.{AnswersThroughout}
 use Rattle.zic_convert.specs.Rows.{IsTextOf, fault_of, is_named}
-use Rattle.zic_convert.specs.LayoutRows.{IsTextBy, fault_by}
+use Rattle.zic_convert.specs.LayoutRows.{IsTextBy, fault_by, start_text}
 use Rattle.zic_convert.specs.declared.query.Query.{Query}
 use Rattle.zic_convert.specs.declared.query.CountQuery.{CountQuery}
 use Rattle.zic_columns.specs.Exchange.{exchanged}
@@ -42,7 +42,8 @@ pub record IsShown (told : Told) (most number : ℕ) (fields : List (List ℕ)) 
   pub two : fields ≡ query.name.now ∷ query.field.now ∷ []
   pub text : IsTextOf told.files fields (row_text query.name.now query.instant told.state)
 
--- the same by a layout
+-- the same by a layout, whatever the record's own bytes are
 pub record IsShownBy (layout : Layout) (told : Told) (most number : ℕ) (fields : List (List ℕ)) (query : CountQuery) : Type 0 where
   pub sound : fault_by layout told.files most number fields ≡ None
-  pub text : IsTextBy layout told.files fields (exchanged layout.delimiter (counted_row_text query.unit query.name.now query.count told.state))
+  pub text : (own : List ℕ) → IsTextBy layout told.files (record { own = own; fields = fields })
+      (start_text layout own query.name.now query.count ++ exchanged layout.delimiter (counted_rest_text query.unit query.count told.state))

@@ -1,28 +1,20 @@
 //! Rows by a layout.
 
-ghost use Rattle.std.specs.Prelude.{◌≡◌, ◌++◌, [], Some, OnOk, MatchResult, slice_index_or};
+ghost use Rattle.std.specs.Prelude.{◌≡◌, ◌++◌, Some, OnOk, MatchResult};
 ghost use Rattle.zic_columns.specs.Exchange.{exchanged};
 ghost use Rattle.zic_columns.specs.Wide.{wide_fields};
-ghost use Rattle.zic_rows.specs.Count.{counted_row_text};
-ghost use Rattle.zic_convert.specs.LayoutRows.{fault_by, zone_in};
+ghost use Rattle.zic_rows.specs.Count.{counted_rest_text};
+ghost use Rattle.zic_convert.specs.LayoutRows.{fault_by, start_text, zone_in};
+ghost use Rattle.zic_convert.specs.code.Row.{comma_start};
 ghost use Rattle.zic_convert.specs.code.ZoneCache.{IsShownBy};
 
 use super::ZoneCache;
-use crate::query::{CountQuery, row_count};
+use crate::faulty::put_back;
+use crate::query::{CountQuery, field_or_none, row_count};
 use std::alloc::AllocError;
-use zic_columns::{WideRecord, exchange};
-use zic_plan::{Layout, RowKind, ZoneFrom};
+use zic_columns::WideRecord;
+use zic_plan::{Layout, RowKind, RowStart, ZoneFrom};
 use zic_rows::moment_of;
-
-/// Returns the field with this index, or no text where there is none.
-fn field_or_none<'a>(line: &WideRecord<'a>, index: usize) -> &'a [u8]
-    ensures { result.now ≡ slice_index_or (wide_fields line.now) index [] }
-{
-    match line.field(index) {
-        Some(field) => field,
-        None => b"",
-    }
-}
 
 /// Returns the name of a record's zone.
 fn zone_name<'a>(zone: &'a ZoneFrom, line: &WideRecord<'a>) -> &'a [u8]
@@ -75,22 +67,51 @@ impl<'a, 's> ZoneCache<'a, 's> {
         })
     }
 
-    /// Appends the row of what a record asks for, to which the cache has turned. Where memory runs
-    /// out, a part of the row may be there.
+    /// Appends the row of what a record asks for, to which the cache has turned, with commas. `own` is
+    /// the record's own bytes. Where memory runs out, a part of the row may be there.
+    fn push_commas(
+        &mut self,
+        text: &mut Vec<u8>,
+        query: &CountQuery<'_>,
+        start: RowStart,
+        own: &[u8],
+    ) -> Result<(), AllocError>
+        ensures cache { self.new ≡ self.old }
+        ensures ok { OnOk result (text.new.items ≡ text.old.items
+            ++ (comma_start start own.now query.now.name.now query.now.count
+            ++ counted_rest_text query.now.unit query.now.count self.old.state)) }
+    {
+        match start {
+            RowStart::Fields => {
+                self.writer
+                    .push_counted(text, query.name, query.count, query.unit)
+            }
+            RowStart::Record => {
+                text.extend_from_slice(own)?;
+                self.writer.push_counted_rest(text, query.count, query.unit)
+            }
+        }
+    }
+
+    /// Appends the row of what a record asks for, to which the cache has turned. `own` is the
+    /// record's own bytes, in which the delimiter and the comma stand in each other's place. Where
+    /// memory runs out, a part of the row may be there.
     pub(crate) fn push_by(
         &mut self,
         text: &mut Vec<u8>,
         query: &CountQuery<'_>,
+        own: &[u8],
         layout: &Layout,
     ) -> Result<(), AllocError>
         ensures cache { self.new ≡ self.old }
-        ensures ok { OnOk result (text.new.items ≡ text.old.items ++ exchanged layout.now.delimiter
-            (counted_row_text query.now.unit query.now.name.now query.now.count self.old.state)) }
+        ensures ok { OnOk result (text.new.items ≡ text.old.items
+            ++ (start_text layout.now (exchanged layout.now.delimiter own.now) query.now.name.now
+            query.now.count ++ exchanged layout.now.delimiter
+            (counted_rest_text query.now.unit query.now.count self.old.state))) }
     {
         let start = text.len();
-        self.writer
-            .push_counted(text, query.name, query.count, query.unit)?;
-        exchange(&mut text[start..], layout.delimiter.byte());
+        self.push_commas(text, query, layout.start, own)?;
+        put_back(text, start, layout.delimiter.byte());
         Ok(())
     }
 }

@@ -1,19 +1,26 @@
 use Rattle.std.proofs.Common.{◌≡◌, ◌++◌, ◌+◌, ℕ, List, [], Option, None, Some, drop, refl, sym, ap, subst, ◌∙◌, arith, rules}
 use Rattle.std.proofs.lemmas.List.{append-nil}
 use Rattle.std.proofs.lemmas.Result.{err_from_is_err_and}
+use Rattle.csv.proofs.WriteFacts.{appends-none}
+use Rattle.zic_plan.specs.declared.stop.RowFault.{RowFault}
 use Rattle.zic_plan.specs.declared.stop.RowKind.{RowKind}
+use Rattle.zic_convert.specs.Log.{Notes, NotesPart}
+use Rattle.zic_convert.proofs.Logs.{notes_more, notes_none, part_all}
 use Rattle.zic_convert.specs.code.Row.{RowsOf}
 use Rattle.zic_counted.specs.Written.{FailsWithin}
 use Rattle.zic_convert.specs.code.Written.{Wrote}
 use Rattle.zic_convert.specs.code.Pieces.{joined}
 use Rattle.zic_convert.proofs.Bytes.{wrote_both, wrote_part}
-use Rattle.zic_convert.proofs.Writings.{IsLeft, next_part, next_left, piece_done, fault_next}
+use Rattle.zic_convert.proofs.Writings.{IsLeft, none_done, next_part, next_left, piece_done, fault_next}
 use Rattle.zic_convert.proofs.output.write_rows.Goals as goal
 
 -- no fault is there
 none_of : (o : Option RowKind) → ((kind : RowKind) → o ≡ Some kind → ⊥) → o ≡ None
 none_of None h = refl
 none_of (Some kind) h = absurd (h kind refl)
+
+pub loop-rows-init : goal.loop-rows-init
+loop-rows-init g c = ([], [], none_done (joined c.args.pieces.now), (appends-none (g.W.Write.contents c.args.writer.now.inner), refl), notes_none (g.L.FaultLog.noted c.args.log.now))
 
 pub returns-in_err-write_all-clause-err : goal.returns-in_err-write_all-clause-err
 returns-in_err-write_all-clause-err g c =
@@ -23,13 +30,16 @@ returns-in_err-write_all-clause-err g c =
     let pieces = c.args.pieces.now in
     let rows = c.rows-item.result in
     let next = next_left pieces i rows (omega arith) c.rows-item.is in
-    let part = next_part (joined pieces) rows (joined (drop (i + 1) pieces)) inv.0 c.loop-rows.count (subst (λ (r : RowsOf). IsLeft (joined pieces) inv.0 c.loop-rows.count r) next inv.1) in
+    let part = next_part (joined pieces) rows (joined (drop (i + 1) pieces)) inv.0 inv.1 c.loop-rows.count (subst (λ (r : RowsOf). IsLeft (joined pieces) inv.0 inv.1 c.loop-rows.count r) next inv.2) in
     let failed = c.in_err-write_all.ensures.err in
     let text = c.deref.ensures.value ∙ ap (λ (r : RowsOf). r.text) c.rows.view_is in
     let fails = subst (λ (l : List ℕ). FailsWithin contents c.loop-rows.writer c.write_all.new.writer l) text failed.1 in
-    let all = wrote_part contents c.args.writer.now c.loop-rows.writer c.write_all.new.writer inv.0 rows.text part.0 inv.2 fails in
+    let all = wrote_part contents c.args.writer.now c.loop-rows.writer c.write_all.new.writer inv.0 rows.text part.0 inv.3 fails in
     let p = err_from_is_err_and c.from_residual.result c.from_residual.ensures.1 in
-    rw (p.1, p.2, failed.0) (subst (λ (l : List ℕ). FailsWithin contents c.args.writer.now c.write_all.new.writer l) (sym part.1) all)
+    rw (p.1, p.2, failed.0) (
+      subst (λ (l : List ℕ). FailsWithin contents c.args.writer.now c.write_all.new.writer l) (sym part.1) all,
+      record { part = inv.1; more = (joined (drop i pieces)).faults; parts = inv.2.faults; noted = inv.4 },
+    )
 
 pub returns-in_err-flush-clause-err : goal.returns-in_err-flush-clause-err
 returns-in_err-flush-clause-err g c =
@@ -40,15 +50,22 @@ returns-in_err-flush-clause-err g c =
     let rows = c.rows-item.result in
     let next = next_left pieces i rows (omega arith) c.rows-item.is in
     let some = ap (λ (r : RowsOf). r.fault) (sym c.rows.view_is) ∙ c.in-Some.is in
-    let left = fault_next (joined pieces) rows (joined (drop (i + 1) pieces)) inv.0 c.loop-rows.count c.in-Some.kind some (joined (drop i pieces)) next inv.1 in
+    let left = fault_next (joined pieces) rows (joined (drop (i + 1) pieces)) inv.0 inv.1 c.loop-rows.count c.in-Some.kind some (joined (drop i pieces)) next inv.2 in
     let text = c.deref.ensures.value ∙ ap (λ (r : RowsOf). r.text) c.rows.view_is in
     let wrote = subst (λ (l : List ℕ). Wrote contents c.loop-rows.writer c.write_all.new.writer l) text c.in_ok-write_all.ensures.ok in
-    let both = wrote_both contents c.args.writer.now c.loop-rows.writer c.write_all.new.writer inv.0 rows.text inv.2 wrote in
+    let both = wrote_both contents c.args.writer.now c.loop-rows.writer c.write_all.new.writer inv.0 rows.text inv.3 wrote in
     let failed = c.in_err-flush.ensures.err in
     let all = wrote_part contents c.args.writer.now c.write_all.new.writer c.flush.new.writer (inv.0 ++ rows.text) [] [] both failed.1 in
     let whole : ((inv.0 ++ rows.text) ++ []) ++ [] ≡ (joined pieces).text = append-nil ((inv.0 ++ rows.text) ++ []) ∙ append-nil (inv.0 ++ rows.text) ∙ sym left.text in
     let p = err_from_is_err_and c.from_residual-in_err-flush.result c.from_residual-in_err-flush.ensures.1 in
-    rw (p.1, p.2, failed.0) (subst (λ (l : List ℕ). FailsWithin contents c.args.writer.now c.flush.new.writer l) whole all)
+    let faults = c.deref-in-loop-rows.ensures.value ∙ ap (λ (r : RowsOf). r.faults) c.rows.view_is in
+    let log = g.L.FaultLog.noted c.args.log.now in
+    let now = g.L.FaultLog.noted c.note_all.new.log in
+    let noted = notes_more log (g.L.FaultLog.noted c.loop-rows.log) now inv.1 rows.faults inv.4 (subst (λ (l : List RowFault). Notes (g.L.FaultLog.noted c.loop-rows.log) now l) faults c.note_all.ensures) in
+    rw (p.1, p.2, failed.0) (
+      subst (λ (l : List ℕ). FailsWithin contents c.args.writer.now c.flush.new.writer l) whole all,
+      subst (λ (l : List RowFault). NotesPart log now l) (sym left.faults) (part_all log now (inv.1 ++ rows.faults) noted),
+    )
 
 pub loop-rows-preserved : goal.loop-rows-preserved
 loop-rows-preserved g c =
@@ -59,11 +76,15 @@ loop-rows-preserved g c =
     let rows = c.rows-item.result in
     let next = next_left pieces i rows (omega arith) c.rows-item.is in
     let none = ap (λ (r : RowsOf). r.fault) (sym c.rows.view_is) ∙ none_of c.rows.inside.fault (λ kind e. search rules) in
-    let left = piece_done (joined pieces) rows (joined (drop (i + 1) pieces)) inv.0 c.loop-rows.count none (subst (λ (r : RowsOf). IsLeft (joined pieces) inv.0 c.loop-rows.count r) next inv.1) in
+    let left = piece_done (joined pieces) rows (joined (drop (i + 1) pieces)) inv.0 inv.1 c.loop-rows.count none (subst (λ (r : RowsOf). IsLeft (joined pieces) inv.0 inv.1 c.loop-rows.count r) next inv.2) in
     let text = c.deref.ensures.value ∙ ap (λ (r : RowsOf). r.text) c.rows.view_is in
     let wrote = subst (λ (l : List ℕ). Wrote contents c.loop-rows.writer c.write_all.new.writer l) text c.in_ok-write_all.ensures.ok in
     let count = ap (λ (r : RowsOf). r.count) c.rows.view_is in
-    (inv.0 ++ rows.text, rw count left, wrote_both contents c.args.writer.now c.loop-rows.writer c.write_all.new.writer inv.0 rows.text inv.2 wrote)
+    let faults = c.deref-in-loop-rows.ensures.value ∙ ap (λ (r : RowsOf). r.faults) c.rows.view_is in
+    let log = g.L.FaultLog.noted c.args.log.now in
+    let now = g.L.FaultLog.noted c.note_all.new.log in
+    let noted = notes_more log (g.L.FaultLog.noted c.loop-rows.log) now inv.1 rows.faults inv.4 (subst (λ (l : List RowFault). Notes (g.L.FaultLog.noted c.loop-rows.log) now l) faults c.note_all.ensures) in
+    (inv.0 ++ rows.text, inv.1 ++ rows.faults, rw count left, wrote_both contents c.args.writer.now c.loop-rows.writer c.write_all.new.writer inv.0 rows.text inv.3 wrote, noted)
 
 pub returns-clause-err : goal.returns-clause-err
 returns-clause-err c = search rules

@@ -1,7 +1,12 @@
-use Rattle.std.proofs.Common.{◌≡◌}
+use Rattle.std.proofs.Common.{◌≡◌, None, map}
+use Rattle.zic_convert.specs.code.Row.{put_back}
 use Rattle.zic_convert.proofs.SoFar.{AreRowsSoFar}
 use Rattle.zic_convert.proofs.row.rows_by.Given as goal
 
-abbrev pub invariant-loop-record : goal.invariant-loop-record
-invariant-loop-record l =
-    (l.cache.files ≡ l.fn.order.files.now) × AreRowsSoFar l.fn.order.layout.now l.fn.order.files.now l.fn.order.most l.fn.order.first l.fn.records l.record-iterator l.text.items l.count
+abbrev pub invariant-loop-entry : goal.invariant-loop-entry
+invariant-loop-entry l = record {
+  files : l.cache.files ≡ l.fn.order.files.now;
+  none : l.rows.fault ≡ None;
+  far : AreRowsSoFar l.fn.order.layout.now l.fn.order.files.now l.fn.order.most l.fn.order.first (map (put_back l.fn.order.layout.now.delimiter) l.fn.entries)
+      (map (put_back l.fn.order.layout.now.delimiter) l.entry-iterator) l.rows.text l.rows.count l.rows.faults;
+}

@@ -1,10 +1,7 @@
 use Rattle.std.proofs.Common.{◌≡◌}
-use Rattle.zic_plan.specs.Layout.{HasPlainRows}
-use Rattle.zic_plan.specs.declared.layout.Layout.{Layout}
-use Rattle.zic_convert.proofs.SoFar.{AreRowsSoFar}
+use Rattle.zic_convert.proofs.SoFar.{AreAllPlainSoFar}
 use Rattle.zic_convert.proofs.row.rows_of.Given as goal
 
 abbrev pub invariant-loop-record : goal.invariant-loop-record
 invariant-loop-record l =
-    (l.cache.files ≡ l.files)
-    × ((layout : Layout) → HasPlainRows layout → AreRowsSoFar layout l.files l.most l.first l.fn.records l.record-iterator l.text.items l.count)
+    (l.cache.files ≡ l.files) × AreAllPlainSoFar l.files l.most l.first l.fn.records l.record-iterator l.text.items l.count

@@ -2,7 +2,7 @@ use Rattle.std.proofs.Common.{◌∙◌, ℕ, List, [], Option, ap, sym}
 use Rattle.std.specs.Option.{unwrap_or}
 use Rattle.std.proofs.lemmas.Option.{unwrap_or-slice_get}
 use Rattle.zic_columns.specs.Wide.{wide_fields}
-use Rattle.zic_convert.proofs.zone_cache.counted.field_or_none.Goals as goal
+use Rattle.zic_convert.proofs.query.field_or_none.Goals as goal
 
 pub returns-in-None : goal.returns-in-None
 returns-in-None c =
