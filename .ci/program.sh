@@ -656,7 +656,48 @@ expect_rows 2 '' 'unknown zone UTC' '0\n' --zone UTC --header
 expect_rows 1 "$utc" 'row 2: TooManyRows' '0\n0\n' --zone Etc/UTC --max-rows 1
 expect_rows 1 '' 'column: ColumnTooLong' '0\n' --zone Etc/UTC --max-bytes 1
 expect 1 '' 'line 1: Keyword' convert --zone Etc/UTC faulty
+# Records as they stand, with local time after them.
+local=1970-01-01T00:00:00,+00:00:00,0,UTC
+expect_rows 0 "Etc/UTC,-0,$local"$'\n'"\"Etc/UTC\",\"007\",,1970-01-01T00:00:07,${local#*,}" '' \
+    '\xef\xbb\xbfEtc/UTC,-0\r\n\r\n"Etc/UTC","007",' --append
+expect_rows 0 $'id,"a\r\n""b",zone,time,local,offset,daylight,abbreviation\n7,"x\ny",Etc/UTC,0,'"$local" '' \
+    'id,"a\r\n""b",zone,time\r\n7,"x\ny",Etc/UTC,0\r' --append --header --zone-field 3 --time-field 4
+expect_rows 0 'time|local|offset|daylight|abbreviation'$'\n'"a,b|0|${local//,/|}" '' 'time\na,b|0\n' \
+    --append --header --delimiter '|' --zone Etc/UTC --time-field 2
+expect_rows 0 '' '' '\n\n' --append --header
+expect_rows 1 "Etc/UTC,0,x,$local" 'row 2: RowFields' 'Etc/UTC,0,x\nEtc/UTC\n' --append
+# Rows with faults, after which the run goes on.
+expect_rows 1 "$utc"$'\nEtc/UTC,x,,,,\n"a,b",0,,,,\nEtc/UTC\nEtc/UTC,0,1\n"q""r",9999999999999,,,,' $'row 2: RowInstant\n5 rows with faults' \
+    'Etc/UTC,0\n"Etc/UTC","x"\n"a,b",0\nEtc/UTC\nEtc/UTC,0,1\n"q""r",9999999999999\n' --keep-going
+expect_rows 1 'Etc/UTC,x,,,,'$'\n'"$utc" $'row 1: RowInstant\n1 rows with faults' 'x,Etc/UTC,1\n0,Etc/UTC,2\n' \
+    --keep-going --zone-field 2 --time-field 1
+expect_rows 1 '"No|Where"|1,5||||' $'row 1: RowZone\n1 rows with faults' '"No|Where"|1,5\n' --keep-going --delimiter '|'
+expect_rows 1 'Etc/UTC,x,,,,'$'\n'"$utc" $'row 1: RowInstant\n1 rows with faults' 'x\n0\n' --keep-going --zone Etc/UTC
+expect_rows 1 "id,time,local,offset,daylight,abbreviation"$'\n""",x"\n7,x,,,,\n8,0,'"$local" $'row 1: RowFields\n2 rows with faults' \
+    'id,time\n""",x"\n7,x\n8,0\n' --keep-going --append --header --zone Etc/UTC --time-field 2 --faults ../faults
+[ "$(cat ../faults)" = $'1,RowFields\n2,RowInstant' ] || differ "--faults wrote '$(cat ../faults)'"
+expect_rows 0 "$utc" '' 'Etc/UTC,0\n' --keep-going --faults ../faults
+[ ! -s ../faults ] || differ "--faults wrote '$(cat ../faults)' of rows without faults"
+expect_rows 1 'x,,,,,' 'row 2: TooManyRows' 'x,\nEtc/UTC,0\n' --keep-going --max-rows 1
+expect_rows 3 '' 'cannot write none/faults' 'Etc/UTC,0\n' --keep-going --faults none/faults
+expect_rows 3 'x,0,,,,' 'cannot write /dev/full' 'x,0\n' --keep-going --faults /dev/full
+# Faults in the first, a middle and the last piece of a round, and by any number of threads.
+awk 'NR == 1 || NR == 2500 || NR == 5000 { print "No/Where,0"; next } { print }' column.plain >column.faults
+awk 'NR == 1 || NR == 2500 || NR == 5000 { print "No/Where,0,,,,"; next } { print }' rows.plain >../rows.faults
+for workers in 1 4 64; do
+    for piece in 1 7 1024; do
+        input=column.faults
+        ask convert --keep-going --faults ../faults --workers $workers --row-piece $piece eastern
+        cmp ../out ../rows.faults >&2 || differ 'the rows differ where the run goes on'
+        [ "$(cat ../faults)" = $'1,RowZone\n2500,RowZone\n5000,RowZone' ] || differ "--faults wrote '$(cat ../faults)'"
+        : >../out
+        told "pzic convert --keep-going --workers $workers --row-piece $piece eastern" 1 '' $'row 1: RowZone\n3 rows with faults'
+    done
+done
 # Words that describe no column.
+expect_usage convert --faults file plain
+expect_usage convert --append=1 plain
+expect_usage check --append plain
 expect_usage convert --zone Etc/UTC --zone-field 1 plain
 for field in 0 65537 -1 x; do
     expect_usage convert --zone-field $field plain
@@ -666,7 +707,7 @@ expect_usage convert --zone-field 2 plain
 expect_usage convert --time-field 1 plain
 for delimiter in '' ',,' Tab é '"' $'\n' $'\r' a 0 + - . / : _; do expect_usage convert --delimiter "$delimiter" plain; done
 for unit in '' m S sec; do expect_usage convert --unit "$unit" plain; done
-for option in zone zone-field time-field delimiter unit; do
+for option in zone zone-field time-field delimiter unit faults; do
     expect_usage convert --$option
     expect_usage convert --$option 3 --$option 3 plain
     expect_usage check --$option 3 plain

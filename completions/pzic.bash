@@ -12,7 +12,7 @@ _pzic() {
     case ${COMP_WORDS[1]} in
     check) options='--workers --zone-piece --explain --help' ;;
     build) options='--links --workers --zone-piece --explain --help' ;;
-    convert) options='--workers --zone-piece --row-piece --max-rows --max-bytes --header --zone --zone-field --time-field --delimiter --unit --progress --explain --help' ;;
+    convert) options='--workers --zone-piece --row-piece --max-rows --max-bytes --header --zone --zone-field --time-field --delimiter --unit --append --keep-going --faults --progress --explain --help' ;;
     show) options='--explain --help' ;;
     dump) options='--from --to --explain --help' ;;
     explain)

@@ -47,14 +47,7 @@ pub enum Request {
         links: Links,
     },
     /// Compile a source, and convert a column by its files.
-    Convert {
-        source: String,
-        plan: Plan,
-        /// How the column is read, and what its rows are.
-        layout: Layout,
-        /// Whether it tells the number of rows so far.
-        progress: bool,
-    },
+    Convert(Conversion),
     /// Tell what a file says of an instant.
     Show {
         file: String,
@@ -73,6 +66,19 @@ pub enum Request {
     Version {
         text: String,
     },
+}
+
+/// What a column is converted by, and what is told of its rows.
+#[derive(Debug, Drop)]
+pub struct Conversion {
+    pub source: String,
+    pub plan: Plan,
+    /// How the column is read, and what its rows are.
+    pub layout: Layout,
+    /// The path of the file for the faults of rows, if there is one.
+    pub faults: Option<String>,
+    /// Whether the number of rows so far is told.
+    pub progress: bool,
 }
 
 /// Returns what the words of the process ask for.
@@ -187,12 +193,14 @@ fn convert(alloc: Global, matches: &ArgMatches<'_>) -> Result<Request, NoRequest
         return Err(usage(alloc, "standard input is the column, so SOURCE can't be -"));
     }
     let plan = column_plan(alloc, matches)?;
-    Ok(Request::Convert {
+    let layout = layout(alloc, matches)?;
+    Ok(Request::Convert(Conversion {
         source,
         plan,
-        layout: layout(alloc, matches)?,
+        layout,
+        faults: optional(alloc, matches, "faults")?,
         progress: matches.get_flag("progress"),
-    })
+    }))
 }
 
 fn show(alloc: Global, matches: &ArgMatches<'_>) -> Result<Request, NoRequest> {
@@ -265,6 +273,18 @@ fn word(alloc: Global, matches: &ArgMatches<'_>, id: &str) -> Result<String, NoR
     match matches.get_str(id) {
         Some(word) => Ok(String::from_str(alloc, word)?),
         None => Err(usage(alloc, "a word is missing")),
+    }
+}
+
+/// Returns the word of an option, if it is given.
+fn optional(
+    alloc: Global,
+    matches: &ArgMatches<'_>,
+    id: &str,
+) -> Result<Option<String>, NoRequest> {
+    match matches.get_str(id) {
+        Some(word) => Ok(Some(String::from_str(alloc, word)?)),
+        None => Ok(None),
     }
 }
 

@@ -7,7 +7,7 @@ use zic_dump::{FIRST_YEAR, LAST_YEAR};
 use zic_plan::{MAX_BYTES, MAX_OF_PIECE, MAX_ROWS, MAX_WORKERS};
 
 /// The version of the program, and the kit that it is proved with.
-const VERSION: &str = "0.1.0\nproved with rattle-kit-13f logic dac8208d650f15bf";
+const VERSION: &str = "0.1.0\nproved with rattle-kit-13b logic dac8208d650f15bf";
 
 /// The words for what the names of Link lines are made as.
 const LINK_WORDS: [&str; 3] = ["copy", "hard", "symlink"];
@@ -36,6 +36,8 @@ enum Form {
     Zone,
     /// An option that is the number of a field, from 1.
     Field,
+    /// An option that is the path of a file.
+    Path,
     /// An option that says what stands between fields, a comma by default.
     Delimiter,
     /// An option that is one of `UNIT_WORDS`, the first by default.
@@ -136,7 +138,7 @@ static BUILD: [Word; 6] = [
     EXPLAIN,
 ];
 
-static CONVERT: [Word; 14] = [
+static CONVERT: [Word; 17] = [
     SOURCE,
     WORKERS,
     ZONE_PIECE,
@@ -199,6 +201,21 @@ static CONVERT: [Word; 14] = [
         name: "unit",
         help: "What instants count: s, ms, us or ns",
         form: Form::Unit,
+    },
+    Word {
+        name: "append",
+        help: "Writes local time after each record as it stands",
+        form: Form::Flag,
+    },
+    Word {
+        name: "keep-going",
+        help: "Goes on after rows with faults, and counts them",
+        form: Form::Flag,
+    },
+    Word {
+        name: "faults",
+        help: "Where --keep-going writes each fault as ROW,ERROR",
+        form: Form::Path,
     },
     Word {
         name: "progress",
@@ -360,6 +377,7 @@ fn option<'a>(argument: Arg<'a>, form: &'a Form) -> Arg<'a> {
         Form::Links => choice(argument.value_name("KIND"), &LINK_WORDS).default_value("copy"),
         Form::Unit => choice(argument.value_name("UNIT"), &UNIT_WORDS).default_value("s"),
         Form::Zone => argument.value_name("NAME"),
+        Form::Path => argument.value_name("FILE"),
         Form::Delimiter => argument.value_name("C").default_value(","),
         Form::Field => argument
             .value_name("N")

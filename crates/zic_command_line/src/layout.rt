@@ -4,7 +4,7 @@ use crate::command_line::usage;
 use crate::no_request::NoRequest;
 use clap::ArgMatches;
 use std::alloc::Global;
-use zic_plan::{Delimiter, FieldCount, Header, Layout, Unit, ZoneFrom};
+use zic_plan::{AtFault, Delimiter, FieldCount, Header, Layout, RowStart, Unit, ZoneFrom};
 
 /// Returns how a column is read.
 ///
@@ -38,7 +38,10 @@ pub(crate) fn layout(alloc: Global, matches: &ArgMatches<'_>) -> Result<Layout, 
         }
     };
     let time = index(time);
-    let count = field_count(&zone, time, zone_field.is_some() || time_field.is_some());
+    let start = row_start(matches);
+    let at_fault = at_fault(alloc, matches)?;
+    let may_have_more = zone_field.is_some() || time_field.is_some() || start == RowStart::Record;
+    let count = field_count(&zone, time, may_have_more);
     Ok(Layout {
         zone,
         time,
@@ -46,6 +49,8 @@ pub(crate) fn layout(alloc: Global, matches: &ArgMatches<'_>) -> Result<Layout, 
         unit,
         delimiter,
         header,
+        start,
+        at_fault,
     })
 }
 
@@ -54,15 +59,34 @@ fn index(number: u64) -> usize {
     number.saturating_sub(1) as usize
 }
 
-/// Returns how many fields a record has: those that are read, or where fields are named, at least
-/// up to the last of these.
-fn field_count(zone: &ZoneFrom, time: usize, is_named: bool) -> FieldCount {
+/// Returns what a row begins with.
+fn row_start(matches: &ArgMatches<'_>) -> RowStart {
+    if matches.get_flag("append") {
+        RowStart::Record
+    } else {
+        RowStart::Fields
+    }
+}
+
+/// Returns what a row with a fault does.
+fn at_fault(alloc: Global, matches: &ArgMatches<'_>) -> Result<AtFault, NoRequest> {
+    if matches.get_flag("keep-going") {
+        Ok(AtFault::GoOn)
+    } else if matches.get_str("faults").is_some() {
+        Err(usage(alloc, "--faults has no meaning without --keep-going"))
+    } else {
+        Ok(AtFault::End)
+    }
+}
+
+/// Returns how many fields a record has: those that are read, or at least up to the last of these.
+fn field_count(zone: &ZoneFrom, time: usize, may_have_more: bool) -> FieldCount {
     let last = match zone {
         ZoneFrom::Field(index) => time.max(*index),
         ZoneFrom::Name(_) => time,
     };
     let count = last.saturating_add(1);
-    if is_named {
+    if may_have_more {
         FieldCount::AtLeast(count)
     } else {
         FieldCount::Exactly(count)

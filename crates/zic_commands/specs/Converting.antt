@@ -88,7 +88,7 @@ pub record ConvertsBody {R W : Type 0} (texts : List (List ℕ)) (plan : Limits)
   pub files : List File
   pub are_files : AreFilesOfTexts texts files
   pub writes : WritesBelowHeader (λ begun held'. IfSome run.column
-      (λ column. WritesAllOf (ConvertsBodyTo files plan.max_rows column) n begun held'))
+      (λ column. WritesAllOf [] (ConvertsBodyTo files plan.max_rows column) n begun held'))
       run.held run.held'
 
 -- the texts have files, nothing is read of the column, and a beginning of the header line is
@@ -114,7 +114,7 @@ pub record IsFailureOfBody {R W : Type 0} (texts : List (List ℕ)) (plan : Limi
   pub is : failure ≡ run_failure stop (length texts)
   pub cause : IsCauseOf plan.max_bytes run.reader run.reader' run.writer run.writer' stop
   pub writes : WritesBelowHeader (λ begun held'. IfSome run.column
-      (λ column. WritesAtOf (ConvertsBodyTo files plan.max_rows column) stop begun held'))
+      (λ column. WritesAtOf [] (ConvertsBodyTo files plan.max_rows column) stop begun held'))
       run.held run.held'
 
 -- why texts don't convert a column that has a header

@@ -22,7 +22,7 @@ use zic_counted::{Counted, WriteFailed, write_all};
 use zic_files::Files;
 use zic_io::{Failure, run_failure, unknown_zone};
 use zic_pieces::Open;
-use zic_plan::{Header, Layout, ZoneFrom};
+use zic_plan::{FaultLog, Header, Layout, RowStart, ZoneFrom};
 
 /// The line before the rows of a column that has a header.
 const HEADER: &[u8; 48] = b"zone,instant,local,offset,daylight,abbreviation\n";
@@ -101,39 +101,59 @@ fn write_header<W: Write>(writer: &mut Counted<W>) -> Result<(), Failure>
     }
 }
 
+/// What a column is converted by: the texts of a source, how work is shared and how long the column
+/// may be, and what the column has.
+#[derive(Clone, Copy, Drop)]
+pub struct ColumnJob<'a> {
+    pub texts: &'a [Vec<u8>],
+    pub plan: &'a Plan,
+    pub layout: &'a Layout,
+}
+
 /// Compiles the texts, and converts a column by a layout as [`convert`] does one of two plain fields.
-/// Where the layout has a header, it first writes the line
+/// Where the layout has a header, and rows begin with names, it first writes the line
 /// `zone,instant,local,offset,daylight,abbreviation`, with the layout's delimiter, also for a column
-/// without records. Returns the number of rows, without the header.
+/// without records. The log takes note of the faults of rows after which the run goes on. Returns the
+/// number of rows, without the header.
 ///
 /// # Errors
 ///
 /// As [`convert`]. Before the column is read: `UnknownZone` where all rows are to be in a zone that
-/// the texts don't have, and where the header line can't be written. Rows count from 1 after the
+/// the texts don't have, and where that header line can't be written. Rows count from 1 after the
 /// header, and its bytes count for the plan's limit.
-pub fn convert_by<T: Threads + Wait + Sync, R: Read, W: Write>(
+pub fn convert_by<T: Threads + Wait + Sync, R: Read, W: Write, L: FaultLog>(
     rt: &T,
     alloc: Global,
-    order: &ColumnOrder<'_>,
-    texts: &[Vec<u8>],
+    job: &ColumnJob<'_>,
     reader: &mut Counted<R>,
     writer: &mut Counted<W>,
+    log: &mut L,
 ) -> Result<u64, Failure>
-    ensures ok { IfOk result (λ rows. ConvertsColumn (texts_of texts.now) order.now rows
-        (conversion R.remaining W.contents reader.old reader.new writer.old writer.new)) }
+    ensures ok { IfOk result (λ rows.
+        ConvertsColumn (texts_of job.now.texts.now) job.now.plan.now job.now.layout.now rows
+        (conversion R.remaining W.contents reader.old reader.new writer.old writer.new)
+        (record { before = L.noted log.old; after = L.noted log.new })) }
     ensures within { IfOk result
-        (λ _. reader.new.taken ≤ reader.old.taken + order.now.plan.now.max_bytes) }
+        (λ _. reader.new.taken ≤ reader.old.taken + job.now.plan.now.max_bytes) }
     ensures unfailed { IfOk result (λ _. HasFailedSince reader.new reader.old.failures → ⊥) }
     ensures flushed { IfOk result (λ _. writer.new.failures ≡ writer.old.failures) }
-    ensures err { IfErr result (IsFailureOfConvertBy (texts_of texts.now) order.now
-        (conversion R.remaining W.contents reader.old reader.new writer.old writer.new)) }
+    ensures err { IfErr result
+        (IsFailureOfConvertBy (texts_of job.now.texts.now) job.now.plan.now job.now.layout.now
+        (conversion R.remaining W.contents reader.old reader.new writer.old writer.new)
+        (record { before = L.noted log.old; after = L.noted log.new })) }
 {
-    let files = files_of(rt, alloc, order.plan, texts)?;
-    find_zone(alloc, &files, &order.layout.zone)?;
-    write_header_by(order.layout, writer)?;
-    match zic_convert::convert_by(rt, alloc, &files, reader, writer, order) {
+    let (plan, layout) = (job.plan, job.layout);
+    let files = files_of(rt, alloc, plan, job.texts)?;
+    find_zone(alloc, &files, &layout.zone)?;
+    write_header_by(layout, writer)?;
+    let order = ColumnOrder {
+        files: &files,
+        plan,
+        layout,
+    };
+    match zic_convert::convert_by(rt, alloc, reader, writer, &order, log) {
         Ok(rows) => Ok(rows),
-        Err(stop) => Err(run_failure(stop, texts.len())),
+        Err(stop) => Err(run_failure(stop, job.texts.len())),
     }
 }
 
@@ -155,17 +175,18 @@ fn find_zone(alloc: Global, files: &Files, zone: &ZoneFrom) -> Result<(), Failur
     }
 }
 
-/// Returns the line where there is a header, and no bytes where there is none.
-fn line_of(header: Header, line: &[u8]) -> &[u8]
-    ensures { result.now ≡ line_of header line.now }
+/// Returns the line where there is a header and rows begin with names, and else no bytes.
+fn line_of(start: RowStart, header: Header, line: &[u8]) -> &[u8]
+    ensures { result.now ≡ line_of start header line.now }
 {
-    match header {
-        Header::Absent => &[],
-        Header::First => line,
+    match (start, header) {
+        (RowStart::Fields, Header::First) => line,
+        _ => &[],
     }
 }
 
-/// Writes the header line by a layout, if it has a header, and doesn't flush.
+/// Writes the header line by a layout, if it has a header and rows begin with names, and doesn't
+/// flush.
 fn write_header_by<W: Write>(layout: &Layout, writer: &mut Counted<W>) -> Result<(), Failure>
     ensures ok { OnOk result (Writes W.contents writer.old writer.new (header_by layout.now)) }
     ensures failure { IfErr result (λ failure. failure ≡ CannotWriteRows) }
@@ -174,7 +195,7 @@ fn write_header_by<W: Write>(layout: &Layout, writer: &mut Counted<W>) -> Result
 {
     let mut header = *HEADER;
     exchange(&mut header, layout.delimiter.byte());
-    match write_all(writer, line_of(layout.header, &header)) {
+    match write_all(writer, line_of(layout.start, layout.header, &header)) {
         Ok(()) => Ok(()),
         Err(WriteFailed) => Err(Failure::CannotWriteRows),
     }

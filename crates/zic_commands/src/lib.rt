@@ -16,10 +16,9 @@ mod show_command;
 pub use build_command::build;
 pub use build_linked_command::build_linked;
 pub use check_command::check;
-pub use convert_command::{convert, convert_by, convert_with_header};
+pub use convert_command::{ColumnJob, convert, convert_by, convert_with_header};
 pub use dump_command::dump;
 pub use show_command::show;
-pub use zic_convert::ColumnOrder;
 pub use zic_io::{
     Disk, Failure, LinkKind, LinkedFolder, MAX_SOURCE, Progress, Told, Tree, Unplaced, read_file,
     read_file_bytes, read_source_text, read_sources,

@@ -13,6 +13,8 @@ failure_text (failures.TextLine text line kind) =
     codes "text " ++ decimal text ++ codes " line " ++ decimal line ++ codes ": " ++ kind_word kind
 failure_text (failures.Row row kind) =
     codes "row " ++ decimal row ++ codes ": " ++ row_kind_word kind
+failure_text (failures.Rows row kind count) =
+    codes "row " ++ (decimal row ++ (codes ": " ++ (row_kind_word kind ++ (codes "\n" ++ (decimal count ++ codes " rows with faults")))))
 failure_text failures.ColumnTooLong = codes "column: ColumnTooLong"
 failure_text (failures.File reason) = codes "file: " ++ reason_word reason
 failure_text (failures.CannotRead path) = codes "cannot read " ++ string_bytes path
@@ -31,6 +33,7 @@ abbrev pub status_of : Failure → ℕ
 status_of (failures.Line line kind) = 1
 status_of (failures.TextLine text line kind) = 1
 status_of (failures.Row row kind) = 1
+status_of (failures.Rows row kind count) = 1
 status_of failures.ColumnTooLong = 1
 status_of (failures.File reason) = 1
 status_of (failures.CannotRead path) = 3

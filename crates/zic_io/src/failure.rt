@@ -22,6 +22,9 @@ pub enum Failure {
     TextLine { text: u64, line: u64, kind: Kind },
     /// The first row with a fault: `row N: NAME`.
     Row { row: u64, kind: RowKind },
+    /// Some rows have faults: the first of them, and how many: `row N: NAME`, and on a second line
+    /// `COUNT rows with faults`.
+    Rows { row: u64, kind: RowKind, count: u64 },
     /// A column has more bytes than it may: `column: ColumnTooLong`.
     ColumnTooLong,
     /// The first check that a file fails: `file: REASON`.
@@ -52,7 +55,8 @@ impl Failure {
         ensures { result ≡ status_of self.now }
     {
         match self {
-            Failure::Line { .. } | Failure::TextLine { .. } | Failure::Row { .. } => 1,
+            Failure::Line { .. } | Failure::TextLine { .. } => 1,
+            Failure::Row { .. } | Failure::Rows { .. } => 1,
             Failure::ColumnTooLong | Failure::File(_) => 1,
             Failure::UnknownZone(_) => 2,
             Failure::CannotRead(_) | Failure::CannotReadColumn => 3,
@@ -75,6 +79,11 @@ impl fmt::Display for Failure {
                 write!(f, "text {text} line {line}: {}", kind_name(*kind))
             }
             Failure::Row { row, kind } => write!(f, "row {row}: {}", row_kind_name(*kind)),
+            Failure::Rows { row, kind, count } => write!(
+                f,
+                "row {row}: {}\n{count} rows with faults",
+                row_kind_name(*kind)
+            ),
             Failure::ColumnTooLong => write!(f, "column: ColumnTooLong"),
             Failure::File(reason) => write!(f, "file: {}", reason_name(*reason)),
             Failure::CannotRead(path) => write!(f, "cannot read {path}"),

@@ -4,6 +4,7 @@
 #![tactic(auto)]
 
 mod failure;
+mod fault_list;
 mod input;
 mod link_kind;
 mod output;
@@ -12,6 +13,7 @@ mod sources;
 mod tree;
 
 pub use failure::{Failure, run_failure, unknown_zone};
+pub use fault_list::FaultList;
 pub use input::{MAX_SOURCE, read_file_bytes, read_source_text};
 pub use link_kind::{LinkKind, LinkedFolder};
 pub use output::write_output;

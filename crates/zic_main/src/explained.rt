@@ -77,7 +77,9 @@ impl Kept {
                 line_place(alloc, *kind, self.word(text), self.text(text), *line)
             }
             Failure::File(_) => format!(in alloc; "--> {path}\n"),
-            Failure::Row { row, kind } => self.row_place(rt, *kind, *row),
+            Failure::Row { row, kind } | Failure::Rows { row, kind, .. } => {
+                self.row_place(rt, *kind, *row)
+            }
             _ => Ok(String::new(alloc)),
         }
     }
@@ -129,7 +131,7 @@ impl Kept {
 /// Returns the number of records of the column that are no rows.
 fn records_before(request: &Request) -> u64 {
     match request {
-        Request::Convert { layout, .. } if layout.header == Header::First => 1,
+        Request::Convert(order) if order.layout.header == Header::First => 1,
         _ => 0,
     }
 }
@@ -137,7 +139,7 @@ fn records_before(request: &Request) -> u64 {
 /// Returns whether the records of the column are plain ones.
 fn has_plain_rows(request: &Request) -> bool {
     match request {
-        Request::Convert { layout, .. } => layout.has_plain_rows(),
+        Request::Convert(order) => order.layout.has_plain_rows(),
         _ => true,
     }
 }
@@ -146,9 +148,8 @@ fn has_plain_rows(request: &Request) -> bool {
 fn words_of(alloc: Global, request: &Request) -> Result<Vec<String>, AllocError> {
     let mut words = Vec::new(alloc);
     match request {
-        Request::Check { source, .. } | Request::Convert { source, .. } => {
-            words.push(source.clone()?)?
-        }
+        Request::Check { source, .. } => words.push(source.clone()?)?,
+        Request::Convert(order) => words.push(order.source.clone()?)?,
         Request::Build { sources, .. } => {
             for source in sources {
                 words.push(source.clone()?)?;
@@ -164,7 +165,7 @@ fn words_of(alloc: Global, request: &Request) -> Result<Vec<String>, AllocError>
 fn name_of(failure: &Failure) -> &'static str {
     match failure {
         Failure::Line { kind, .. } | Failure::TextLine { kind, .. } => kind_name(*kind),
-        Failure::Row { kind, .. } => row_kind_name(*kind),
+        Failure::Row { kind, .. } | Failure::Rows { kind, .. } => row_kind_name(*kind),
         Failure::ColumnTooLong => "ColumnTooLong",
         Failure::File(reason) => reason_name(*reason),
         Failure::CannotRead(_) => "cannot read PATH",

@@ -9,18 +9,20 @@ mod failure;
 
 use explained::Kept;
 use failure::Refusal;
-use std::fs::Files;
-use std::io::{self, IsTerminal, Read, Write};
+use std::fs::{File, Files};
+use std::io::{self, BufWriter, IsTerminal, Read, Write};
 use std::process::ExitCode;
 use std::random::RandomSource;
 use std::rt::Env;
 use std::sync::Wait;
 use std::thread::Threads;
 use std::time::Clock;
-use zic_command_line::{Links, Request};
-use zic_commands::{ColumnOrder, Disk, Failure, LinkKind, LinkedFolder, Progress, Told};
+use zic_command_line::{Conversion, Links, Request};
+use zic_commands::{ColumnJob, Disk, Failure, LinkKind, LinkedFolder, Progress, Told};
 use zic_counted::{Counted, flush, write_all};
-use zic_plan::{Header, Plan};
+use zic_dump::Years;
+use zic_io::FaultList;
+use zic_plan::{FaultLog, Header, Plan};
 
 fn main(rt: HostRuntime) -> ExitCode {
     match run(&rt, rt.stderr()) {
@@ -55,60 +57,59 @@ fn answer<
     R: Files + Input + Print + Clock + RandomSource + AllocGlobal + Threads + Wait + Sync,
     E: Write + IsTerminal + Drop,
 >(rt: &R, errors: E, request: Request, texts: &mut Vec<Vec<u8>>) -> Result<(), Failure> {
-    let alloc = rt.alloc();
-    let mut input = Counted::new(rt.reader());
-    let mut output = Counted::new(io::writer(rt));
     match request {
-        Request::Check { source, plan } => {
-            *texts = sources(rt, &mut input, &[source])?;
-            zic_commands::check(rt, alloc, &plan, texts, &mut output)
-        }
+        Request::Check { source, plan } => check(rt, source, &plan, texts),
         Request::Build {
             folder,
-            sources: words,
+            sources,
             plan,
             links,
         } => {
-            *texts = sources(rt, &mut input, &words)?;
+            read(rt, &sources, texts)?;
             build(rt, &plan, texts, folder.as_str(), links)
         }
-        Request::Convert {
-            source,
-            plan,
-            layout,
-            progress,
-        } => {
-            *texts = sources(rt, &mut input, &[source])?;
-            let order = ColumnOrder {
-                plan: &plan,
-                layout: &layout,
-            };
-            convert(rt, &order, texts, &mut input, told(progress, errors))
-        }
-        Request::Show { file, instant } => {
-            let bytes = bytes_of(rt, file.as_str())?;
-            zic_commands::show(alloc, &bytes, instant, &mut output)
-        }
-        Request::Dump { file, years } => {
-            let bytes = bytes_of(rt, file.as_str())?;
-            zic_commands::dump(alloc, file.as_str(), &bytes, &years, &mut output)
-        }
-        Request::Explain { text } | Request::Version { text } => tell(text.as_str(), &mut output),
+        Request::Convert(order) => convert(rt, &order, errors, texts),
+        Request::Show { file, instant } => show(rt, file.as_str(), instant),
+        Request::Dump { file, years } => dump(rt, file.as_str(), &years),
+        Request::Explain { text } | Request::Version { text } => tell(rt, text.as_str()),
     }
 }
 
-/// Returns the texts of the sources that the words name.
-fn sources<R: Files + AllocGlobal, I: Read>(
+/// Reads the texts of the sources that the words name.
+fn read<R: Files + Input + AllocGlobal>(
     rt: &R,
-    input: &mut Counted<I>,
     words: &[String],
-) -> Result<Vec<Vec<u8>>, Failure> {
-    zic_commands::read_sources(rt.alloc(), rt, input, words)
+    texts: &mut Vec<Vec<u8>>,
+) -> Result<(), Failure> {
+    let mut input = Counted::new(rt.reader());
+    *texts = zic_commands::read_sources(rt.alloc(), rt, &mut input, words)?;
+    Ok(())
 }
 
-/// Returns the bytes of a file.
-fn bytes_of<R: Files + AllocGlobal>(rt: &R, file: &str) -> Result<Vec<u8>, Failure> {
-    zic_commands::read_file(rt.alloc(), rt, file)
+/// Compiles a source, and lists its files.
+fn check<R: Files + Input + Print + AllocGlobal + Threads + Wait + Sync>(
+    rt: &R,
+    source: String,
+    plan: &Plan,
+    texts: &mut Vec<Vec<u8>>,
+) -> Result<(), Failure> {
+    read(rt, &[source], texts)?;
+    let mut output = Counted::new(io::writer(rt));
+    zic_commands::check(rt, rt.alloc(), plan, texts, &mut output)
+}
+
+/// Tells what a file says of an instant.
+fn show<R: Files + Print + AllocGlobal>(rt: &R, file: &str, instant: i64) -> Result<(), Failure> {
+    let bytes = zic_commands::read_file(rt.alloc(), rt, file)?;
+    let mut output = Counted::new(io::writer(rt));
+    zic_commands::show(rt.alloc(), &bytes, instant, &mut output)
+}
+
+/// Lists the changes of a file.
+fn dump<R: Files + Print + AllocGlobal>(rt: &R, file: &str, years: &Years) -> Result<(), Failure> {
+    let bytes = zic_commands::read_file(rt.alloc(), rt, file)?;
+    let mut output = Counted::new(io::writer(rt));
+    zic_commands::dump(rt.alloc(), file, &bytes, years, &mut output)
 }
 
 /// Compiles the texts, and writes their files into a folder.
@@ -138,9 +139,10 @@ fn number_of_run<R: RandomSource>(rt: &R) -> u64 {
 }
 
 /// Writes a text.
-fn tell<W: Write>(text: &str, output: &mut Counted<W>) -> Result<(), Failure> {
-    write_all(output, text.as_bytes())?;
-    flush(output)?;
+fn tell<R: Print>(rt: &R, text: &str) -> Result<(), Failure> {
+    let mut output = Counted::new(io::writer(rt));
+    write_all(&mut output, text.as_bytes())?;
+    flush(&mut output)?;
     Ok(())
 }
 
@@ -155,39 +157,90 @@ fn told<E: IsTerminal + Drop>(progress: bool, errors: E) -> Told<E> {
     }
 }
 
-/// Converts the input by the files of the texts to standard output, and tells of the rows.
-fn convert<R: Print + Clock + AllocGlobal + Threads + Wait + Sync, I: Read, E: Write + Drop>(
-    rt: &R,
-    order: &ColumnOrder<'_>,
-    texts: &[Vec<u8>],
-    input: &mut Counted<I>,
-    told: Told<E>,
-) -> Result<(), Failure> {
-    let header = order.layout.header;
+/// Converts standard input by the files of a source to standard output, and tells of the rows.
+/// Where the run goes on after faults, it writes them to a file, if one is named.
+fn convert<
+    R: Files + Input + Print + Clock + AllocGlobal + Threads + Wait + Sync,
+    E: Write + IsTerminal + Drop,
+>(rt: &R, order: &Conversion, errors: E, texts: &mut Vec<Vec<u8>>) -> Result<(), Failure> {
+    read(rt, &[order.source.clone()?], texts)?;
+    let job = ColumnJob {
+        texts,
+        plan: &order.plan,
+        layout: &order.layout,
+    };
+    let told = told(order.progress, errors);
+    match &order.faults {
+        None => convert_rows(rt, &job, told, &mut FaultList::new(None::<R::File>)),
+        Some(path) => convert_noted(rt, &job, told, path),
+    }
+}
+
+/// Converts standard input, and writes the faults of rows to the file of this path.
+fn convert_noted<
+    R: Files + Input + Print + Clock + AllocGlobal + Threads + Wait + Sync,
+    E: Write + Drop,
+>(rt: &R, job: &ColumnJob<'_>, told: Told<E>, path: &String) -> Result<(), Failure> {
+    let Ok(file) = File::create(rt, path.as_str()) else {
+        return Err(Failure::CannotWrite(path.clone()?));
+    };
+    let Ok(file) = BufWriter::new(rt.alloc(), file) else {
+        return Err(Failure::Memory);
+    };
+    let mut list = FaultList::new(Some(file));
+    let converted = convert_rows(rt, job, told, &mut list);
+    let is_written = list.finish();
+    match converted {
+        Ok(()) | Err(Failure::Rows { .. }) if !is_written => {
+            Err(Failure::CannotWrite(path.clone()?))
+        }
+        ended => ended,
+    }
+}
+
+/// Returns the failure of a run that went on after faults, if there are any.
+fn faults_of<W: Write>(list: &FaultList<W>) -> Result<(), Failure> {
+    match list.first() {
+        None => Ok(()),
+        Some(first) => Err(Failure::Rows {
+            row: first.row,
+            kind: first.kind,
+            count: list.count(),
+        }),
+    }
+}
+
+/// Converts standard input to standard output, tells of the rows, and takes note of faults.
+fn convert_rows<
+    R: Input + Print + Clock + AllocGlobal + Threads + Wait + Sync,
+    E: Write + Drop,
+    W: Write,
+>(rt: &R, job: &ColumnJob<'_>, told: Told<E>, faults: &mut FaultList<W>) -> Result<(), Failure> {
+    let mut input = Counted::new(rt.reader());
+    let header = job.layout.header;
     let progress = Progress::new(io::writer(rt), rt, told, header == Header::First);
     let mut output = Counted::new(progress);
-    let converted = convert_column(rt, order, texts, input, &mut output);
+    let converted = convert_column(rt, job, &mut input, &mut output, faults);
     output.into_inner().finish();
     converted?;
-    Ok(())
+    faults_of(faults)
 }
 
 /// Converts a column by the files of the texts. Returns the number of rows.
-fn convert_column<R: AllocGlobal + Threads + Wait + Sync, I: Read, W: Write>(
+fn convert_column<R: AllocGlobal + Threads + Wait + Sync, I: Read, W: Write, L: FaultLog>(
     rt: &R,
-    order: &ColumnOrder<'_>,
-    texts: &[Vec<u8>],
+    job: &ColumnJob<'_>,
     input: &mut Counted<I>,
     output: &mut Counted<W>,
+    faults: &mut L,
 ) -> Result<u64, Failure> {
     let alloc = rt.alloc();
-    if !order.layout.has_plain_rows() {
-        return zic_commands::convert_by(rt, alloc, order, texts, input, output);
+    if !job.layout.has_plain_rows() {
+        return zic_commands::convert_by(rt, alloc, job, input, output, faults);
     }
-    match order.layout.header {
-        Header::Absent => zic_commands::convert(rt, alloc, order.plan, texts, input, output),
-        Header::First => {
-            zic_commands::convert_with_header(rt, alloc, order.plan, texts, input, output)
-        }
+    let (plan, texts) = (job.plan, job.texts);
+    match job.layout.header {
+        Header::Absent => zic_commands::convert(rt, alloc, plan, texts, input, output),
+        Header::First => zic_commands::convert_with_header(rt, alloc, plan, texts, input, output),
     }
 }

@@ -142,23 +142,29 @@ fn records_come_in_rounds(rt: HostRuntime) {
     }
 }
 
-/// Returns the records of a column after the first, in reads of this length.
+/// Returns the own bytes of the first record of a column and `>`, and then its other records, in
+/// reads of this length.
 fn after_first(rt: &impl Abort, alloc: Global, column: &[u8], step: usize) -> Vec<u8> {
     let mut device = Device::new(column, step, Ok(()));
     let mut column = must(rt, Column::new(alloc, &mut device, 100));
-    must(rt, column.pass_record(alloc, 1000));
-    let (text, _) = must(rt, rest_of(rt, alloc, column, (1000, 2)).ok_or(()));
+    let mut text = must(rt, column.pass_record(alloc, 1000));
+    let (rest, _) = must(rt, rest_of(rt, alloc, column, (1000, 2)).ok_or(()));
+    must(rt, text.push(b'>'));
+    must(rt, text.extend_from_slice(&rest));
     text
 }
 
-/// Columns and their records after the first.
+/// Columns, and the own bytes of their first record with the others.
 static PASSED: [(&[u8], &[u8]); 6] = [
-    (b"", b""),
-    (b"\n", b""),
-    (b"zone,instant", b""),
-    (b"\xEF\xBB\xBF\n\"a\nb\",c,d\r\n\na,0\nb,1", b"a=0|b=1|"),
-    (b"a,0\n\"b\",1\n", b"b=1|"),
-    (b"a,\"0\nb,1\n", b""),
+    (b"", b">"),
+    (b"\n", b">"),
+    (b"zone,instant", b"zone,instant>"),
+    (
+        b"\xEF\xBB\xBF\n\"a\nb\",c,d\r\n\na,0\nb,1",
+        b"\"a\nb\",c,d>a=0|b=1|",
+    ),
+    (b"a,0\n\"b\",1\n", b"a,0>b=1|"),
+    (b"a,\"0\nb,1\n", b"a,\"0\nb,1\n>"),
 ];
 
 #[test]

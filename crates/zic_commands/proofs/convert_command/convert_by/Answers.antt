@@ -6,29 +6,35 @@ use Rattle.zic_commands.proofs.convert_command.convert_by.Goals as goal
 pub returns-in_err-find_zone-clause-err : goal.returns-in_err-find_zone-clause-err
 returns-in_err-find_zone-clause-err g c =
     let p = err_from_is_err_and c.from_residual-in_err-find_zone.result c.from_residual-in_err-find_zone.ensures.1 in
-    rw (p.1, p.2) (inr (inl (record {
-      files = c.in_ok-files.files;
-      are_files = c.in_ok-files.ensures.ok;
-      of_zone = c.in_err-find_zone.ensures.err;
-      unread = refl;
-      unwritten = refl;
-    })))
+    rw (p.1, p.2) (inl (
+      refl,
+      inr (inl (record {
+        files = c.in_ok-files.files;
+        are_files = c.in_ok-files.ensures.ok;
+        of_zone = c.in_err-find_zone.ensures.err;
+        unread = refl;
+        unwritten = refl;
+      })),
+    ))
 
 pub returns-in_err-write_header_by-clause-err : goal.returns-in_err-write_header_by-clause-err
 returns-in_err-write_header_by-clause-err g c =
     let p = err_from_is_err_and c.from_residual-in_err-write_header_by.result c.from_residual-in_err-write_header_by.ensures.1 in
     let fails = c.in_err-write_header_by.ensures.fails in
-    rw (p.1, p.2) (inr (inr (inl (record {
-      files = c.in_ok-files.files;
-      are_files = c.in_ok-files.ensures.ok;
-      has_zone = c.in_ok-find_zone.ensures.ok;
-      is = c.in_err-write_header_by.ensures.failure;
-      unread = refl;
-      part = fails.part;
-      starts = fails.starts;
-      wrote = fails.wrote;
-      failed = fails.failed;
-    }))))
+    rw (p.1, p.2) (inl (
+      refl,
+      inr (inr (record {
+        files = c.in_ok-files.files;
+        are_files = c.in_ok-files.ensures.ok;
+        has_zone = c.in_ok-find_zone.ensures.ok;
+        is = c.in_err-write_header_by.ensures.failure;
+        unread = refl;
+        part = fails.part;
+        starts = fails.starts;
+        wrote = fails.wrote;
+        failed = fails.failed;
+      })),
+    ))
 
 pub returns-in-Ok-clause-ok : goal.returns-in-Ok-clause-ok
 returns-in-Ok-clause-ok g c = record {
@@ -40,16 +46,17 @@ returns-in-Ok-clause-ok g c = record {
     header = c.in_ok-write_header_by.ensures.ok.wrote;
     rows = c.in-Ok.ensures.ok;
   };
+  notes = c.in-Ok.ensures.noted;
 }
 
 pub returns-clause-err : goal.returns-clause-err
-returns-clause-err g c = inr (inr (inr (record {
+returns-clause-err g c = inr (record {
   files = c.in_ok-files.files;
   are_files = c.in_ok-files.ensures.ok;
   has_zone = c.in_ok-find_zone.ensures.ok;
   stop = c.in-Err.stop;
   is = search (rules, c.run_failure.ensures);
-  cause = same_cause c.args.order.now.plan.now.max_bytes c.args.reader.now c.convert_by.new.reader c.args.writer.now
+  cause = same_cause c.args.job.now.plan.now.max_bytes c.args.reader.now c.convert_by.new.reader c.args.writer.now
       c.write_header_by.new.writer c.convert_by.new.writer c.in_ok-write_header_by.ensures.ok.counts.failures c.in-Err.stop
       c.in-Err.ensures.cause;
   writes = record {
@@ -57,4 +64,5 @@ returns-clause-err g c = inr (inr (inr (record {
     header = c.in_ok-write_header_by.ensures.ok.wrote;
     rows = c.in-Err.ensures.err;
   };
-})))
+  notes = c.in-Err.ensures.noted_until;
+})
