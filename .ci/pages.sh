@@ -257,9 +257,10 @@ words=$(completed pzic '')
 
 # ------------------------------------------------------------------ the pages themselves
 
-kit=$(rt version | head -n 1)
+# Kits that have the same logic prove the same.
+logic=$(rt version | grep -o 'logic [0-9a-f]*' | head -n 1)
 for page in README.md docs/help/version.txt; do
-    grep -qF -- "$kit" "$page" || differ "$page doesn't name the kit, $kit"
+    grep -qF -- "${logic:-no logic}" "$page" || differ "$page doesn't name the kit's $logic"
 done
 [ "$(wc -l <README.md)" -le 180 ] || differ "README.md has $(wc -l <README.md) lines"
 # Prints the anchors of a page's headings.

@@ -7,6 +7,8 @@
 //! - `rising`: the first zone, instants that rise evenly through the same years.
 //! - `footer`: as `random`, from 2040 to 2400.
 //! - `quoted`: as `random`, with both fields in double quotes.
+//! - `wide`: as `random`, in records of ten fields, of which the third is the zone and the sixth the
+//!   instant.
 //!
 //! The seed is fixed, so the same call prints the same column.
 
@@ -46,6 +48,9 @@ fn main() {
         };
         if kind == "quoted" {
             writeln!(out, "\"{}\",\"{instant}\"", names[name]).unwrap();
+        } else if kind == "wide" {
+            let zone = names[name];
+            writeln!(out, "{row},login,{zone},10.1.2.3,ok,{instant},web,42,some words,").unwrap();
         } else {
             writeln!(out, "{},{instant}", names[name]).unwrap();
         }

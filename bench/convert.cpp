@@ -5,7 +5,11 @@
 // library once for each span of instants at which a zone shows the same. The workers take turns at
 // reading a block of lines, and write the rows in the same order.
 //
-// usage: convert WORKERS
+// With the word `append` each line has ten fields or more, without double quotes, of which the third
+// is the zone and the sixth the instant, and a row is the line and then local time, as `pzic convert
+// --append` writes it.
+//
+// usage: convert WORKERS [append]
 #include <date/tz.h>
 
 #include <algorithm>
@@ -155,11 +159,26 @@ public:
         text += span->tail;
     }
 
-    void push_block(std::string_view block) {
+    void append(std::string_view line) {
+        std::size_t starts[8] = {0};
+        for (int field = 1; field < 7; field++) {
+            std::size_t comma = line.find(',', starts[field - 1]);
+            if (comma == line.npos) refuse("RowFields");
+            starts[field] = comma + 1;
+        }
+        sys_seconds instant = instant_of(line.substr(starts[5], starts[6] - starts[5] - 1));
+        find(line.substr(starts[2], starts[3] - starts[2] - 1), instant);
+        put_time(instant);
+        text += line;
+        text.append(time, 20);
+        text += span->tail;
+    }
+
+    void push_block(std::string_view block, bool appends) {
         std::size_t start = 0;
         for (std::size_t end; (end = block.find('\n', start)) != block.npos; start = end + 1)
-            push(block.substr(start, end - start));
-        if (start < block.size()) push(block.substr(start));
+            appends ? append(block.substr(start, end - start)) : push(block.substr(start, end - start));
+        if (start < block.size()) appends ? append(block.substr(start)) : push(block.substr(start));
     }
 };
 
@@ -196,14 +215,14 @@ public:
     }
 };
 
-void work(Turns &turns) {
+void work(Turns &turns, bool appends) {
     Rows rows;
     std::string block;
     for (;;) {
         long number = turns.read(block);
         if (block.empty()) return;
         rows.text.clear();
-        rows.push_block(block);
+        rows.push_block(block, appends);
         turns.write(number, rows.text);
     }
 }
@@ -211,11 +230,12 @@ void work(Turns &turns) {
 } // namespace
 
 int main(int count, char **words) {
-    if (count != 2) refuse("WORKERS");
+    bool appends = count == 3 && std::string_view(words[2]) == "append";
+    if (count != 2 && !appends) refuse("WORKERS [append]");
     Turns turns;
     std::vector<std::thread> workers;
-    for (int i = 1; i < std::atoi(words[1]); i++) workers.emplace_back(work, std::ref(turns));
-    work(turns);
+    for (int i = 1; i < std::atoi(words[1]); i++) workers.emplace_back(work, std::ref(turns), appends);
+    work(turns, appends);
     for (std::thread &worker : workers) worker.join();
     return std::fflush(stdout) ? 1 : 0;
 }

@@ -15,7 +15,8 @@
 #
 # First the rows of all converters are compared, on columns of 1,000,000 rows (or ROWS, if fewer).
 # They must be the same with 1 and 4 workers, except for the C++ library in the years of footers,
-# which it doesn't read. The last line is the time of a whole run with a column of one row.
+# which it doesn't read. A second table has `--append` on records of ten fields, beside the C++
+# library alone. The last line is the time of a whole run with a column of one row.
 #
 # With the word `stream`, only pzic runs. It converts a column of ROWS rows through pipes, by
 # default 100,000,000 rows, which are just under 4 GiB.
@@ -71,10 +72,12 @@ g++ -std=c++17 -O2 -DUSE_OS_TZDB=1 -pthread -o "$work/library" bench/convert.cpp
 
 # convert CONVERTER WORKERS: converts standard input, and keeps the memory of the run in kilobytes.
 convert() {
-    case $1 in
-    pzic) set -- "$program" convert --workers "$2" "$release" ;;
-    convert.rs) set -- "$work/convert" "$work/tree" "$2" ;;
-    convert.cpp) set -- "$work/library" "$2" ;;
+    case $1:$kind in
+    pzic:wide) set -- "$program" convert --workers "$2" --append --zone-field 3 --time-field 6 "$release" ;;
+    pzic:*) set -- "$program" convert --workers "$2" "$release" ;;
+    convert.rs:*) set -- "$work/convert" "$work/tree" "$2" ;;
+    convert.cpp:wide) set -- "$work/library" "$2" append ;;
+    convert.cpp:*) set -- "$work/library" "$2" ;;
     esac
     command time -f %M -o "$work/kilobytes" "$@"
 }
@@ -109,6 +112,11 @@ for kind in random rising footer quoted; do
         compare "$kind" convert.cpp "$workers"
     done
 done
+kind=wide
+column wide "$sample"
+convert pzic 1 <"$work/column.csv" >"$work/wanted"
+compare wide pzic 4
+for workers in 1 4; do compare wide convert.cpp "$workers"; done
 rm -f "$work/wanted" "$work/rows"
 echo "all other rows of columns of $sample rows are the same"
 
@@ -157,6 +165,27 @@ echo '               | pzic                          | convert.rs               
 echo 'column workers | seconds M rows/s times 1   MB | seconds M rows/s pzic is | seconds M rows/s pzic is'
 for kind in random rising footer quoted; do time_all "$kind"; done
 load
+
+# ------------------------------------------------------------------ records as they stand
+
+kind=wide
+rm -f "$work"/runs.*
+column wide "$rows"
+turn=0
+while [ "$turn" -lt "$runs" ]; do
+    for workers in 1 4; do
+        for converter in pzic convert.cpp; do once "$converter" "$workers"; done
+    done
+    turn=$((turn + 1))
+done
+echo "--append on $rows records of ten fields, to nowhere, best of $runs: $(load)"
+for workers in 1 4; do
+    echo "$(best_of pzic "$workers") $(best_of convert.cpp "$workers")" |
+        awk -v workers="$workers" -v rows="$rows" '{
+            printf "%d workers: pzic %.2f M rows/s, convert.cpp %.2f M rows/s, pzic is %.0f %%\n",
+                workers, rows * 1e3 / $1, rows * 1e3 / $2, 100 * $2 / $1
+        }'
+done
 
 echo Etc/UTC,0 >"$work/one"
 input=$work/one
