@@ -53,7 +53,7 @@ pub(crate) fn code_of(line: &[u8]) -> &[u8] {
     line
 }
 
-/// Adds the field that stands there, if it isn't empty.
+/// Adds the field at this place, if it isn't empty.
 fn push_field(
     alloc: Global,
     fields: &mut Vec<Field>,

@@ -102,8 +102,8 @@ fn three_digits(n: u32) -> [u8; 3]
     [b'0' + (n / 100) as u8, b, c]
 }
 
-/// Appends so many units of a second, as `.123`, or nothing where seconds are counted. Where memory
-/// runs out, a part may be there.
+/// Appends this number of units of a second, as `.123`, or nothing where seconds are counted.
+/// Where memory runs out, a part may be there.
 pub(crate) fn push_fraction(text: &mut Vec<u8>, unit: Unit, n: u32) -> Result<(), AllocError>
     requires { n < units_of_second unit }
     ensures { OnOk result (text.new.items ≡ text.old.items ++ fraction_text unit n) }

@@ -334,7 +334,7 @@ fn no_read_is_made_in_vain(rt: HostRuntime) {
     }
 }
 
-/// Ends the test where a column in reads of this length isn't begun, or in other than so many reads.
+/// Ends the test where a column in reads of this length isn't begun, or in another number of reads.
 fn expect_first_reads(rt: &impl Abort, alloc: Global, step: usize, want: usize) {
     let mut device = Device::new(b"a,0\nb,1\n", step, Ok(()));
     let begun = Column::new(alloc, &mut device, 100).is_ok();
