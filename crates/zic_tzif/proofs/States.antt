@@ -12,6 +12,7 @@ use Rattle.zic_posix.specs.Meaning.{standard_state, daylight_state, MeansBy, Mea
 use Rattle.zic_posix.proofs.StringLemmas.{spells_one}
 use Rattle.zic_tzif.specs.declared.content.LocalType.{LocalType}
 use Rattle.zic_tzif.specs.Content.{Content, IsStateOfType, type_state}
+use Rattle.zic_tzif.specs.Answer.{Gives}
 use Rattle.zic_tzif.specs.States.{IsStateOfString, IsStateOfNumber, HasStateOfNumber, AreStates}
 use Rattle.zic_tzif.proofs.AnswerLemmas.{spells_none, one_state_of_type, state_of_type}
 use mir.Val.{bool_byte}
@@ -166,6 +167,14 @@ footer_numbered content f t state number spells means (inr is) =
     let place = found.1 ∙ ap bool_byte is.0 in
     let at = is.1 in
     inr (f, spells, (found.0, omega (arith, place, at), found.2))
+
+-- what a content gives at an instant is the state of a number
+pub given_numbered : (content : Content) (t : ℤ) (state : Shown) → Gives content t state → (number : ℕ) × IsStateOfNumber content number state
+given_numbered content t state (inl given) = (given.1.0, inl given.1.2)
+given_numbered content t state (inr given) =
+    let f = given.1.0 in
+    let found = means_place f f.dst t state given.1.2 in
+    (length content.types + found.0, inr (f, given.1.1, (found.0, refl, found.2)))
 
 -- ---- one state each
 
