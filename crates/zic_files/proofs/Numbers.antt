@@ -1,14 +1,17 @@
 -- The numbers of files by their names.
-use Rattle.std.proofs.Common.{◌≡◌, ◌≢◌, ◌<◌, ◌≤◌, ◌+◌, ◌%◌, ℕ, zero, suc, List, [], ◌∷◌, ◌++◌, length, set, replicate, get_or, Option, Some, None, ◌⊎◌, inl, inr, ⊎_elim, refl, sym, subst, ap, ◌∙◌, arith}
+use Rattle.std.proofs.Common.{◌≡◌, ◌≢◌, ◌<◌, ◌≤◌, ◌+◌, ◌-◌, ◌%◌, ℕ, zero, suc, List, [], ◌∷◌, ◌++◌, length, set, take, replicate, get_or, Option, Some, None, ◌⊎◌, inl, inr, ⊎_elim, refl, sym, subst, ap, ◌∙◌, arith}
 use Rattle.std.specs.Prelude.{All, IfSome, IfNone, IsSomeAnd, map, slice_get, nat_lt}
-use Rattle.std.proofs.Math.Seq.{get_or-append_seam}
+use Rattle.std.proofs.Math.ListN.{length-set}
+use Rattle.std.proofs.Math.Seq.{get_or-append_seam, take-append_seam}
 use Rattle.std.proofs.lemmas.Bool.{cases_lt, cond-true, cond-false, lt-ltb, le-ltb}
 use Rattle.std.proofs.lemmas.List.{get_or-set_same, get_or-set_other, get_or_append_left, get_or-replicate, get_or_past, length-append, length-replicate}
 use Rattle.std.proofs.lemmas.List.Elements.{All-map}
 use Rattle.std.proofs.lemmas.Option.{slice_get-get_or, slice_get_within, get_or_from_slice_get}
 use Rattle.zic_files.specs.declared.entry.Entry.{Entry}
 use Rattle.zic_files.specs.File.{FileImage, file_of}
-use Rattle.zic_files.specs.code.NameIndex.{mixed, bucket_of, IsLastIn, AreLinked, IsSought}
+use Rattle.zic_files.specs.declared.name_index.NameIndex.{NameIndex}
+use Rattle.zic_files.specs.declared.name_index.TheConstants.{BUCKETS}
+use Rattle.zic_files.specs.code.NameIndex.{mixed, bucket_of, IsLastIn, AreLinked, AreNumbersUpTo, AreNumbersOf, IsSought}
 
 -- ---- buckets
 
@@ -24,6 +27,10 @@ bucket_long name le = sym (cond-false (nat_lt (length name) 3) (length name) (mi
 
 one_entry : (entries : List Entry) (n : ℕ) (a b : Entry) → slice_get entries n ≡ Some a → slice_get entries n ≡ Some b → a ≡ b
 one_entry entries n a b at at₂ = sym (get_or_from_slice_get entries n a a at) ∙ get_or_from_slice_get entries n b a at₂
+
+ne_zero : (n : ℕ) → n ≢ 0 → 0 < n
+ne_zero zero some = absurd (some refl)
+ne_zero (suc n) some = omega arith
 
 same_or_not : (a b : ℕ) → (a ≡ b) ⊎ (a ≢ b)
 same_or_not a b = ⊎_elim (λ lt. inr (λ e. omega (arith, lt, e))) (λ ge. ⊎_elim (λ lt. inr (λ e. omega (arith, lt, e))) (λ le. inl (omega (arith, ge, le))) (cases_lt b a)) (cases_lt a b)
@@ -46,12 +53,14 @@ linked_none entries last zeros = record {
 pub all_zeros : (n i : ℕ) → ◌≡◌ {A = ℕ} (get_or (replicate n 0) i 0) 0
 all_zeros n i = ⊎_elim (λ lt. get_or-replicate n i 0 0 lt) (λ ge. get_or_past (replicate n 0) i 0 (omega (arith, length-replicate {A = ℕ} n 0, ge))) (cases_lt i n)
 
--- no entry at all
-pub linked_empty : (entries : List Entry) (last before : List ℕ) → length entries ≡ 0 → last ≡ [] → before ≡ [] → AreLinked entries (length entries) last before
-linked_empty entries last before none empty empty₂ =
-    subst (λ (k : ℕ). AreLinked entries k last before) (sym none)
-    (subst (λ (l : List ℕ). AreLinked entries 0 last l) (sym empty₂)
-    (subst (λ (l : List ℕ). AreLinked entries 0 l []) (sym empty) (linked_none entries [] (λ bucket. get_or_past [] bucket 0 (omega arith)))))
+-- the index without buckets
+pub numbers_none : (entries : List Entry) (names : NameIndex) → names.last.items ≡ [] → names.before.items ≡ [] → AreNumbersUpTo entries 0 names
+numbers_none entries names empty empty₂ = record {
+  linked = subst (λ (l : List ℕ). AreLinked entries 0 names.last.items l) (sym empty₂)
+      (linked_none entries names.last.items
+      (λ bucket. ap (λ (l : List ℕ). get_or l bucket 0) empty ∙ get_or_past [] bucket 0 (omega arith)));
+  buckets = λ some. absurd (omega (arith, some));
+}
 
 -- an entry is the last in its bucket
 last_now : (entries : List Entry) (n bucket : ℕ) (entry : Entry) → slice_get entries n ≡ Some entry → bucket_of entry.name ≡ bucket → IsLastIn entries bucket (n + 1) (n + 1)
@@ -104,6 +113,110 @@ linked_more entries last before n bucket place entry are within at of_name numbe
           (subst (λ (k : ℕ). IsLastIn entries k n old) (of_name ∙ ap (λ (x : Entry). bucket_of x.name) one) (are.last_of bucket))))
           (cases_lt i n);
     }
+
+-- ---- buckets that are there
+
+-- the index of the first n entries, with its buckets
+pub record IsReady (entries : List Entry) (n : ℕ) (names : NameIndex) : Type 0 where
+  pub buckets : length names.last.items ≡ BUCKETS
+  pub linked : AreLinked entries n names.last.items names.before.items
+
+linked_none_yet : (entries : List Entry) (last before : List ℕ) (n : ℕ) → n ≡ 0 → length before ≡ n → ((bucket : ℕ) → get_or last bucket 0 ≡ 0) → AreLinked entries n last before
+linked_none_yet entries last [] n none count zeros = subst (λ (k : ℕ). AreLinked entries k last []) (sym none) (linked_none entries last zeros)
+linked_none_yet entries last (b ∷ before) n none count zeros = absurd (omega (arith, none, count))
+
+-- buckets without an entry are made
+pub ready_at_first : (entries : List Entry) (n : ℕ) (names : NameIndex) → n ≡ 0 → length names.before.items ≡ n → names.last.items ≡ replicate BUCKETS 0 → IsReady entries n names
+ready_at_first entries n names none count zeros = record {
+  buckets = ap length zeros ∙ length-replicate {A = ℕ} BUCKETS 0;
+  linked = linked_none_yet entries names.last.items names.before.items n none count (λ bucket. ap (λ (l : List ℕ). get_or l bucket 0) zeros ∙ all_zeros BUCKETS bucket);
+}
+
+-- or they are there
+pub ready_later : (entries : List Entry) (n : ℕ) (names : NameIndex) → n ≢ 0 → AreNumbersUpTo entries n names → IsReady entries n names
+ready_later entries n names some are = record { buckets = are.buckets (ne_zero n some); linked = are.linked }
+
+-- the index is that of the first n entries, whatever there are
+pub ready_numbers : (entries : List Entry) (n : ℕ) (names now : NameIndex) → IsReady entries n names → now.last.items ≡ names.last.items → now.before.items ≡ names.before.items
+    → AreNumbersUpTo entries n now
+ready_numbers entries n names now ready same same₂ = record {
+  linked = subst (λ (l : List ℕ). AreLinked entries n l now.before.items) (sym same)
+      (subst (λ (l : List ℕ). AreLinked entries n names.last.items l) (sym same₂) ready.linked);
+  buckets = λ some. ap length same ∙ ready.buckets;
+}
+
+-- and one more entry is added
+pub numbers_more : (entries : List Entry) (n bucket : ℕ) (entry : Entry) (names now : NameIndex) → IsReady entries n names → bucket < BUCKETS → slice_get entries n ≡ Some entry
+    → bucket ≡ bucket_of entry.name → now.last.items ≡ set names.last.items bucket (n + 1) → now.before.items ≡ names.before.items ++ get_or names.last.items bucket 0 ∷ []
+    → AreNumbersUpTo entries (n + 1) now
+numbers_more entries n bucket entry names now ready within at of_name last before =
+    let inside : bucket < length names.last.items = omega (arith, within, ready.buckets) in
+    record {
+      linked = subst (λ (l : List ℕ). AreLinked entries (n + 1) l now.before.items) (sym last)
+          (subst (λ (l : List ℕ). AreLinked entries (n + 1) (set names.last.items bucket (n + 1)) l) (sym before)
+          (linked_more entries names.last.items names.before.items n bucket (n + 1) entry ready.linked inside at of_name refl));
+      buckets = λ some. ap length last ∙ length-set names.last.items bucket (n + 1) ∙ ready.buckets;
+    }
+
+-- ---- entries that agree as far as the index goes
+
+last_on : (a b : List Entry) (bucket n last : ℕ) → ((j : ℕ) → j < n → slice_get a j ≡ slice_get b j) → IsLastIn a bucket n last → IsLastIn b bucket n last
+last_on a b bucket n last agree is = record {
+  within = is.within;
+  is_in = λ j entry e at. is.is_in j entry e (agree j (omega (arith, is.within, e)) ∙ at);
+  none_after = λ j entry low high at. is.none_after j entry low high (agree j high ∙ at);
+}
+
+linked_on : (a b : List Entry) (n : ℕ) (last before : List ℕ) → ((j : ℕ) → j < n → slice_get a j ≡ slice_get b j) → AreLinked a n last before → AreLinked b n last before
+linked_on a b n last before agree are = record {
+  count = are.count;
+  last_of = λ bucket. last_on a b bucket n (get_or last bucket 0) agree (are.last_of bucket);
+  before_of = λ i entry lt at. last_on a b (bucket_of entry.name) i (get_or before i 0) (λ j below. agree j (omega (arith, below, lt))) (are.before_of i entry lt (agree i lt ∙ at));
+}
+
+numbers_on : (a b : List Entry) (n : ℕ) (names : NameIndex) → ((j : ℕ) → j < n → slice_get a j ≡ slice_get b j) → AreNumbersUpTo a n names → AreNumbersUpTo b n names
+numbers_on a b n names agree are = record {
+  linked = linked_on a b n names.last.items names.before.items agree are.linked;
+  buckets = are.buckets;
+}
+
+got_left : (xs ys : List Entry) (j : ℕ) → j < length xs → slice_get xs j ≡ slice_get (xs ++ ys) j
+got_left [] ys j lt = absurd (omega arith)
+got_left (x ∷ xs) ys zero lt = refl
+got_left (x ∷ xs) ys (suc j) lt = got_left xs ys j (omega arith)
+
+-- the index of no entry is that of the first none
+pub numbers_first : (entries : List Entry) (names : NameIndex) → AreNumbersOf [] names → AreNumbersUpTo entries 0 names
+numbers_first entries names are = numbers_on [] entries 0 names (λ j lt. absurd (omega (arith, lt))) are
+
+-- entries after those of the index change nothing
+pub numbers_pushed : (entries more : List Entry) (names : NameIndex) → AreNumbersOf entries names → AreNumbersUpTo (entries ++ more) (length entries) names
+numbers_pushed entries more names are = numbers_on entries (entries ++ more) (length entries) names (got_left entries more) are
+
+pub numbers_popped : (entries more : List Entry) (names : NameIndex) → AreNumbersUpTo (entries ++ more) (length entries) names → AreNumbersOf entries names
+numbers_popped entries more names are = numbers_on (entries ++ more) entries (length entries) names (λ j lt. sym (got_left entries more j lt)) are
+
+-- entries with one more: the index before it has the entry, once it has it, and where that was refused
+module _ (entries : List Entry) (entry : Entry) (entries' : List Entry) (n : ℕ) (added : entries' ≡ entries ++ entry ∷ []) (long : n ≡ length entries) where
+  pub numbers_before : (names : NameIndex) → AreNumbersOf entries names → AreNumbersUpTo entries' n names
+  numbers_before names are = rw (added, long) (numbers_pushed entries (entry ∷ []) names are)
+
+  pub numbers_now : (names : NameIndex) → AreNumbersUpTo entries' (n + 1) names → AreNumbersOf entries' names
+  numbers_now names are =
+      let count : n + 1 ≡ length entries' = rw added (omega (arith, long, length-append entries (entry ∷ []))) in
+      subst (λ (k : ℕ). AreNumbersUpTo entries' k names) count are
+
+  pub numbers_after : (names : NameIndex) → AreNumbersUpTo entries' n names → AreNumbersOf entries names
+  numbers_after names are =
+      numbers_popped entries (entry ∷ []) names
+      (subst (λ (k : ℕ). AreNumbersUpTo (entries ++ entry ∷ []) k names) long (subst (λ (es : List Entry). AreNumbersUpTo es n names) added are))
+
+-- the last entry is taken away again
+pub popped : (entries : List Entry) (entry : Entry) (entries' last_gone : List Entry) (n : ℕ) → entries' ≡ entries ++ entry ∷ [] → n ≡ length entries'
+    → last_gone ≡ take (n - 1) entries' → last_gone ≡ entries
+popped entries entry entries' last_gone n added long is =
+    let count : n - 1 ≡ length entries = (let all = long ∙ ap length added ∙ length-append entries (entry ∷ []) in omega (arith, all)) in
+    is ∙ ap (λ (k : ℕ). take k entries') count ∙ ap (λ (es : List Entry). take (length entries) es) added ∙ take-append_seam entries (entry ∷ [])
 
 -- ---- the search for a name
 

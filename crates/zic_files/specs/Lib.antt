@@ -1,8 +1,12 @@
 pub mod code
 pub mod File
+pub mod Fit
+pub mod Laws
 pub mod Sound
+pub mod Tree
 pub use Rattle.zic_tzif.specs.Reading
 pub use Rattle.zic_tzif.specs.Answer
 pub use Rattle.zic_tzif.specs.Content
+pub use Rattle.zic_tzif.specs.States
 pub use Rattle.zic_words.specs.Name
 pub use Rattle.zic_words.specs.Limits

@@ -1,9 +1,10 @@
 //! Files by number and by name.
 
-ghost use Rattle.std.specs.Prelude.{◌≡◌, ◌≢◌, ◌<◌, true, length, slice_get, All, IfSome, IfNone, IfOk, IfErr, IsSomeAnd};
+ghost use Rattle.std.specs.Prelude.{◌≡◌, ◌≢◌, ◌<◌, true, [], ◌∷◌, ◌++◌, length, slice_get, All, IfSome, IfNone, IfOk, IfErr, IsSomeAnd};
 ghost use Rattle.zic_words.specs.Name.{is_name};
 ghost use Rattle.zic_tzif.specs.Reading.{IsFile};
-ghost use Rattle.zic_files.specs.Sound.{IsAlwaysKnown, AreSoundFiles};
+ghost use Rattle.zic_files.specs.Fit.{IsFit};
+ghost use Rattle.zic_files.specs.Sound.{IsAlwaysKnown, IsSoundFile, AreSoundFiles};
 
 use crate::entry::Entry;
 use crate::image::Image;
@@ -11,9 +12,11 @@ use crate::name_index::NameIndex;
 use std::alloc::{AllocError, Global};
 use std::marker::Model;
 use zic_tzif::Zone;
+use zic_tzif::laws::{footers_leave_nothing_open, states_have_numbers};
+use zic_words::Name;
 
-/// The files of all Zone and Link lines, in the order of the texts and their lines. A link shares
-/// the image of its zone. Their names differ.
+/// Files by name, as those of all Zone and Link lines, in the order of the texts and their lines.
+/// A link shares the image of its zone. The names of files differ.
 #[derive(Debug, Drop)]
 pub struct Files {
     images: Vec<Image>,
@@ -50,6 +53,28 @@ impl Files {
             entries,
             names,
         })
+    }
+
+    /// Adds a file, after all others. The files stay as they are where memory is refused.
+    pub fn add(&mut self, alloc: Global, name: Name, image: Image) -> Result<(), AllocError>
+        requires new { All (λ file. file.name ≢ name) self.old }
+        requires fit { IsFit image.content }
+        ensures ok { IfOk result
+            (λ _. self.new ≡ self.old ++ (record { name = name; image = image }) ∷ []) }
+        ensures err { IfErr result (λ _. self.new ≡ self.old) }
+    {
+        file_is_sound(&name, &image);
+        let zone = self.images.len();
+        self.images.push(image)?;
+        let number = self.entries.len();
+        self.entries.push(Entry { name, zone })?;
+        match self.names.add(alloc, &self.entries, number) {
+            Ok(()) => Ok(()),
+            Err(error) => {
+                self.entries.pop();
+                Err(error)
+            }
+        }
     }
 
     /// Returns the number of files.
@@ -110,4 +135,16 @@ impl Files {
         let entry = &self.entries[i];
         &self.images[entry.zone]
     }
+}
+
+/// States that a file of this name and image is sound: it tells local time at each instant.
+fn file_is_sound(name: &Name, image: &Image)
+    requires { IsFit image.now.content }
+    ensures { IsSoundFile (record { name = name.now; image = image.now }) }
+{
+    states_have_numbers();
+    footers_leave_nothing_open();
+    // The name is one of a zone, and the zone is what a reader makes of the bytes.
+    let _ = name.octets();
+    let _ = image.zone();
 }

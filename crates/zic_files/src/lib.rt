@@ -4,8 +4,13 @@
 mod entry;
 mod files;
 mod image;
+pub mod laws;
+mod limit;
 mod name_index;
+mod names;
+mod tree;
 
 pub use entry::Entry;
 pub use files::Files;
-pub use image::Image;
+pub use image::{Image, Unfit};
+pub use tree::{TreeFiles, ZoneTree};

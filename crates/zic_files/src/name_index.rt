@@ -1,7 +1,7 @@
 //! An index of files by name.
 
-ghost use Rattle.std.specs.Prelude.{◌≡◌, ◌≢◌, ◌+◌, ◌<◌, length, slice_get, slice_index, All, IfSome, IfNone, IfOk, IfErr, OnOk, IsSomeAnd};
-ghost use Rattle.zic_files.specs.code.NameIndex.{bucket_of, AreLinked, AreNumbersOf};
+ghost use Rattle.std.specs.Prelude.{◌≡◌, ◌≢◌, ◌+◌, ◌<◌, [], length, slice_get, slice_index, All, IfSome, IfNone, IfOk, IfErr, OnOk, OnErr, IsSomeAnd};
+ghost use Rattle.zic_files.specs.code.NameIndex.{bucket_of, AreNumbersUpTo, AreNumbersOf};
 
 use crate::entry::Entry;
 use std::alloc::{AllocError, Global};
@@ -18,23 +18,24 @@ pub(crate) struct NameIndex {
 }
 
 impl NameIndex {
+    /// Returns the index of no file.
+    pub(crate) fn new(alloc: Global) -> NameIndex
+        ensures { AreNumbersOf [] result }
+    {
+        NameIndex {
+            last: Vec::new(alloc),
+            before: Vec::new(alloc),
+        }
+    }
+
     /// Returns the index of the files of these entries.
     pub(crate) fn of(alloc: Global, entries: &[Entry]) -> Result<NameIndex, AllocError>
         ensures ok { IfOk result (AreNumbersOf entries.now) }
         ensures memory { IfErr result (λ _. 0 < length entries.now) }
     {
-        let count = entries.len();
-        if count == 0 {
-            return Ok(NameIndex {
-                last: Vec::new(alloc),
-                before: Vec::new(alloc),
-            });
-        }
-        let last = vec![in alloc; 0; BUCKETS]?;
-        let before = Vec::new(alloc);
-        let mut index = NameIndex { last, before };
-        for number in 0..count {
-            index.add(entries, number)?;
+        let mut index = NameIndex::new(alloc);
+        for number in 0..entries.len() {
+            index.add(alloc, entries, number)?;
         }
         Ok(index)
     }
@@ -67,17 +68,23 @@ impl NameIndex {
         }
     }
 
-    /// Adds the file of this number, after all before it.
-    fn add(&mut self, entries: &[Entry], number: usize) -> Result<(), AllocError>
+    /// Adds the file of this number, after all before it. The first makes the buckets.
+    pub(crate) fn add(
+        &mut self,
+        alloc: Global,
+        entries: &[Entry],
+        number: usize,
+    ) -> Result<(), AllocError>
         requires within { number < length entries.now }
-        requires linked { AreLinked entries.now number self.old.last.items self.old.before.items }
-        requires long { length self.old.last.items ≡ BUCKETS }
-        ensures ok { OnOk result
-            (AreLinked entries.now (number + 1) self.new.last.items self.new.before.items) }
-        ensures long { length self.new.last.items ≡ BUCKETS }
+        requires numbers { AreNumbersUpTo entries.now number self.old }
+        ensures ok { OnOk result (AreNumbersUpTo entries.now (number + 1) self.new) }
+        ensures err { OnErr result (AreNumbersUpTo entries.now number self.new) }
     {
         if number >= u32::MAX as usize {
             return Err(AllocError);
+        }
+        if number == 0 {
+            self.last = vec![in alloc; 0; BUCKETS]?;
         }
         let bucket = bucket_of(entries[number].name.octets());
         self.before.push(self.last[bucket])?;

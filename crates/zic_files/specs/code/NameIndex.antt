@@ -26,9 +26,14 @@ pub record AreLinked (entries : List Entry) (n : ℕ) (last before : List ℕ) :
   pub last_of : (bucket : ℕ) → IsLastIn entries bucket n (slice_index last bucket)
   pub before_of : (i : ℕ) (entry : Entry) → i < n → slice_get entries i ≡ Some entry → IsLastIn entries (bucket_of entry.name) i (slice_index before i)
 
+-- the index of the first n entries; it has its buckets from the first entry on
+pub record AreNumbersUpTo (entries : List Entry) (n : ℕ) (names : NameIndex) : Type 0 where
+  pub linked : AreLinked entries n names.last.items names.before.items
+  pub buckets : 0 < n → length names.last.items ≡ BUCKETS
+
 -- the index of all of the entries
 abbrev pub AreNumbersOf : List Entry → NameIndex → Type 0
-AreNumbersOf entries names = AreLinked entries (length entries) names.last.items names.before.items
+AreNumbersOf entries names = AreNumbersUpTo entries (length entries) names
 
 -- The name is that of no entry after this one, by a number from 1, and this one is in the name's bucket.
 pub record IsSought (entries : List Entry) (name : List ℕ) (rest : ℕ) : Type 0 where

@@ -19,9 +19,9 @@ loop-rest-smaller c =
     let number = c.loop-rest.rest - 1 in
     let before = c.args.self.now.before.items in
     let within = c.loop-rest.invariant.within in
-    let count = c.requires.count in
+    let count = c.requires.linked.count in
     let read = c.index.ensures ∙ get_or_default before number c.index.result.now 0 (omega (arith, within, count, c.loop-rest-test.true)) in
-    sought_less c.args.entries.now c.args.self.now.last.items before c.loop-rest.rest number c.index.result.now c.index-entries-number.result c.requires within (omega (arith, c.loop-rest-test.true)) read
+    sought_less c.args.entries.now c.args.self.now.last.items before c.loop-rest.rest number c.index.result.now c.index-entries-number.result c.requires.linked within (omega (arith, c.loop-rest-test.true)) read
 
 pub loop-rest-preserved : goal.loop-rest-preserved
 loop-rest-preserved c =
@@ -30,9 +30,9 @@ loop-rest-preserved c =
     let before = c.args.self.now.before.items in
     let entry = c.index-entries-number.result in
     let within = c.loop-rest.invariant.within in
-    let count = c.requires.count in
+    let count = c.requires.linked.count in
     let read = c.index.ensures ∙ get_or_default before number c.index.result.now 0 (omega (arith, within, count, c.loop-rest-test.true)) in
-    sought_on entries c.args.name.now c.args.self.now.last.items before c.loop-rest.rest number c.index.result.now entry c.requires c.loop-rest.invariant (omega (arith, c.loop-rest-test.true))
+    sought_on entries c.args.name.now c.args.self.now.last.items before c.loop-rest.rest number c.index.result.now entry c.requires.linked c.loop-rest.invariant (omega (arith, c.loop-rest-test.true))
     (λ named. false≢true (sym c.if-eq.false ∙ c.eq.ensures
     ∙ (bytes_eq-Decides c.octets.result.now c.args.name.now).1 (c.octets.ensures.octets ∙ named)))
     read

@@ -1,0 +1,119 @@
+-- Files with one more.
+use Rattle.std.proofs.Common.{◌≡◌, ◌≢◌, ◌<◌, ◌+◌, ℕ, ℤ, true, List, [], ◌∷◌, ◌++◌, length, get_or, Option, Some, None, refl, sym, ap, subst, ◌∙◌, arith, length-append}
+use Rattle.std.specs.Prelude.{All, IfErr, IsSomeAnd, Result, Ok, Err, map}
+use Rattle.std.proofs.Math.Seq.{get_or-append_seam}
+use Rattle.std.proofs.lemmas.List.{get_or_append_left, map-append}
+use Rattle.std.proofs.lemmas.List.Elements.{All-head, All-tail, All-push, All-weaker}
+use Rattle.std.proofs.lemmas.List.Quantifiers.{all_pairs_push}
+use Rattle.zic_base.specs.State.{Shown}
+use Rattle.zic_words.specs.Limits.{IsWithinLimits}
+use Rattle.zic_words.specs.Name.{is_name}
+use Rattle.zic_tzif.specs.Answer.{Answers}
+use Rattle.zic_tzif.specs.Content.{Content}
+use Rattle.zic_tzif.specs.Laws.{StatesHaveNumbers, FootersLeaveNothingOpen}
+use Rattle.zic_tzif.specs.Reading.{IsFile}
+use Rattle.zic_files.specs.declared.entry.Entry.{Entry}
+use Rattle.zic_files.specs.declared.name_index.NameIndex.{NameIndex}
+use Rattle.zic_files.specs.File.{FileImage, File, no_image, file_of}
+use Rattle.zic_files.specs.Fit.{IsFit}
+use Rattle.zic_files.specs.Sound.{IsSoundFile, AreSoundFiles}
+use Rattle.zic_files.specs.code.Kept.{AreKept}
+use Rattle.zic_files.specs.code.NameIndex.{AreNumbersUpTo, AreNumbersOf}
+use Rattle.zic_files.proofs.Numbers.{numbers_now}
+
+-- ---- a file that rows can be made of
+
+pub answer_within : StatesHaveNumbers → FootersLeaveNothingOpen → (content : Content) → IsFit content → (t : ℤ) (answer : Option Shown) → Answers content t answer → IsSomeAnd answer IsWithinLimits
+answer_within numbers closed content fit t (Some state) answers = let found = numbers.some content t state answers in fit.states found.0 state found.1
+answer_within numbers closed content fit t None answers = absurd (closed content t fit.footer answers)
+
+pub sound_file : StatesHaveNumbers → FootersLeaveNothingOpen → (name : List ℕ) (image : FileImage) → is_name name ≡ true → IsFile image.octets image.content → IsFit image.content
+    → IsSoundFile (record { name = name; image = image })
+sound_file numbers closed name image named read fit = record {
+  named = named;
+  read = read;
+  footer = fit.footer;
+  known = answer_within numbers closed image.content fit;
+}
+
+-- ---- more images
+
+file_more : (images more : List FileImage) (entry : Entry) → entry.zone < length images → file_of (images ++ more) entry ≡ file_of images entry
+file_more images more entry within =
+    ap (λ (image : FileImage). let file : File = record { name = entry.name; image = image } in file) (get_or_append_left images more no_image entry.zone within)
+
+pub files_more : (images more : List FileImage) (entries : List Entry) → All (λ (entry : Entry). entry.zone < length images) entries
+    → map (file_of (images ++ more)) entries ≡ map (file_of images) entries
+files_more images more [] zones = refl
+files_more images more (entry ∷ entries) zones =
+    let first = file_more images more entry (All-head (λ (e : Entry). e.zone < length images) entry entries zones) in
+    let rest = files_more images more entries (All-tail (λ (e : Entry). e.zone < length images) entry entries zones) in
+    cc
+
+zones_more : (images more : List FileImage) (entries : List Entry) → All (λ (entry : Entry). entry.zone < length images) entries → All (λ (entry : Entry). entry.zone < length (images ++ more)) entries
+zones_more images more entries zones =
+    All-weaker (λ (e : Entry). e.zone < length images) (λ e. e.zone < length (images ++ more)) (λ e lt. omega (arith, lt, length-append images more)) entries zones
+
+pub kept_more : (images more : List FileImage) (entries : List Entry) (names : NameIndex) → AreKept images entries names → AreKept (images ++ more) entries names
+kept_more images more entries names kept = record {
+  zones = zones_more images more entries kept.zones;
+  numbers = kept.numbers;
+  sound = subst AreSoundFiles (sym (files_more images more entries kept.zones)) kept.sound;
+}
+
+-- ---- one more file
+
+file_added : (images : List FileImage) (name : List ℕ) (image : FileImage) (zone : ℕ) → zone ≡ length images
+    → file_of (images ++ image ∷ []) (record { name = name; zone = zone }) ≡ record { name = name; image = image }
+file_added images name image zone last =
+    let is : get_or (images ++ image ∷ []) zone no_image ≡ image =
+    subst (λ (k : ℕ). get_or (images ++ image ∷ []) k no_image ≡ image) (sym last) (get_or-append_seam images image [] no_image) in
+    ap (λ (found : FileImage). let file : File = record { name = name; image = found } in file) is
+
+sound_added : (files : List File) (file : File) → AreSoundFiles files → IsSoundFile file → All (λ (f : File). f.name ≢ file.name) files → AreSoundFiles (files ++ file ∷ [])
+sound_added files file sound one others = record {
+  each = All-push IsSoundFile files file sound.each one;
+  names_differ = all_pairs_push (λ (a b : File). a.name ≢ b.name) files file sound.names_differ others;
+}
+
+module _ (images : List FileImage) (entries : List Entry) (names : NameIndex) (name : List ℕ) (image : FileImage) (zone : ℕ) (kept : AreKept images entries names) (last : zone ≡ length images)
+    (images' : List FileImage) (pushed : images' ≡ images ++ image ∷ []) where
+  abbrev entry : Entry
+  entry = record { name = name; zone = zone }
+
+  abbrev file : File
+  file = record { name = name; image = image }
+
+  pub files_added : (entries' : List Entry) → entries' ≡ entries ++ entry ∷ [] → map (file_of images') entries' ≡ map (file_of images) entries ++ file ∷ []
+  files_added entries' added =
+      rw (pushed, added) (map-append (file_of (images ++ image ∷ [])) entries (entry ∷ [])
+      ∙ ap (λ (files : List File). files ++ file_of (images ++ image ∷ []) entry ∷ []) (files_more images (image ∷ []) entries kept.zones)
+      ∙ ap (λ (f : File). map (file_of images) entries ++ f ∷ []) (file_added images name image zone last))
+
+  -- the fields with the entry
+  pub kept_added : (entries' : List Entry) (now : NameIndex) (n : ℕ) → entries' ≡ entries ++ entry ∷ [] → IsSoundFile file → All (λ (f : File). f.name ≢ name) (map (file_of images) entries)
+      → n ≡ length entries → AreNumbersUpTo entries' (n + 1) now → AreKept images' entries' now
+  kept_added entries' now n added one others long numbers =
+      let within : zone < length (images ++ image ∷ []) = omega (arith, last, length-append images (image ∷ [])) in
+      record {
+        zones = rw (pushed, added) (All-push (λ (e : Entry). e.zone < length (images ++ image ∷ [])) entries entry (zones_more images (image ∷ []) entries kept.zones) within);
+        numbers = numbers_now entries entry entries' n added long now numbers;
+        sound = subst AreSoundFiles (sym (files_added entries' added)) (sound_added (map (file_of images) entries) file kept.sound one others);
+      }
+
+  -- the fields without it
+  pub files_refused : (entries' : List Entry) → entries' ≡ entries → map (file_of images') entries' ≡ map (file_of images) entries
+  files_refused entries' same = rw (pushed, same) (files_more images (image ∷ []) entries kept.zones)
+
+  pub kept_refused : (entries' : List Entry) (now : NameIndex) → entries' ≡ entries → AreNumbersOf entries now → AreKept images' entries' now
+  kept_refused entries' now same numbers = record {
+    zones = rw (pushed, same) (zones_more images (image ∷ []) entries kept.zones);
+    numbers = rw same numbers;
+    sound = subst AreSoundFiles (sym (files_refused entries' same)) kept.sound;
+  }
+
+-- ---- what holds where memory is refused
+
+pub if_err : {X E : Type 0} (r : Result X E) (P : Type 0) → P → IfErr r (λ _. P)
+if_err (Ok x) P p = tt
+if_err (Err e) P p = p

@@ -1,0 +1,41 @@
+use Rattle.std.proofs.Common.{◌≡◌, List, ℕ, [], ◌∷◌, ◌++◌, subst}
+use Rattle.std.specs.Prelude.{Contains, IfErr, IfOk}
+use Rattle.std.proofs.lemmas.Bool.{false≢true}
+use Rattle.zic_files.specs.Tree.{AreAsked, AreOfName, Gains, IsLearntFrom, Learnt, Reply}
+use Rattle.zic_files.proofs.Learning.{gains_none, nothing_more, settled_nothing_more, settled_before, settled_if_ok, none_of_name}
+use Rattle.zic_files.proofs.tree.TreeFiles.learn.Goals as goal
+
+pub returns-then-has-clause-ok : goal.returns-then-has-clause-ok
+returns-then-has-clause-ok g c = λ replies from.
+    let name = c.args.name.now in
+    let has = subst (λ (learnt : Learnt). Contains learnt.asked name) c.self.view_is (c.has.ensures.0 c.if-has.true) in (
+      [],
+      gains_none (g.T.ZoneTree.replied c.args.tree.now),
+      nothing_more replies c.args.self.now from,
+      settled_nothing_more replies name (settled_before replies c.args.self.now name from has),
+      none_of_name name,
+    )
+
+pub returns-in_ok-name-in-Some-clause-ok : goal.returns-in_ok-name-in-Some-clause-ok
+returns-in_ok-name-in-Some-clause-ok g c = λ replies from.
+    let same = rw c.in_ok-name-in-Some.was at c.in-Some.ensures.name in
+    let told = subst
+    (λ (name : List ℕ). IfOk c.ask.result (λ _. (reply : Reply) × Gains (g.T.ZoneTree.replied c.args.tree.now) (g.T.ZoneTree.replied c.ask.new.tree) (reply ∷ [])
+    × IsLearntFrom (replies ++ reply ∷ []) c.ask.new.self × (reply.name ≡ name))) same (c.ask.ensures.ok replies from) in
+    settled_if_ok replies c.ask.new.self c.args.name.now (g.T.ZoneTree.replied c.args.tree.now) (g.T.ZoneTree.replied c.ask.new.tree) c.ask.result told
+
+pub returns-in_ok-name-in-Some-clause-err : goal.returns-in_ok-name-in-Some-clause-err
+returns-in_ok-name-in-Some-clause-err g c = λ replies from.
+    let same = rw c.in_ok-name-in-Some.was at c.in-Some.ensures.name in
+    subst
+    (λ (name : List ℕ). IfErr c.ask.result (λ _. (more : List Reply) × Gains (g.T.ZoneTree.replied c.args.tree.now) (g.T.ZoneTree.replied c.ask.new.tree) more
+    × AreAsked (replies ++ more) × AreOfName name more)) same (c.ask.ensures.err replies from)
+
+pub returns-in-None-clause-ok : goal.returns-in-None-clause-ok
+returns-in-None-clause-ok g c = λ replies from. (
+  [],
+  gains_none (g.T.ZoneTree.replied c.args.tree.now),
+  nothing_more replies c.args.self.now from,
+  λ proper. absurd (false≢true (c.in-None.ensures.just.1 proper)),
+  none_of_name c.args.name.now,
+)

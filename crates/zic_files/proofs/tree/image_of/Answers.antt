@@ -1,0 +1,32 @@
+use Rattle.zic_files.proofs.Learning.{unfit_reply}
+use Rattle.zic_files.proofs.tree.image_of.Goals as goal
+
+pub returns-in-Err-Bad : goal.returns-in-Err-Bad
+returns-in-Err-Bad g c =
+    let gains = rw c.in-Some.is at c.in_ok-octets.ensures.ok in
+    let is = c.in-Err-Bad.field-0-is in
+    record {
+      ok = unfit_reply c.files_have_no_fault.ensures c.files_say_one.ensures (g.T.ZoneTree.replied c.args.tree.now) (g.T.ZoneTree.replied c.read.new.self) c.args.name.now
+          c.in-Some.octets.items c.in-Err-Bad.field-0 gains c.in-Err-Bad.ensures.err (λ e. cc);
+      err = tt;
+    }
+
+pub returns-in-Err-NoFooter : goal.returns-in-Err-NoFooter
+returns-in-Err-NoFooter g c =
+    let gains = rw c.in-Some.is at c.in_ok-octets.ensures.ok in
+    let is = c.in-Err-NoFooter.field-0-is in
+    record {
+      ok = unfit_reply c.files_have_no_fault.ensures c.files_say_one.ensures (g.T.ZoneTree.replied c.args.tree.now) (g.T.ZoneTree.replied c.read.new.self) c.args.name.now
+          c.in-Some.octets.items c.in-Err-NoFooter.field-0 gains c.in-Err-NoFooter.ensures.err (λ e. cc);
+      err = tt;
+    }
+
+pub returns-in-Err-OutsideLimits : goal.returns-in-Err-OutsideLimits
+returns-in-Err-OutsideLimits g c =
+    let gains = rw c.in-Some.is at c.in_ok-octets.ensures.ok in
+    let is = c.in-Err-OutsideLimits.field-0-is in
+    record {
+      ok = unfit_reply c.files_have_no_fault.ensures c.files_say_one.ensures (g.T.ZoneTree.replied c.args.tree.now) (g.T.ZoneTree.replied c.read.new.self) c.args.name.now
+          c.in-Some.octets.items c.in-Err-OutsideLimits.field-0 gains c.in-Err-OutsideLimits.ensures.err (λ e. cc);
+      err = tt;
+    }

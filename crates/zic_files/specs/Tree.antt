@@ -1,0 +1,53 @@
+-- A tree of files from outside: what it replied, and the files that rows are made of: own choice.
+use Rattle.std.specs.Prelude.{◌≡◌, ◌≢◌, ℕ, ⊤, true, List, ◌++◌, Option, Some, None, map, All, AllPairs, Any, Contains, IsSomeAnd}
+use Rattle.zic_words.specs.Name.{is_name}
+use Rattle.zic_files.specs.File.{File}
+use Rattle.zic_files.specs.Fit.{IsFit, AreFit}
+use Rattle.zic_files.specs.Sound.{AreSoundFiles}
+
+-- a name that a tree replied to, and the bytes of the file of that name, or none
+pub record Reply : Type 0 where
+  pub name : List ℕ
+  pub octets : Option (List ℕ)
+
+-- the replies of a tree, where they are known, grew by these, in order
+abbrev pub Gains : Option (List Reply) → Option (List Reply) → List Reply → Type 0
+Gains None new replies = ⊤
+Gains (Some old) None replies = ⊥
+Gains (Some old) (Some new) replies = new ≡ old ++ replies
+
+-- A tree replied to names of zones only, to each of them once.
+pub record AreAsked (replies : List Reply) : Type 0 where
+  pub named : All (λ reply. is_name reply.name ≡ true) replies
+  pub once : AllPairs (λ reply other. reply.name ≢ other.name) replies
+
+-- the tree replied to this name, unless no zone may have it
+abbrev pub IsSettled : List Reply → List ℕ → Type 0
+IsSettled replies name = is_name name ≡ true → Any (λ reply. reply.name ≡ name) replies
+
+-- these replies are all to this name
+abbrev pub AreOfName : List ℕ → List Reply → Type 0
+AreOfName name replies = All (λ reply. reply.name ≡ name) replies
+
+-- the reply that gives the bytes of a file
+abbrev pub reply_of : File → Reply
+reply_of file = record { name = file.name; octets = Some file.image.octets }
+
+-- The files of replies: each reply whose bytes rows can be made of gives one, of its name and with just these bytes, and there are no
+-- others.
+pub record AreFilesOfReplies (replies : List Reply) (files : List File) : Type 0 where
+  pub asked : AreAsked replies
+  pub sound : AreSoundFiles files
+  pub fit : All (λ file. IsFit file.image.content) files
+  pub given : All (λ file. Contains replies (reply_of file)) files
+  pub all : All (λ reply. IsSomeAnd reply.octets AreFit → Any (λ file. file.name ≡ reply.name) files) replies
+
+-- the names that a tree replied to, in order, and the files of its replies
+pub record Learnt : Type 0 where
+  pub asked : List (List ℕ)
+  pub files : List File
+
+-- the names and the files of these replies
+pub record IsLearntFrom (replies : List Reply) (learnt : Learnt) : Type 0 where
+  pub asked : learnt.asked ≡ map (λ reply. reply.name) replies
+  pub files : AreFilesOfReplies replies learnt.files

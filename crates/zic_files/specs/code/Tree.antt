@@ -1,0 +1,24 @@
+-- The image that a reply gives.
+use Rattle.std.specs.Prelude.{◌≡◌, ◌⊎◌, ℕ, List, [], ◌∷◌, Option, Some, None, All, Contains, IfSome}
+use Rattle.zic_tzif.specs.Reading.{IsFile}
+use Rattle.zic_files.specs.File.{File, FileImage}
+use Rattle.zic_files.specs.Fit.{IsFit, AreFit}
+use Rattle.zic_files.specs.Tree.{Reply, Gains}
+
+-- an image of the bytes of the reply, where rows can be made of them, and else none
+abbrev pub IsImageOf : Reply → Option FileImage → Type 0
+IsImageOf reply None = IfSome reply.octets (λ octets. AreFit octets → ⊥)
+IsImageOf reply (Some image) = (reply.octets ≡ Some image.octets) × IsFile image.octets image.content × IsFit image.content
+
+-- the tree was asked for the name of each file
+abbrev pub AreOfNames : List (List ℕ) → List File → Type 0
+AreOfNames asked files = All (λ file. Contains asked file.name) files
+
+-- the tree gave a reply for this name, or none
+abbrev pub IsAtMostOne : Option (List Reply) → Option (List Reply) → List ℕ → Type 0
+IsAtMostOne old new name = Gains old new [] ⊎ ((reply : Reply) × Gains old new (reply ∷ []) × (reply.name ≡ name))
+
+-- the file of a name, if there is an image
+abbrev pub files_named : List ℕ → Option FileImage → List File
+files_named name None = []
+files_named name (Some image) = record { name = name; image = image } ∷ []

@@ -1,0 +1,192 @@
+//! Files of a tree from outside, each read once its name is needed.
+
+ghost use Rattle.std.specs.Prelude.{◌≡◌, true, [], ◌∷◌, ◌++◌, List, Some, All, Contains, ◌≢◌, IfOk, IfErr, IfSome, option_map};
+ghost use Rattle.zic_words.specs.Name.{is_name};
+ghost use Rattle.zic_files.specs.Fit.{IsFit};
+ghost use Rattle.zic_files.specs.Sound.{AreSoundFiles};
+ghost use Rattle.zic_files.specs.Tree.{AreAsked, AreOfName, Gains, IsLearntFrom, IsSettled, Reply};
+ghost use Rattle.zic_files.specs.code.Tree.{IsAtMostOne, IsImageOf, files_named};
+
+use crate::files::Files;
+use crate::image::{Image, Unfit};
+use crate::names::Names;
+use std::alloc::{AllocError, Global};
+use std::marker::Model;
+use zic_tzif::laws::{files_have_no_fault, files_say_one};
+use zic_words::Name;
+
+/// A tree of files by name.
+pub trait ZoneTree {
+    ghost use Rattle.std.specs.Prelude.{List, Option, None};
+    ghost use Rattle.zic_files.specs.Tree.{Reply};
+
+    // what the tree was asked for and what it gave, in order, where that is known
+    ghost replied: { Self → Option (List Reply) } = { λ _. None };
+
+    /// Returns the bytes of the file of this name, or `None` where there is none.
+    fn read(&mut self, alloc: Global, name: &Name) -> Result<Option<Vec<u8>>, AllocError>
+        ensures ok { IfOk result (λ octets. Gains (replied self.old) (replied self.new)
+            (record { name = name.now; octets = option_map (λ v. v.items) octets } ∷ [])) }
+        ensures err { IfErr result (λ _. Gains (replied self.old) (replied self.new) []) };
+}
+
+/// The files of a tree that rows are made of, as far as it was asked for their names. Clauses see
+/// the names and the files.
+#[derive(Drop)]
+pub struct TreeFiles {
+    asked: Names,
+    files: Files,
+}
+
+impl Model for TreeFiles {
+    ghost use Rattle.zic_files.specs.Tree.{Learnt};
+
+    ghost Value = { Learnt };
+
+    ghost use Rattle.zic_files.specs.code.Tree.{AreOfNames};
+
+    ghost view = { λ t. record { asked = t.asked; files = t.files } };
+
+    ghost invariant = { λ t. AreOfNames t.asked t.files };
+}
+
+impl TreeFiles {
+    /// Returns no files, of a tree that was asked for nothing.
+    pub fn new(alloc: Global) -> TreeFiles
+        ensures { IsLearntFrom [] result }
+    {
+        let asked = Names::new(alloc);
+        match Files::new(alloc, Vec::new(alloc), Vec::new(alloc)) {
+            Ok(files) => TreeFiles { asked, files },
+            // No files need no memory.
+            Err(AllocError) => unreachable!(),
+        }
+    }
+
+    /// Returns the files.
+    pub fn files(&self) -> &Files
+        ensures { result.now ≡ self.now.files }
+    {
+        &self.files
+    }
+
+    /// Asks the tree for a name, unless it was asked for it before or no zone may have it, and adds
+    /// its file if rows can be made of it.
+    ///
+    /// # Errors
+    ///
+    /// Fails only where memory is refused for a name that is asked for. What was learnt is open
+    /// then.
+    pub fn learn<T: ZoneTree>(
+        &mut self,
+        alloc: Global,
+        tree: &mut T,
+        name: &[u8],
+    ) -> Result<(), AllocError>
+        ensures ok { (replies : List Reply) → IsLearntFrom replies self.old
+            → IfOk result (λ _. (more : List Reply)
+            × Gains (T.replied tree.old) (T.replied tree.new) more
+            × IsLearntFrom (replies ++ more) self.new × IsSettled (replies ++ more) name.now
+            × AreOfName name.now more) }
+        ensures err { (replies : List Reply) → IsLearntFrom replies self.old
+            → IfErr result (λ _. (more : List Reply)
+            × Gains (T.replied tree.old) (T.replied tree.new) more × AreAsked (replies ++ more)
+            × AreOfName name.now more) }
+        ensures memory { IfErr result
+            (λ _. (is_name name.now ≡ true) × (Contains self.old.asked name.now → ⊥)) }
+    {
+        if self.asked.has(name) {
+            return Ok(());
+        }
+        match Name::parse(alloc, name) {
+            Some(name) => self.ask(alloc, tree, name?),
+            None => Ok(()),
+        }
+    }
+
+    /// Asks the tree for a name, and adds its file if rows can be made of it.
+    fn ask<T: ZoneTree>(
+        &mut self,
+        alloc: Global,
+        tree: &mut T,
+        name: Name,
+    ) -> Result<(), AllocError>
+        requires { Contains self.old.asked name → ⊥ }
+        ensures ok { (replies : List Reply) → IsLearntFrom replies self.old
+            → IfOk result (λ _. (reply : Reply)
+            × Gains (T.replied tree.old) (T.replied tree.new) (reply ∷ [])
+            × IsLearntFrom (replies ++ reply ∷ []) self.new × (reply.name ≡ name)) }
+        ensures err { (replies : List Reply) → IsLearntFrom replies self.old
+            → IfErr result (λ _. (more : List Reply)
+            × Gains (T.replied tree.old) (T.replied tree.new) more × AreAsked (replies ++ more)
+            × AreOfName name more) }
+    {
+        // The name is one of a zone.
+        let _ = name.octets();
+        let image = image_of(alloc, tree, &name)?;
+        self.keep(alloc, name, image)
+    }
+
+    /// Adds a name that the tree was asked for, and its file if there is an image.
+    fn keep(&mut self, alloc: Global, name: Name, image: Option<Image>) -> Result<(), AllocError>
+        requires new { Contains self.old.asked name → ⊥ }
+        requires fit { IfSome image (λ i. IsFit i.content) }
+        ensures asked { IfOk result (λ _. self.new.asked ≡ self.old.asked ++ name ∷ []) }
+        ensures files { IfOk result
+            (λ _. self.new.files ≡ self.old.files ++ files_named name image) }
+        ensures sound { IfOk result (λ _. AreSoundFiles self.new.files) }
+    {
+        self.asked.add(alloc, name.clone()?)?;
+        self.keep_file(alloc, name, image)
+    }
+
+    /// Adds the file of a name that the tree was asked for, if there is an image.
+    fn keep_file(
+        &mut self,
+        alloc: Global,
+        name: Name,
+        image: Option<Image>,
+    ) -> Result<(), AllocError>
+        requires asked { Contains self.old.asked name }
+        requires new { All (λ file. file.name ≢ name) self.old.files }
+        requires fit { IfSome image (λ i. IsFit i.content) }
+        ensures asked { IfOk result (λ _. self.new.asked ≡ self.old.asked) }
+        ensures files { IfOk result
+            (λ _. self.new.files ≡ self.old.files ++ files_named name image) }
+        ensures sound { IfOk result (λ _. AreSoundFiles self.new.files) }
+    {
+        if let Some(image) = image {
+            self.files.add(alloc, name, image)?;
+        }
+        // They are sound.
+        let _ = self.files.len();
+        Ok(())
+    }
+}
+
+/// Returns the image of the file that a tree has under a name, or `None` where it has none that
+/// rows can be made of.
+fn image_of<T: ZoneTree>(
+    alloc: Global,
+    tree: &mut T,
+    name: &Name,
+) -> Result<Option<Image>, AllocError>
+    ensures ok { IfOk result (λ image. (reply : Reply)
+        × Gains (T.replied tree.old) (T.replied tree.new) (reply ∷ [])
+        × (reply.name ≡ name.now) × IsImageOf reply image) }
+    ensures err { IfErr result (λ _. IsAtMostOne (T.replied tree.old) (T.replied tree.new) name.now) }
+{
+    // Bytes that are refused are no file that rows can be made of.
+    files_have_no_fault();
+    files_say_one();
+    let Some(octets) = tree.read(alloc, name)? else {
+        return Ok(None);
+    };
+    match Image::read(alloc, octets) {
+        Ok(image) => Ok(Some(image)),
+        Err(Unfit::Memory) => Err(AllocError),
+        Err(Unfit::Bad(_)) => Ok(None),
+        Err(Unfit::NoFooter) => Ok(None),
+        Err(Unfit::OutsideLimits) => Ok(None),
+    }
+}
