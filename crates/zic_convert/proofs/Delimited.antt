@@ -11,7 +11,7 @@ use Rattle.std.proofs.lemmas.List.{length-map}
 use Rattle.std.proofs.lemmas.List.Elements.{All-contains, All-tail}
 use Rattle.csv.specs.Reading.{strip_bom}
 use Rattle.zic_words.specs.Dash.{is_dash}
-use Rattle.zic_words.specs.Name.{is_name_byte, is_name_part}
+use Rattle.zic_words.specs.Name.{is_name, is_name_byte, is_name_part}
 use Rattle.zic_words.specs.declared.name.TheConstants.{LONGEST_NAME}
 use Rattle.zic_columns.specs.Column.{column_records}
 use Rattle.zic_columns.specs.Exchange.{CanDelimit, exchange, exchanged}
@@ -144,16 +144,20 @@ module _ (d : ℕ) (o : IsOutside d) where
   count_same u [] = refl
   count_same u (b ∷ bytes) = rw (minus_same b, number_same _ bytes, number_same _ (b ∷ bytes)) refl
 
-  field_same : (fields : List (List ℕ)) (index : ℕ) → field_at (map (exchanged d) fields) index ≡ exchanged d (field_at fields index)
+  -- a name stays as it is
+  pub name_as_put : (name : List ℕ) → is_name name ≡ true → exchanged d name ≡ name
+  name_as_put name is =
+      let (front, parts) = and_parts (nat_le (length name) LONGEST_NAME && not (is_dash name) && list_all is_name_byte name) (list_all is_name_part (slice_split (λ byte. byte == 47) name)) is in
+      let (others, bytes) = and_parts (nat_le (length name) LONGEST_NAME && not (is_dash name)) (list_all is_name_byte name) front in
+      all_kept is_name_byte name_row name bytes
+
+  pub field_same : (fields : List (List ℕ)) (index : ℕ) → field_at (map (exchanged d) fields) index ≡ exchanged d (field_at fields index)
   field_same fields index = get_or-map (exchanged d) fields index []
 
   module _ (files : List File) (sound : AreSoundFiles files) where
     -- the name of a file stays as it is
     name_kept : (file : File) → IsSoundFile file → exchanged d file.name ≡ file.name
-    name_kept file is =
-        let (front, parts) = and_parts (nat_le (length file.name) LONGEST_NAME && not (is_dash file.name) && list_all is_name_byte file.name) (list_all is_name_part (slice_split (λ byte. byte == 47) file.name)) is.named in
-        let (others, bytes) = and_parts (nat_le (length file.name) LONGEST_NAME && not (is_dash file.name)) (list_all is_name_byte file.name) front in
-        all_kept is_name_byte name_row file.name bytes
+    name_kept file is = name_as_put file.name is.named
 
     equal_same : (a b : List ℕ) → exchanged d a ≡ a → bytes_eq a (exchanged d b) ≡ bytes_eq a b
     equal_same a b same = same_from_decides (bytes_eq a (exchanged d b)) (bytes_eq a b) (bytes_decides a (exchanged d b)) (

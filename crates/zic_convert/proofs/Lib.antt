@@ -20,3 +20,7 @@ pub mod Progress
 pub mod Halts
 pub mod Once
 pub mod InMemory
+pub mod Asking
+pub mod Staying
+mod Trees
+mod TreeEnds

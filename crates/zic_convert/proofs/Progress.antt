@@ -1,5 +1,5 @@
 -- How far a conversion has come.
-use Rattle.std.proofs.Common.{◌≡◌, ◌+◌, ℕ, List, [], ◌++◌, drop, length, map, Option, Some, None, refl, sym, ap, subst, ◌∙◌, append_assoc, arith}
+use Rattle.std.proofs.Common.{◌≡◌, ◌+◌, ◌<◌, ℕ, List, [], ◌∷◌, ◌++◌, drop, length, map, Option, Some, None, refl, sym, ap, subst, ◌∙◌, append_assoc, arith}
 use Rattle.std.specs.Prelude.{All, IfErr, IfOk, IfSome, Result, Ok, Err, option_map}
 use Rattle.std.specs.List.{concat}
 use Rattle.std.specs.Io.{StartsWith}
@@ -52,6 +52,11 @@ round_taken d old new pieces takes = if_some old _ (λ bytes e.
 -- records that are taken come next
 pub taken_come_next : (d : ℕ) (old new : Option (List ℕ)) (rs : List Whole) → Takes d old new rs → ComeNext d old rs
 taken_come_next d old new rs takes = if_some old _ (λ bytes e. (let t = for_some old _ bytes takes e in (wholes_in d t.0, t.2)))
+
+-- a round without a piece takes no record
+pub no_piece : (d : ℕ) (old new : Option (List ℕ)) (pieces : List (List ℕ)) → (0 < length pieces → ⊥) → Takes d old new (wholes_of_all d pieces) → Takes d old new []
+no_piece d old new [] none takes = takes
+no_piece d old new (p ∷ ps) none takes = absurd (none (omega arith))
 
 module _ (layout : Layout) (files : List File) (most : ℕ) (all : List Whole) where
   -- nothing yet
@@ -284,7 +289,7 @@ begun header known left next is passes = if_some known _ (λ bytes e. for_some l
 module _ {A : Type 0} (d : ℕ) (known left : Option (List ℕ)) (P : A → List Whole → Type 0) (Q : A → List ℕ → Type 0) (header : Header)
     (is : IfSome known (λ bytes. BeginsRows header bytes left))
     (below : (a : A) (bytes : List ℕ) → known ≡ Some bytes → P a (drop (records_before header) (wholes_in d (strip_bom bytes))) → Q a bytes) where
-  begun_as : (a : A) → IfSome left (λ bytes. P a (wholes_in d bytes)) → IfSome known (Q a)
+  pub begun_as : (a : A) → IfSome left (λ bytes. P a (wholes_in d bytes)) → IfSome known (Q a)
   begun_as a p = if_some known _ (λ bytes e.
       let (rest, at, same) = for_some known _ bytes is e in
       let all : wholes_in d rest ≡ drop (records_before header) (wholes_in d (strip_bom bytes)) =
@@ -321,7 +326,7 @@ module _ {A : Type 0} (known left : Option (List ℕ)) (f : List ℕ → List �
   made_of None a p = tt
   made_of (Some bytes) a p = same a bytes p
 
-  made_as : (a : A) → IfSome left (P a) → IfSome known (Q a)
+  pub made_as : (a : A) → IfSome left (P a) → IfSome known (Q a)
   made_as a p = made_of known a (subst (λ (o : Option (List ℕ)). IfSome o (P a)) is p)
 
   module _ {E : Type 0} where

@@ -4,6 +4,7 @@ pub mod LayoutRows
 pub mod Column
 pub mod Convert
 pub mod Log
+pub mod Tree
 pub mod Laws
 pub use Rattle.zic_rows.specs.Instant
 pub use Rattle.zic_rows.specs.Row

@@ -7,3 +7,4 @@ pub mod ReadyZone
 pub mod Pieces
 pub mod Written
 pub mod Halt
+pub mod Learn

@@ -50,7 +50,7 @@ const USUAL_RECORD: u64 = 48;
 
 /// Returns the number of bytes that a round is to have: some pieces for each worker, of usual
 /// records.
-fn round_len(plan: &Plan) -> usize {
+pub(crate) fn round_len(plan: &Plan) -> usize {
     let usual = PIECES_FOR_EACH * plan.workers() * plan.row_piece() * USUAL_RECORD;
     usual.clamp(SHORTEST_ROUND, LONGEST_ROUND) as usize
 }
@@ -104,9 +104,9 @@ fn convert_rounds<T: Threads + Wait + Sync, R: Read + Drop, W: Write, G: Gate + 
 
 /// A column after its header, and the header's own bytes, which are none where it has no header.
 #[derive(Drop)]
-struct Begun<R: Read> {
-    column: Column<R>,
-    header: Vec<u8>,
+pub(crate) struct Begun<R: Read> {
+    pub(crate) column: Column<R>,
+    pub(crate) header: Vec<u8>,
 }
 
 /// Begins a column after its header, if it has one.
@@ -114,8 +114,9 @@ struct Begun<R: Read> {
 /// # Errors
 ///
 /// `Unread` where the column can't be read on.
-fn begin_column<T: Threads + Wait + Sync, R: Read + Drop, G: Gate + Sync>(
-    setting: &Setting<'_, T, G>,
+pub(crate) fn begin_column<R: Read + Drop>(
+    alloc: Global,
+    plan: &Plan,
     layout: &Layout,
     reader: R,
 ) -> Result<Begun<R>, Unread>
@@ -124,14 +125,14 @@ fn begin_column<T: Threads + Wait + Sync, R: Read + Drop, G: Gate + Sync>(
     ensures header { IfOk result (λ begun. IfSome (R.remaining reader)
         (λ bytes. begun.header.items ≡ own_header layout.now.header (own_texts (strip_bom bytes)))) }
 {
-    let mut column = Column::new(setting.alloc, reader, setting.plan.max_bytes())?;
+    let mut column = Column::new(alloc, reader, plan.max_bytes())?;
     match layout.header {
         Header::Absent => {
-            let header = Vec::new(setting.alloc);
+            let header = Vec::new(alloc);
             Ok(Begun { column, header })
         }
         Header::First => {
-            let header = column.pass_record(setting.alloc, round_len(setting.plan))?;
+            let header = column.pass_record(alloc, round_len(plan))?;
             Ok(Begun { column, header })
         }
     }
@@ -169,7 +170,7 @@ fn convert_records<T: Threads + Wait + Sync, R: Read + Drop, W: Write, G: Gate +
 {
     prove!(setting.files.len() <= usize::MAX);
     files_answer_once();
-    let Begun { column, header } = begin_column(setting, layout, reader)?;
+    let Begun { column, header } = begin_column(setting.alloc, setting.plan, layout, reader)?;
     let line = header_line(layout, header)?;
     write_all(writer, &line)?;
     convert_rounds(setting, layout, column, writer, log)
@@ -265,7 +266,7 @@ fn convert_delimited<
 
 /// Returns why reading the column ended. The reader had counted `failures` failures and `taken`
 /// bytes before, and may have taken `most` bytes since.
-fn reading_stop<R>(reader: &Counted<R>, failures: u64, taken: u64, most: u64) -> RunStop
+pub(crate) fn reading_stop<R>(reader: &Counted<R>, failures: u64, taken: u64, most: u64) -> RunStop
     ensures { IsReadingStop reader.now failures taken most result }
 {
     if reader.has_failed_since(failures) {

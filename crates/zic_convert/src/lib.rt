@@ -7,6 +7,7 @@ mod conversion;
 mod faulty;
 mod halt;
 pub mod laws;
+mod learning;
 mod log;
 mod output;
 mod pieces;
@@ -16,7 +17,9 @@ mod round;
 mod row;
 mod row_files;
 mod setting;
+mod tree_conversion;
 mod zone_cache;
 
 pub use column::{ColumnRows, rows_of_column};
 pub use conversion::{ColumnOrder, convert, convert_after_header, convert_by};
+pub use tree_conversion::{ColumnSetting, convert_tree};

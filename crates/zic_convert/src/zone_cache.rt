@@ -12,6 +12,7 @@ mod counted;
 use crate::query::{Query, row_instant};
 use crate::ready_zone::ReadyZone;
 use crate::row_files::RowFiles;
+pub(crate) use counted::zone_name;
 use std::alloc::AllocError;
 use std::marker::Model;
 use zic_base::State;

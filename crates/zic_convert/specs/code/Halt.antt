@@ -1,13 +1,16 @@
 -- How a conversion ends early.
-use Rattle.std.specs.Prelude.{◌≡◌, ℕ, ◌+◌, ◌<◌, ◌⊎◌, List, Option}
+use Rattle.std.specs.Prelude.{◌≡◌, ℕ, ◌+◌, ◌<◌, ◌⊎◌, List, Option, IfSome}
 use Rattle.zic_counted.specs.Counts.{Counts, HasFailedSince, greatest}
 use Rattle.zic_files.specs.File.{File}
+use Rattle.zic_files.specs.Tree.{Learnt, Reply}
 use Rattle.zic_plan.specs.declared.layout.Layout.{Layout}
 use Rattle.zic_plan.specs.declared.stop.RowFault.{RowFault}
 use Rattle.zic_plan.specs.declared.stop.RunStop.{RunStop}
 use Rattle.zic_plan.specs.declared.stop.RunStop.TheVariants as stop
+use Rattle.zic_convert.specs.Column.{ConvertsBy, header_text}
 use Rattle.zic_convert.specs.Convert.{Outcome, WritesAtOf, WritesPartOf}
 use Rattle.zic_convert.specs.Log.{AreFaultsBy, NotesAt, NotesPart}
+use Rattle.zic_convert.specs.Tree.{EndsByTree, HoldsByLearnt, Run}
 use Rattle.zic_convert.specs.declared.halt.Halt.{Halt}
 use Rattle.zic_convert.specs.declared.halt.Halt.TheVariants as halt
 
@@ -42,3 +45,13 @@ IsReadingStop reader failures taken most stop.ReadFailed = HasFailedSince reader
 IsReadingStop reader failures taken most stop.ColumnTooLong = (taken + most < reader.taken) ⊎ (reader.taken ≡ greatest)
 IsReadingStop reader failures taken most stop.Memory = Unit {0}
 IsReadingStop reader failures taken most _ = ⊥
+
+-- by these files, the conversion of a column ended early
+abbrev pub EndsAtHalt : Layout → ℕ → Halt → Run → List File → Type 0
+EndsAtHalt layout most why run files = IfSome run.column (λ column.
+    WritesAtHalt (header_text layout column) (ConvertsBy files layout most column) why run.held run.held' × NotesUntilHalt files layout most column why run.log run.log')
+
+-- where the column could not be read on, the files of all replies were learnt
+abbrev pub HaltsByTree : Halt → List Reply → Option (List Reply) → Option (List Reply) → Learnt → (List File → Type 0) → Type 0
+HaltsByTree halt.Unread replies gave gives known Holds = HoldsByLearnt replies gave gives known Holds
+HaltsByTree (halt.Stop stop) replies gave gives known Holds = EndsByTree stop replies gave gives known Holds

@@ -1,12 +1,17 @@
 -- Rows that were written.
-use Rattle.std.specs.Prelude.{◌≡◌, ℕ, ◌+◌, ◌⊎◌, List, Option, Some, None}
+use Rattle.std.specs.Prelude.{◌≡◌, ℕ, ◌+◌, ◌⊎◌, true, List, Option, Some, None}
 use Rattle.std.specs.Io.KnownBytes.{Appends}
 use Rattle.zic_counted.specs.Counts.{Counts}
 use Rattle.zic_counted.specs.Written.{FailsWithin}
+use Rattle.zic_files.specs.File.{File}
+use Rattle.zic_plan.specs.Plan.{Limits}
+use Rattle.zic_plan.specs.declared.layout.Layout.{Layout}
 use Rattle.zic_plan.specs.declared.stop.RowFault.{RowFault}
 use Rattle.zic_plan.specs.declared.stop.RunStop.{RunStop}
 use Rattle.zic_plan.specs.declared.stop.RunStop.TheVariants as stop
 use Rattle.zic_convert.specs.Log.{Notes, NotesPart}
+use Rattle.zic_convert.specs.declared.halt.Halt.{Halt}
+use Rattle.zic_convert.specs.declared.halt.Halt.TheVariants as halt
 use Rattle.zic_convert.specs.code.Row.{AreRowsOf, RowsOf, wholes_of_all}
 use Rattle.zic_convert.specs.code.Pieces.{Pieces}
 
@@ -35,3 +40,13 @@ abbrev pub EndsInRound : {W : Type 0} → Pieces → (W → Option (List ℕ)) �
 EndsInRound p contents old new log log' why =
     ((why ≡ stop.Memory) × (new ≡ old) × (log' ≡ log))
     ⊎ ((rows : RowsOf) × AreRowsOf p.layout p.files p.most p.first (wholes_of_all p.layout.delimiter p.pieces) rows × EndsAtRow contents old new log log' p.first rows why)
+
+-- the pieces of a round by a layout, files and a plan; the first record is the row of this number
+abbrev pub pieces_by : Layout → List File → Limits → List (List ℕ) → ℕ → Pieces
+pieces_by layout files plan pieces first =
+    record { layout = layout; files = files; pieces = pieces; first = first; most = plan.max_rows; size = plan.row_piece; stops = true }
+
+-- the conversion ends in a round that was taken
+abbrev pub HaltsInRound : {W : Type 0} → Pieces → (W → Option (List ℕ)) → Counts W → Counts W → Option (List RowFault) → Option (List RowFault) → Halt → Type 0
+HaltsInRound p contents old new log log' halt.Unread = ⊥
+HaltsInRound p contents old new log log' (halt.Stop why) = EndsInRound p contents old new log log' why

@@ -17,7 +17,7 @@ use zic_plan::{Layout, RowKind, RowStart, ZoneFrom};
 use zic_rows::moment_of;
 
 /// Returns the name of a record's zone.
-fn zone_name<'a>(zone: &'a ZoneFrom, line: &WideRecord<'a>) -> &'a [u8]
+pub(crate) fn zone_name<'a>(zone: &'a ZoneFrom, line: &WideRecord<'a>) -> &'a [u8]
     ensures { result.now ≡ zone_in zone.now (wide_fields line.now) }
 {
     match zone {

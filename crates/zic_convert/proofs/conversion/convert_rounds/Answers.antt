@@ -1,21 +1,15 @@
-use Rattle.std.proofs.Common.{◌<◌, ◌+◌, ◌∙◌, ℕ, List, [], ◌∷◌, length, Option, ap, refl, sym, rules, arith}
+use Rattle.std.proofs.Common.{◌<◌, ◌+◌, ◌∙◌, [], length, ap, refl, sym, rules, arith}
 use Rattle.std.proofs.lemmas.Result.{err_from_is_err_and}
 use Rattle.zic_columns.specs.Round.{unread}
 use Rattle.zic_convert.specs.code.Pieces.{Pieces}
-use Rattle.zic_convert.specs.code.Progress.{Takes}
 use Rattle.zic_convert.specs.code.Row.{wholes_in, wholes_of_all}
 use Rattle.zic_convert.proofs.Halts.{all_done, as_many, ends_at_flush, ends_in_round, goes_on, no_more, noted_in_round}
 use Rattle.zic_convert.proofs.Joining.{rows_of_round, some_records}
 use Rattle.zic_convert.proofs.Logs.{all_noted, part_none, unread_noted}
 use Rattle.zic_convert.proofs.Options.{if_some}
-use Rattle.zic_convert.proofs.Progress.{at_start, none_taken, round_taken, taken_come_next, unread_from, unread_part}
+use Rattle.zic_convert.proofs.Progress.{at_start, no_piece, none_taken, round_taken, taken_come_next, unread_from, unread_part}
 use Rattle.zic_convert.proofs.Sounds.{all_known}
 use Rattle.zic_convert.proofs.conversion.convert_rounds.Goals as goal
-
--- a round without a piece takes no record
-no_piece : (d : ℕ) (old new : Option (List ℕ)) (pieces : List (List ℕ)) → (0 < length pieces → ⊥) → Takes d old new (wholes_of_all d pieces) → Takes d old new []
-no_piece d old new [] none takes = takes
-no_piece d old new (p ∷ ps) none takes = absurd (none (omega arith))
 
 pub loop-files-init : goal.loop-files-init
 loop-files-init g c = record {
