@@ -1,3 +1,5 @@
+pub mod FaultLemmas
 pub mod InputLemmas
 pub mod ListLemmas
 pub mod SourceLemmas
+pub mod Walks

@@ -1,3 +1,5 @@
+pub mod code
+pub mod Faults
 pub mod Output
 pub mod Sources
 pub mod Tree

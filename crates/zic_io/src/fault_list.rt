@@ -1,63 +1,120 @@
 //! The faults of rows, where a run goes on after them.
 
+ghost use Rattle.std.specs.Prelude.{OnOk};
+ghost use Rattle.zic_counted.specs.Written.{Writes};
+ghost use Rattle.zic_io.specs.Faults.{fault_line};
+
+use crate::noted::Noted;
+use itoa::Buffer;
 use std::io::Write;
+use std::marker::Model;
+use zic_counted::{Counted, WriteFailed, flush, write_all};
 use zic_names::row_kind_name;
 use zic_plan::{FaultLog, RowFault};
 
 /// Takes note of the faults of rows: counts them, keeps the first, and writes each to a file, if
 /// there is one, as the number of its row and its name with a comma between them.
 #[derive(Drop)]
-pub struct FaultList<W> {
-    file: Option<W>,
+pub struct FaultList<W: Write> {
+    file: Option<Counted<W>>,
     first: Option<RowFault>,
     count: u64,
     /// Whether a write failed. Nothing is written after that.
     has_failed: bool,
+    noted: Noted,
+}
+
+impl<W: Write> Model for FaultList<W> {
+    ghost use Rattle.zic_io.specs.Faults.{FaultNotes};
+    ghost use Rattle.zic_io.specs.code.FaultList.{notes_of, AreFieldsOf};
+
+    ghost Value = { FaultNotes W };
+
+    ghost view = { λ l. notes_of l.noted.faults l.noted.start l.file l.has_failed };
+
+    ghost invariant = { λ l. AreFieldsOf W.contents
+        (notes_of l.noted.faults l.noted.start l.file l.has_failed) l.first l.count l.has_failed };
 }
 
 impl<W: Write> FaultList<W> {
+    ghost use Rattle.std.specs.Prelude.{◌≡◌, ◌-◌, ◌^◌, true, [], length, min, slice_get, IsTrue};
+    ghost use Rattle.zic_io.specs.Faults.{held_by, HasLines};
+
     /// Returns a list without faults.
-    pub fn new(file: Option<W>) -> FaultList<W> {
+    pub fn new(file: Option<W>) -> FaultList<W>
+        ensures { result ≡ record {
+          noted = [];
+          file = file;
+          start = held_by W.contents file;
+          is_whole = true;
+        } }
+    {
+        let noted = Noted::new(&file);
+        let file = match file {
+            Some(file) => Some(Counted::new(file)),
+            None => None,
+        };
         FaultList {
             file,
             first: None,
             count: 0,
             has_failed: false,
+            noted,
         }
     }
 
     /// Returns the first fault, if there is one.
-    pub fn first(&self) -> Option<RowFault> {
+    pub fn first(&self) -> Option<RowFault>
+        ensures { result ≡ slice_get self.now.noted 0 }
+    {
         self.first
     }
 
-    /// Returns the number of faults.
-    pub fn count(&self) -> u64 {
+    /// Returns the number of faults, or the greatest `u64` where there are more.
+    pub fn count(&self) -> u64
+        ensures { result ≡ min (length self.now.noted) (2 ^ 64 - 1) }
+    {
         self.count
     }
 
     /// Has the file pass on what it holds back. Returns whether all faults were written, if there
     /// is a file.
-    pub fn finish(&mut self) -> bool {
+    pub fn finish(&mut self) -> bool
+        ensures lines { IsTrue result → HasLines W.contents self.new }
+        ensures noted { self.new.noted ≡ self.old.noted }
+        ensures start { self.new.start ≡ self.old.start }
+    {
         if let Some(file) = &mut self.file {
-            self.has_failed = self.has_failed || file.flush().is_err();
+            self.has_failed = self.has_failed || flush(file).is_err();
         }
         !self.has_failed
     }
 }
 
 impl<W: Write> FaultLog for FaultList<W> {
+    ghost use Rattle.std.specs.Prelude.{Some};
+
+    ghost noted = { λ l. Some l.noted };
+
     fn note(&mut self, fault: RowFault) {
-        if self.first.is_none() {
-            self.first = Some(fault);
-        }
+        self.first = self.first.or(Some(fault));
         self.count = self.count.saturating_add(1);
+        self.noted = self.noted.and(&fault);
         if self.has_failed {
             return;
         }
         if let Some(file) = &mut self.file {
-            let name = row_kind_name(fault.kind);
-            self.has_failed = writeln!(file, "{},{name}", fault.row).is_err();
+            self.has_failed = write_fault(file, fault).is_err();
         }
     }
+}
+
+/// Writes the line of a fault.
+fn write_fault<W: Write>(file: &mut Counted<W>, fault: RowFault) -> Result<(), WriteFailed>
+    ensures { OnOk result (Writes W.contents file.old file.new (fault_line fault)) }
+{
+    write_all(file, Buffer::new().format(fault.row).as_bytes())?;
+    write_all(file, b",")?;
+    write_all(file, row_kind_name(fault.kind).as_bytes())?;
+    write_all(file, b"\n")
 }

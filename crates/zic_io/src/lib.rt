@@ -7,10 +7,12 @@ mod failure;
 mod fault_list;
 mod input;
 mod link_kind;
+mod noted;
 mod output;
 mod progress;
 mod sources;
 mod tree;
+mod zone_folder;
 
 pub use failure::{Failure, run_failure, unknown_zone};
 pub use fault_list::FaultList;
@@ -20,3 +22,4 @@ pub use output::write_output;
 pub use progress::{Progress, Told};
 pub use sources::{read_file, read_sources};
 pub use tree::{Disk, Tree, Unplaced};
+pub use zone_folder::ZoneFolder;

@@ -1,0 +1,40 @@
+//! The faults that a list has noted, as proofs know them.
+
+ghost use Rattle.std.specs.Prelude.{◌≡◌, ℕ, [], ◌∷◌, ◌++◌, List, Option};
+ghost use Rattle.std.specs.Borrow.{ftrue};
+ghost use Rattle.zic_plan.specs.declared.stop.RowFault.{RowFault};
+
+use std::marker::{Model, PhantomData};
+use zic_plan::RowFault;
+
+/// Faults in the order in which they were noted, and what a file held before them, where that is
+/// known. Only proofs read this: it takes no memory, and its methods do nothing when the program
+/// runs.
+#[derive(Drop)]
+pub(crate) struct Noted {
+    none: PhantomData<()>,
+    pub(crate) ghost faults: { List RowFault },
+    pub(crate) ghost start: { Option (List ℕ) },
+}
+
+impl Model for Noted {
+    ghost also_owns = { λ _. ftrue };
+}
+
+impl Noted {
+    /// Returns no faults, for a file that holds what the caller says.
+    pub(crate) fn new<T>(_file: &T) -> Noted
+        ghost held: { Option (List ℕ) }
+        ensures { (result.faults ≡ []) × (result.start ≡ held) }
+    {
+        Noted { none: PhantomData }
+    }
+
+    /// Returns these faults and one more.
+    pub(crate) fn and(&self, fault: &RowFault) -> Noted
+        ensures { (result.faults ≡ self.now.faults ++ fault.now ∷ [])
+            × (result.start ≡ self.now.start) }
+    {
+        Noted { none: PhantomData }
+    }
+}
