@@ -5,3 +5,5 @@ pub mod NameLemmas
 pub mod OutputLemmas
 pub mod ReadingLemmas
 pub mod TreeLemmas
+pub mod TreeZoneLemmas
+pub mod TreeRunLemmas

@@ -7,9 +7,7 @@ use Rattle.std.proofs.lemmas.List.Elements.{All-contains, Contains-append_right}
 use Rattle.std.proofs.lemmas.Option.{same_Some, slice_get_cases, slice_get_within}
 use Rattle.std.proofs.lemmas.Slice.Zip.{AllZip-left, AllZip-long}
 use Rattle.zic_base.specs.Place.{IsBefore}
-use Rattle.zic_base.specs.declared.place.Place.{Place}
 use Rattle.zic_base.proofs.Elements.{cons_cases, contains_got, first_contained, get_contained, got}
-use Rattle.zic_base.proofs.Lists.{get_mapped}
 use Rattle.zic_base.proofs.Options.{if_at, some_of}
 use Rattle.zic_base.proofs.OrderedLists.{one_by_key}
 use Rattle.zic_lines.specs.declared.link.Link.{Link}

@@ -58,18 +58,22 @@ pub record Noted : Type 0 where
   pub before : Option (List RowFault)
   pub after : Option (List RowFault)
 
--- What the writer holds grew by the header and by the text of all rows of the column, made by the
--- files of the texts and by the layout, and there are n rows. The log took note of the faults of
--- rows after which the run went on.
-pub record ConvertsColumn {R W : Type 0} (texts : List (List ℕ)) (plan : Limits) (layout : Layout) (n : ℕ)
-    (run : Conversion R W) (log : Noted) : Type 0 where
-  pub files : List File
-  pub are_files : AreFilesOfTexts texts files
+-- By these files and the layout, what the writer holds grew by the header and by the text of all rows of
+-- the column, and there are n rows. The log took note of the faults of rows after which the run went on.
+pub record ConvertsByFiles {R W : Type 0} (plan : Limits) (layout : Layout) (n : ℕ) (run : Conversion R W) (log : Noted)
+    (files : List File) : Type 0 where
   pub has_zone : HasZone files layout.zone
   pub writes : WritesBelow (header_by layout) (λ begun held'. IfSome run.column
       (λ column. WritesAllOf (header_text layout column) (ConvertsBy files layout plan.max_rows column) n begun held'))
       run.held run.held'
   pub notes : IfSome run.column (λ column. NotesAll files layout plan.max_rows column log.before log.after)
+
+-- the texts have files, and the column is converted by them
+pub record ConvertsColumn {R W : Type 0} (texts : List (List ℕ)) (plan : Limits) (layout : Layout) (n : ℕ)
+    (run : Conversion R W) (log : Noted) : Type 0 where
+  pub files : List File
+  pub are_files : AreFilesOfTexts texts files
+  pub converts : ConvertsByFiles plan layout n run log files
 
 -- the texts have files, but none for the zone of all rows; nothing is read of the column, and nothing
 -- is written
@@ -81,13 +85,8 @@ pub record IsFailureWithoutZone {R W : Type 0} (texts : List (List ℕ)) (layout
   pub unread : run.reader' ≡ run.reader
   pub unwritten : run.writer' ≡ run.writer
 
--- the texts have files, nothing is read of the column, and a beginning of the header is written,
--- perhaps all of it
-pub record IsFailureOfHeaderBy {R W : Type 0} (texts : List (List ℕ)) (layout : Layout)
-    (run : Conversion R W) (failure : Failure) : Type 0 where
-  pub files : List File
-  pub are_files : AreFilesOfTexts texts files
-  pub has_zone : HasZone files layout.zone
+-- nothing is read of the column, and a beginning of the header is written, perhaps all of it
+pub record EndsAtHeader {R W : Type 0} (layout : Layout) (run : Conversion R W) (failure : Failure) : Type 0 where
   pub is : failure ≡ failures.CannotWriteRows
   pub unread : run.reader' ≡ run.reader
   pub part : List ℕ
@@ -95,19 +94,33 @@ pub record IsFailureOfHeaderBy {R W : Type 0} (texts : List (List ℕ)) (layout 
   pub wrote : Appends run.held run.held' part
   pub failed : HasFailedSince run.writer' run.writer.failures
 
--- the texts have files, and after the header line, if there is to be one, the conversion of the column ends early
-pub record IsFailureOfRows {R W : Type 0} (texts : List (List ℕ)) (plan : Limits) (layout : Layout)
-    (run : Conversion R W) (log : Noted) (failure : Failure) : Type 0 where
+-- the texts have files, also for the zone of all rows, and the header can't be written
+pub record IsFailureOfHeaderBy {R W : Type 0} (texts : List (List ℕ)) (layout : Layout)
+    (run : Conversion R W) (failure : Failure) : Type 0 where
   pub files : List File
   pub are_files : AreFilesOfTexts texts files
   pub has_zone : HasZone files layout.zone
-  pub stop : RunStop
-  pub is : failure ≡ run_failure stop (length texts)
-  pub cause : IsCauseOf plan.max_bytes run.reader run.reader' run.writer run.writer' stop
+  pub ends : EndsAtHeader layout run failure
+
+-- By these files and the layout, after the header line, if there is to be one, the conversion of the column
+-- ended early.
+pub record EndsByFiles {R W : Type 0} (plan : Limits) (layout : Layout) (stop : RunStop) (run : Conversion R W) (log : Noted)
+    (files : List File) : Type 0 where
+  pub has_zone : HasZone files layout.zone
   pub writes : WritesBelow (header_by layout) (λ begun held'. IfSome run.column
       (λ column. WritesAtOf (header_text layout column) (ConvertsBy files layout plan.max_rows column) stop begun held'))
       run.held run.held'
   pub notes : IfSome run.column (λ column. NotesUntil files layout plan.max_rows column stop log.before log.after)
+
+-- the texts have files, and the conversion of the column by them ended early
+pub record IsFailureOfRows {R W : Type 0} (texts : List (List ℕ)) (plan : Limits) (layout : Layout)
+    (run : Conversion R W) (log : Noted) (failure : Failure) : Type 0 where
+  pub files : List File
+  pub are_files : AreFilesOfTexts texts files
+  pub stop : RunStop
+  pub is : failure ≡ run_failure stop (length texts)
+  pub cause : IsCauseOf plan.max_bytes run.reader run.reader' run.writer run.writer' stop
+  pub ends : EndsByFiles plan layout stop run log files
 
 -- why nothing is read of a column that texts are to convert by a layout
 abbrev pub IsFailureBeforeColumn : {R W : Type 0} → List (List ℕ) → Layout → Conversion R W → Failure

@@ -162,7 +162,7 @@ pub fn convert_by<T: Threads + Wait + Sync, R: Read, W: Write, L: FaultLog>(
 /// # Errors
 ///
 /// `UnknownZone` where there is none, or memory ran out.
-fn find_zone(alloc: Global, files: &Files, zone: &ZoneFrom) -> Result<(), Failure>
+pub(crate) fn find_zone(alloc: Global, files: &Files, zone: &ZoneFrom) -> Result<(), Failure>
     ensures ok { OnOk result (HasZone files.now zone.now) }
     ensures err { IfErr result (IsFailureOfZone files.now zone.now) }
 {
@@ -187,7 +187,10 @@ fn line_of(start: RowStart, header: Header, line: &[u8]) -> &[u8]
 
 /// Writes the header line by a layout, if it has a header and rows begin with names, and doesn't
 /// flush.
-fn write_header_by<W: Write>(layout: &Layout, writer: &mut Counted<W>) -> Result<(), Failure>
+pub(crate) fn write_header_by<W: Write>(
+    layout: &Layout,
+    writer: &mut Counted<W>,
+) -> Result<(), Failure>
     ensures ok { OnOk result (Writes W.contents writer.old writer.new (header_by layout.now)) }
     ensures failure { IfErr result (λ failure. failure ≡ CannotWriteRows) }
     ensures fails { OnErr result

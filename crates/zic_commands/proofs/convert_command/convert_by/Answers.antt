@@ -27,12 +27,14 @@ returns-in_err-write_header_by-clause-err g c =
         files = c.in_ok-files.files;
         are_files = c.in_ok-files.ensures.ok;
         has_zone = c.in_ok-find_zone.ensures.ok;
-        is = c.in_err-write_header_by.ensures.failure;
-        unread = refl;
-        part = fails.part;
-        starts = fails.starts;
-        wrote = fails.wrote;
-        failed = fails.failed;
+        ends = record {
+          is = c.in_err-write_header_by.ensures.failure;
+          unread = refl;
+          part = fails.part;
+          starts = fails.starts;
+          wrote = fails.wrote;
+          failed = fails.failed;
+        };
       })),
     ))
 
@@ -40,29 +42,33 @@ pub returns-in-Ok-clause-ok : goal.returns-in-Ok-clause-ok
 returns-in-Ok-clause-ok g c = record {
   files = c.in_ok-files.files;
   are_files = c.in_ok-files.ensures.ok;
-  has_zone = c.in_ok-find_zone.ensures.ok;
-  writes = record {
-    begun = g.W.Write.contents c.write_header_by.new.writer.inner;
-    header = c.in_ok-write_header_by.ensures.ok.wrote;
-    rows = c.in-Ok.ensures.ok;
+  converts = record {
+    has_zone = c.in_ok-find_zone.ensures.ok;
+    writes = record {
+      begun = g.W.Write.contents c.write_header_by.new.writer.inner;
+      header = c.in_ok-write_header_by.ensures.ok.wrote;
+      rows = c.in-Ok.ensures.ok;
+    };
+    notes = c.in-Ok.ensures.noted;
   };
-  notes = c.in-Ok.ensures.noted;
 }
 
 pub returns-clause-err : goal.returns-clause-err
 returns-clause-err g c = inr (record {
   files = c.in_ok-files.files;
   are_files = c.in_ok-files.ensures.ok;
-  has_zone = c.in_ok-find_zone.ensures.ok;
   stop = c.in-Err.stop;
   is = search (rules, c.run_failure.ensures);
   cause = same_cause c.args.job.now.plan.now.max_bytes c.args.reader.now c.convert_by.new.reader c.args.writer.now
       c.write_header_by.new.writer c.convert_by.new.writer c.in_ok-write_header_by.ensures.ok.counts.failures c.in-Err.stop
       c.in-Err.ensures.cause;
-  writes = record {
-    begun = g.W.Write.contents c.write_header_by.new.writer.inner;
-    header = c.in_ok-write_header_by.ensures.ok.wrote;
-    rows = c.in-Err.ensures.err;
+  ends = record {
+    has_zone = c.in_ok-find_zone.ensures.ok;
+    writes = record {
+      begun = g.W.Write.contents c.write_header_by.new.writer.inner;
+      header = c.in_ok-write_header_by.ensures.ok.wrote;
+      rows = c.in-Err.ensures.err;
+    };
+    notes = c.in-Err.ensures.noted_until;
   };
-  notes = c.in-Err.ensures.noted_until;
 })
