@@ -4,6 +4,7 @@
 mod converting;
 mod folder;
 mod placing;
+mod tree_files;
 
 use crate::samples::{Defect, Device, Sink, UTC_FILE, copy_of, expect, expect_text, must};
 use std::alloc::Global;

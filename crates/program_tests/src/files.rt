@@ -12,7 +12,7 @@ use zic_pieces::{Gate, Open};
 use zic_source::{Kind, Place, Stop};
 
 /// Returns the names and the sizes in bytes of the files, in order.
-fn listed(rt: &impl Abort, alloc: Global, files: &Files) -> Vec<u8> {
+pub fn listed(rt: &impl Abort, alloc: Global, files: &Files) -> Vec<u8> {
     let mut lines = Vec::new(alloc);
     for file in 0..files.len() {
         must(rt, lines.extend_from_slice(files.name(file)));

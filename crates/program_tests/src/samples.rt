@@ -12,6 +12,7 @@ use std::thread;
 use zic_bulk::{Files, compile};
 use zic_pieces::Gate;
 use zic_source::{Source, Stop, read_source};
+use zic_words::Name;
 
 /// The file of `Zone Etc/UTC 0 - UTC`, with the parts of RFC 9636: two headers, an empty first
 /// block, one local time type, its designation and the footer.
@@ -50,6 +51,11 @@ pub fn words_of(rt: &impl Abort, alloc: Global, text: &str) -> Vec<String> {
         must(rt, words.push(must(rt, String::from_str(alloc, word))));
     }
     words
+}
+
+/// Returns the name of a zone.
+pub fn name_of(rt: &impl Abort, alloc: Global, text: &str) -> Name {
+    must(rt, must(rt, Name::parse(alloc, text.as_bytes()).ok_or(())))
 }
 
 /// Returns copies of texts.

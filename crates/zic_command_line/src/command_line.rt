@@ -46,7 +46,7 @@ pub enum Request {
         plan: Plan,
         links: Links,
     },
-    /// Compile a source, and convert a column by its files.
+    /// Convert a column by the files of a source, which is compiled, or of a folder.
     Convert(Conversion),
     /// Tell what a file says of an instant.
     Show {
@@ -68,10 +68,19 @@ pub enum Request {
     },
 }
 
+/// Where the zones of a column come from.
+#[derive(Debug, Drop)]
+pub enum Zones {
+    /// A source that is compiled.
+    Source(String),
+    /// The TZif files of a folder.
+    Tree(String),
+}
+
 /// What a column is converted by, and what is told of its rows.
 #[derive(Debug, Drop)]
 pub struct Conversion {
-    pub source: String,
+    pub zones: Zones,
     pub plan: Plan,
     /// How the column is read, and what its rows are.
     pub layout: Layout,
@@ -188,19 +197,32 @@ fn links_of(alloc: Global, matches: &ArgMatches<'_>) -> Result<Links, NoRequest>
 }
 
 fn convert(alloc: Global, matches: &ArgMatches<'_>) -> Result<Request, NoRequest> {
-    let source = word(alloc, matches, "SOURCE")?;
-    if source.as_str() == STANDARD_INPUT {
-        return Err(usage(alloc, "standard input is the column, so SOURCE can't be -"));
-    }
+    let zones = zones_of(alloc, matches)?;
     let plan = column_plan(alloc, matches)?;
     let layout = layout(alloc, matches)?;
     Ok(Request::Convert(Conversion {
-        source,
+        zones,
         plan,
         layout,
         faults: optional(alloc, matches, "faults")?,
         progress: matches.get_flag("progress"),
     }))
+}
+
+/// Returns where the zones of a column come from.
+fn zones_of(alloc: Global, matches: &ArgMatches<'_>) -> Result<Zones, NoRequest> {
+    match (matches.get_str("SOURCE"), matches.get_str("tree")) {
+        (Some(STANDARD_INPUT), None) => {
+            Err(usage(alloc, "standard input is the column, so SOURCE can't be -"))
+        }
+        (Some(source), None) => Ok(Zones::Source(String::from_str(alloc, source)?)),
+        (None, Some(folder)) => Ok(Zones::Tree(String::from_str(alloc, folder)?)),
+        (None, None) => Err(usage(alloc, "SOURCE or --tree DIR is missing")),
+        (Some(_), Some(_)) => Err(usage(
+            alloc,
+            "--tree is given in place of SOURCE, not beside it",
+        )),
+    }
 }
 
 fn show(alloc: Global, matches: &ArgMatches<'_>) -> Result<Request, NoRequest> {

@@ -38,6 +38,8 @@ enum Form {
     Field,
     /// An option that is the path of a file.
     Path,
+    /// An option that is the path of a folder.
+    Folder,
     /// An option that says what stands between fields, a comma by default.
     Delimiter,
     /// An option that is one of `UNIT_WORDS`, the first by default.
@@ -65,12 +67,6 @@ struct Described {
     about: &'static str,
     after: &'static str,
 }
-
-const SOURCE: Word = Word {
-    name: "SOURCE",
-    help: "A file of Rule, Zone and Link lines",
-    form: Form::Required,
-};
 
 const FILE: Word = Word {
     name: "FILE",
@@ -138,8 +134,17 @@ static BUILD: [Word; 6] = [
     EXPLAIN,
 ];
 
-static CONVERT: [Word; 17] = [
-    SOURCE,
+static CONVERT: [Word; 18] = [
+    Word {
+        name: "SOURCE",
+        help: "A file of Rule, Zone and Link lines",
+        form: Form::Optional,
+    },
+    Word {
+        name: "tree",
+        help: "A folder of TZif files, in place of SOURCE",
+        form: Form::Folder,
+    },
     WORKERS,
     ZONE_PIECE,
     Word {
@@ -280,7 +285,7 @@ static COMMANDS: [Described; 6] = [
     Described {
         name: "convert",
         about: "Converts lines NAME,SECONDS of standard input to local time",
-        after: "Each row is NAME,SECONDS,LOCAL TIME,OFFSET,DAYLIGHT,ABBREVIATION.\n\nExample:\n  echo Europe/Dublin,0 | pzic convert /usr/share/zoneinfo/tzdata.zi",
+        after: "Each row is NAME,SECONDS,LOCAL TIME,OFFSET,DAYLIGHT,ABBREVIATION.\n\nExample:\n  echo Europe/Dublin,0 | pzic convert /usr/share/zoneinfo/tzdata.zi\n  echo Europe/Dublin,0 | pzic convert --tree /usr/share/zoneinfo",
     },
     Described {
         name: "show",
@@ -378,6 +383,7 @@ fn option<'a>(argument: Arg<'a>, form: &'a Form) -> Arg<'a> {
         Form::Unit => choice(argument.value_name("UNIT"), &UNIT_WORDS).default_value("s"),
         Form::Zone => argument.value_name("NAME"),
         Form::Path => argument.value_name("FILE"),
+        Form::Folder => argument.value_name("DIR"),
         Form::Delimiter => argument.value_name("C").default_value(","),
         Form::Field => argument
             .value_name("N")

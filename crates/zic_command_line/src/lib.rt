@@ -6,5 +6,5 @@ mod commands;
 mod layout;
 mod no_request;
 
-pub use command_line::{Asked, Conversion, Links, Request, parse, requested};
+pub use command_line::{Asked, Conversion, Links, Request, Zones, parse, requested};
 pub use no_request::NoRequest;

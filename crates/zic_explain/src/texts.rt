@@ -527,8 +527,11 @@ Right:
 ?  Another separator, which `--delimiter` names, or more fields, of which
   `--zone-field` and `--time-field` name two. In row 1: a header with other
   columns, which `--header` passes over.
-@RowZone?The source has no zone or link of that name.?  The source has no zone or link of that name.
-?  A name exactly as in the source, including upper and lower case.
+@RowZone?The source has no zone or link of that name.?  The source has no zone or link of that name. With `--tree`: the tree has no
+  file of that name, or one that can't be read or that `pzic show` refuses. Or
+  the file has no TZ string, an offset beyond 24:00:00, or an abbreviation
+  other than 3 to 16 ASCII letters, digits, `+` and `-`.
+?  A name exactly as in the source or tree, including upper and lower case.
 ?
 The examples use:
   $ echo 'Zone Etc/UTC 0 - UTC' >utc.zi
@@ -542,7 +545,8 @@ It prints:
 Right:
   $ printf 'zone,instant\nEtc/UTC,0\n' | pzic convert --header utc.zi
 ?  In row 1: a header, which `--header` passes over. Otherwise a name of
-  another release or of `backward`, or an abbreviation such as `PST`.
+  another release or of `backward`, or an abbreviation such as `PST`. With
+  `--tree` also the path of another folder, or a file with leap seconds.
 @RowInstant?The field for it isn't an instant.?  The field for it isn't an instant.
 ?  Seconds since 1970-01-01T00:00:00 UT: 1 to 18 digits, with `-` before them
   for earlier instants, without `+`, spaces or a fraction. With `--unit` 3, 6
@@ -1009,9 +1013,10 @@ It prints:
 Right:
   $ pzic check utc.zi >listing
 ?  A full disk, or a program at the other end of the pipe that has exited.
-@unknown zone NAME?The source has no zone or link of the name that `--zone` gives.?  The source has no zone or link of the name that `--zone` gives. Nothing is
-  read of the column. Status 2.
-?  A name exactly as in the source, including upper and lower case.
+@unknown zone NAME?The source has no zone or link of the name that `--zone` gives.?  The source has no zone or link of the name that `--zone` gives. With
+  `--tree`: the tree has no file of that name that rows can be made of. Nothing
+  is read of the column. Status 2.
+?  A name exactly as in the source or tree, including upper and lower case.
 ?
 The examples use:
   $ echo 'Zone Etc/UTC 0 - UTC' >utc.zi

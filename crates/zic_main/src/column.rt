@@ -1,6 +1,6 @@
 //! The text of a record of the column, which is read again where standard input is a file.
 
-use csv::{ByteRecord, ReaderBuilder};
+use csv::{ByteRecord, Reader, ReaderBuilder};
 use std::fs::{self, Files};
 use std::io::{Read, Seek, SeekFrom};
 
@@ -53,12 +53,7 @@ fn without_start(from: u64, text: &[u8]) -> &[u8] {
 
 /// Returns the places in the column where the record of this number begins and ends.
 fn record_range<R: Files + AllocGlobal>(rt: &R, start: u64, row: u64) -> Option<(u64, u64)> {
-    let mut file = fs::open(rt, INPUT).ok()?;
-    file.seek(SeekFrom::Start(start)).ok()?;
-    let mut reader = ReaderBuilder::new()
-        .has_headers(false)
-        .flexible(true)
-        .from_reader(rt.alloc(), file);
+    let mut reader = reader_from(rt, start, b',')?;
     let mut record = ByteRecord::new(rt.alloc());
     let mut from = 0;
     for _ in 0..row {
@@ -68,4 +63,38 @@ fn record_range<R: Files + AllocGlobal>(rt: &R, start: u64, row: u64) -> Option<
         }
     }
     Some((from, reader.position().byte()))
+}
+
+/// Returns the record of this number, from 1 on, in the file of standard input from this offset on,
+/// with this byte between fields; `None` where it can't be read.
+pub(crate) fn fields_at<R: Files + AllocGlobal>(
+    rt: &R,
+    start: u64,
+    row: u64,
+    delimiter: u8,
+) -> Option<ByteRecord> {
+    let mut reader = reader_from(rt, start, delimiter)?;
+    let mut record = ByteRecord::new(rt.alloc());
+    for _ in 0..row {
+        if !reader.read_byte_record(&mut record).ok()? {
+            return None;
+        }
+    }
+    Some(record)
+}
+
+/// Returns a reader of records of the file of standard input from this offset on.
+fn reader_from<R: Files + AllocGlobal>(
+    rt: &R,
+    start: u64,
+    delimiter: u8,
+) -> Option<Reader<R::File>> {
+    let mut file = fs::open(rt, INPUT).ok()?;
+    file.seek(SeekFrom::Start(start)).ok()?;
+    let reader = ReaderBuilder::new()
+        .has_headers(false)
+        .flexible(true)
+        .delimiter(delimiter)
+        .from_reader(rt.alloc(), file);
+    Some(reader)
 }

@@ -3,9 +3,10 @@
 
 use crate::column::{column_start, record_at};
 use crate::failure::Refusal;
+use crate::refused::ZonePlace;
 use std::alloc::{AllocError, Global};
 use std::fs::Files;
-use zic_command_line::Request;
+use zic_command_line::{Request, Zones};
 use zic_explain::{entries, expectation, line_place, nearest_zone, row_place};
 use zic_io::Failure;
 use zic_names::{kind_name, reason_name, row_kind_name};
@@ -24,6 +25,8 @@ pub(crate) struct Kept {
     before: u64,
     /// Whether a record is the name of a zone and seconds, with a comma between them.
     is_plain: bool,
+    /// Where the files and the names of zones are, if a folder has the files.
+    zones: Option<ZonePlace>,
 }
 
 impl Kept {
@@ -35,6 +38,7 @@ impl Kept {
             start: column_start(rt),
             before: records_before(request),
             is_plain: has_plain_rows(request),
+            zones: zones_of(rt.alloc(), request)?,
         })
     }
 
@@ -55,11 +59,33 @@ impl Kept {
     ) -> Result<String, AllocError> {
         let alloc = rt.alloc();
         let mut text = self.place(rt, failure)?;
-        let entries = entries(alloc)?;
-        let expected = expectation(alloc, &entries, name_of(failure))?;
-        text.push_str(expected.as_str())?;
+        let mut reason = self.refused(rt, failure)?;
+        if reason.is_empty() {
+            let entries = entries(alloc)?;
+            reason = expectation(alloc, &entries, name_of(failure))?;
+        }
+        text.push_str(reason.as_str())?;
         let _ = text.pop();
         Ok(text)
+    }
+
+    /// Returns the lines that say why the file of a zone that a failure names is refused, if it is.
+    fn refused<R: Files + AllocGlobal>(
+        &self,
+        rt: &R,
+        failure: &Failure,
+    ) -> Result<String, AllocError> {
+        let Some(zones) = &self.zones else {
+            return Ok(String::new(rt.alloc()));
+        };
+        match (failure, self.start) {
+            (Failure::UnknownZone(name), _) => zones.refused_file(rt, name.as_bytes()),
+            (Failure::Row { row, kind } | Failure::Rows { row, kind, .. }, Some(start))
+                if *kind == RowKind::RowZone => {
+                zones.refused_at(rt, start, self.before.saturating_add(*row))
+            }
+            _ => Ok(String::new(rt.alloc())),
+        }
     }
 
     /// Returns the lines that say where a failure is, if it is at a place.
@@ -144,12 +170,29 @@ fn has_plain_rows(request: &Request) -> bool {
     }
 }
 
+/// Returns where the files and the names of zones are, if a folder has the files.
+fn zones_of(alloc: Global, request: &Request) -> Result<Option<ZonePlace>, AllocError> {
+    match request {
+        Request::Convert(order) => match &order.zones {
+            Zones::Tree(folder) => {
+                Ok(Some(ZonePlace::new(alloc, folder.as_str(), &order.layout)?))
+            }
+            Zones::Source(_) => Ok(None),
+        },
+        _ => Ok(None),
+    }
+}
+
 /// Returns the words of a request that name sources or a file.
 fn words_of(alloc: Global, request: &Request) -> Result<Vec<String>, AllocError> {
     let mut words = Vec::new(alloc);
     match request {
         Request::Check { source, .. } => words.push(source.clone()?)?,
-        Request::Convert(order) => words.push(order.source.clone()?)?,
+        Request::Convert(order) => {
+            if let Zones::Source(source) = &order.zones {
+                words.push(source.clone()?)?;
+            }
+        }
         Request::Build { sources, .. } => {
             for source in sources {
                 words.push(source.clone()?)?;

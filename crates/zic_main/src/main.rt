@@ -6,6 +6,7 @@
 mod column;
 mod explained;
 mod failure;
+mod refused;
 
 use explained::Kept;
 use failure::Refusal;
@@ -17,11 +18,13 @@ use std::rt::Env;
 use std::sync::Wait;
 use std::thread::Threads;
 use std::time::Clock;
-use zic_command_line::{Conversion, Links, Request};
-use zic_commands::{ColumnJob, Disk, Failure, LinkKind, LinkedFolder, Progress, Told};
+use zic_command_line::{Conversion, Links, Request, Zones};
+use zic_commands::{
+    ColumnJob, ColumnSetting, Disk, Failure, LinkKind, LinkedFolder, Progress, Told,
+};
 use zic_counted::{Counted, flush, write_all};
 use zic_dump::Years;
-use zic_io::FaultList;
+use zic_io::{FaultList, ZoneFolder};
 use zic_plan::{FaultLog, Header, Plan};
 
 fn main(rt: HostRuntime) -> ExitCode {
@@ -157,22 +160,19 @@ fn told<E: IsTerminal + Drop>(progress: bool, errors: E) -> Told<E> {
     }
 }
 
-/// Converts standard input by the files of a source to standard output, and tells of the rows.
-/// Where the run goes on after faults, it writes them to a file, if one is named.
+/// Converts standard input to standard output, and tells of the rows. Where the run goes on after
+/// faults, it writes them to a file, if one is named.
 fn convert<
     R: Files + Input + Print + Clock + AllocGlobal + Threads + Wait + Sync,
     E: Write + IsTerminal + Drop,
 >(rt: &R, order: &Conversion, errors: E, texts: &mut Vec<Vec<u8>>) -> Result<(), Failure> {
-    read(rt, &[order.source.clone()?], texts)?;
-    let job = ColumnJob {
-        texts,
-        plan: &order.plan,
-        layout: &order.layout,
-    };
+    if let Zones::Source(source) = &order.zones {
+        read(rt, &[source.clone()?], texts)?;
+    }
     let told = told(order.progress, errors);
     match &order.faults {
-        None => convert_rows(rt, &job, told, &mut FaultList::new(None::<R::File>)),
-        Some(path) => convert_noted(rt, &job, told, path),
+        None => convert_rows(rt, order, texts, told, &mut FaultList::new(None::<R::File>)),
+        Some(path) => convert_noted(rt, order, texts, told, path),
     }
 }
 
@@ -180,7 +180,13 @@ fn convert<
 fn convert_noted<
     R: Files + Input + Print + Clock + AllocGlobal + Threads + Wait + Sync,
     E: Write + Drop,
->(rt: &R, job: &ColumnJob<'_>, told: Told<E>, path: &String) -> Result<(), Failure> {
+>(
+    rt: &R,
+    order: &Conversion,
+    texts: &[Vec<u8>],
+    told: Told<E>,
+    path: &String,
+) -> Result<(), Failure> {
     let Ok(file) = File::create(rt, path.as_str()) else {
         return Err(Failure::CannotWrite(path.clone()?));
     };
@@ -188,7 +194,7 @@ fn convert_noted<
         return Err(Failure::Memory);
     };
     let mut list = FaultList::new(Some(file));
-    let converted = convert_rows(rt, job, told, &mut list);
+    let converted = convert_rows(rt, order, texts, told, &mut list);
     let is_written = list.finish();
     match converted {
         Ok(()) | Err(Failure::Rows { .. }) if !is_written => {
@@ -212,22 +218,60 @@ fn faults_of<W: Write>(list: &FaultList<W>) -> Result<(), Failure> {
 
 /// Converts standard input to standard output, tells of the rows, and takes note of faults.
 fn convert_rows<
-    R: Input + Print + Clock + AllocGlobal + Threads + Wait + Sync,
+    R: Files + Input + Print + Clock + AllocGlobal + Threads + Wait + Sync,
     E: Write + Drop,
     W: Write,
->(rt: &R, job: &ColumnJob<'_>, told: Told<E>, faults: &mut FaultList<W>) -> Result<(), Failure> {
+>(
+    rt: &R,
+    order: &Conversion,
+    texts: &[Vec<u8>],
+    told: Told<E>,
+    faults: &mut FaultList<W>,
+) -> Result<(), Failure> {
     let mut input = Counted::new(rt.reader());
-    let header = job.layout.header;
+    let header = order.layout.header;
     let progress = Progress::new(io::writer(rt), rt, told, header == Header::First);
     let mut output = Counted::new(progress);
-    let converted = convert_column(rt, job, &mut input, &mut output, faults);
+    let converted = convert_column(rt, order, texts, &mut input, &mut output, faults);
     output.into_inner().finish();
     converted?;
     faults_of(faults)
 }
 
+/// Converts a column by the files of the texts, or by those of a folder. Returns the number of rows.
+fn convert_column<R: Files + AllocGlobal + Threads + Wait + Sync, I: Read, W: Write, L: FaultLog>(
+    rt: &R,
+    order: &Conversion,
+    texts: &[Vec<u8>],
+    input: &mut Counted<I>,
+    output: &mut Counted<W>,
+    faults: &mut L,
+) -> Result<u64, Failure> {
+    let (plan, layout) = (&order.plan, &order.layout);
+    match &order.zones {
+        Zones::Source(_) => {
+            let job = ColumnJob {
+                texts,
+                plan,
+                layout,
+            };
+            convert_by_source(rt, &job, input, output, faults)
+        }
+        Zones::Tree(folder) => {
+            let setting = ColumnSetting {
+                rt,
+                alloc: rt.alloc(),
+                plan,
+                layout,
+            };
+            let mut tree = ZoneFolder::new(rt, folder.as_str());
+            zic_commands::convert_tree(&setting, &mut tree, input, output, faults)
+        }
+    }
+}
+
 /// Converts a column by the files of the texts. Returns the number of rows.
-fn convert_column<R: AllocGlobal + Threads + Wait + Sync, I: Read, W: Write, L: FaultLog>(
+fn convert_by_source<R: AllocGlobal + Threads + Wait + Sync, I: Read, W: Write, L: FaultLog>(
     rt: &R,
     job: &ColumnJob<'_>,
     input: &mut Counted<I>,

@@ -1,7 +1,7 @@
 //! `build`, and the files that the commands open, over a file system that records its calls.
 
 use super::{failure_text, plan, told};
-use crate::samples::{UTC_FILE, copy_of, expect, expect_text, must, words_of};
+use crate::samples::{UTC_FILE, copy_of, expect, expect_text, must, name_of, words_of};
 use std::alloc::{Allocator, Global};
 use std::cell::RefCell;
 use std::fs::{Files, Metadata, OpenFile, OpenOptions};
@@ -11,6 +11,8 @@ use std::sync::Wait;
 use std::thread::Threads;
 use zic_commands::*;
 use zic_counted::Counted;
+use zic_files::ZoneTree;
+use zic_io::ZoneFolder;
 
 /// Records calls, one of which fails with an error of this kind, this number of times.
 #[derive(Clone, Copy)]
@@ -535,4 +537,26 @@ fn read_two(rt: &impl Abort, alloc: Global, disk: &Disk<'_>) -> String {
     let bytes = must(rt, read_file(alloc, disk, "f"));
     expect_text(rt, &bytes, UTC_FILE, "a file");
     told(rt, alloc, read_file(alloc, disk, "none"))
+}
+
+/// Returns the file of a zone in the folder D, or an empty text where it is missing.
+fn zone_file(rt: &impl Abort, alloc: Global, disk: &Disk<'_>, zone: &str) -> Vec<u8> {
+    let name = name_of(rt, alloc, zone);
+    let mut folder = ZoneFolder::new(disk, "D");
+    must(rt, folder.read(alloc, &name)).unwrap_or(Vec::new(alloc))
+}
+
+#[test]
+fn the_file_of_a_zone_is_below_its_folder(rt: HostRuntime) {
+    let calls = RefCell::new(String::new(rt.alloc()));
+    let disk = Disk {
+        log: log_of(rt.alloc(), &calls, ("open D/Z/None", ErrorKind::Other)),
+        bytes: UTC_FILE,
+        names: b"",
+    };
+    let file = zone_file(&rt, rt.alloc(), &disk, "Etc/UTC");
+    expect_text(&rt, &file, UTC_FILE, "a file");
+    let none = zone_file(&rt, rt.alloc(), &disk, "Z/None");
+    expect(&rt, none.is_empty(), "a file that can't be opened");
+    expect_calls(&rt, calls, "", "open D/Etc/UTC\nopen D/Z/None\n");
 }
