@@ -1,7 +1,8 @@
 #!/usr/bin/env bash
 # Converts columns of 100,000 rows over all zones and links of the system's release of the tz
-# database. Compares each row with Python's zoneinfo, over the program's files and over those of the
-# system's zic, and with witness/reader.py. Needs `python3` 3.9 or later.
+# database, by its source and by trees of its files. Compares each row with Python's zoneinfo, over the
+# program's files and over those of the system's zic, and with witness/reader.py. Needs `python3` 3.9
+# or later.
 set -euo pipefail
 cd "$(dirname "${BASH_SOURCE[0]}")/.."
 . .ci/release.sh
@@ -10,5 +11,7 @@ build zic_main check -
 program=crates/zic_main/out/zic_main
 "$program" build "$work/ours" "$release"
 zic -b fat -d "$work/fat" "$release"
+zic -b slim -d "$work/slim" "$release"
 python3 witness/columns.py "$program" "$release" "$work" | sed 's/^/columns: /'
 python3 witness/layouts.py "$program" "$release" "$work" | sed 's/^/columns: /'
+python3 witness/tree_columns.py "$program" "$release" "$work" | sed 's/^/columns: /'

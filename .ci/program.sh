@@ -344,11 +344,12 @@ zone='row 2: RowZone
 --> standard input, row 2, field 1 (NAME)'
 expected='
 Expected:
-  A name exactly as in the source, including upper and lower case.
+  A name exactly as in the source or tree, including upper and lower case.
 
 Usual cause:
   In row 1: a header, which `--header` passes over. Otherwise a name of
-  another release or of `backward`, or an abbreviation such as `PST`.'
+  another release or of `backward`, or an abbreviation such as `PST`. With
+  `--tree` also the path of another folder, or a file with leap seconds.'
 # The record of a file is read again, after a mark and line ends, and from where the file is read on.
 printf '\xef\xbb\xbf\r\nEtc/UTC,0\r\n\r\n"Etc/\x1b[0m",7\nEtc/UTC,1\n' >column
 input=column
@@ -739,7 +740,16 @@ ask convert plain --progress
 expect_progress 'pzic convert plain --progress' 3 'row 4: RowInstant'
 : >../out
 told 'pzic convert plain --progress' 1 '' ''
+"$program" build zones.tree plain
+ask convert --progress --tree zones.tree
+expect_progress 'pzic convert --progress --tree zones.tree' 3 'row 4: RowInstant'
+: >../out
+told 'pzic convert --progress --tree zones.tree' 1 '' ''
+status=0
+head -n 1 column | "$program" convert --tree zones.tree >/dev/full 2>../err || status=$?
+told 'pzic convert --tree zones.tree >/dev/full' 3 '' 'cannot write rows'
 input=/
+expect 3 '' 'cannot read column' convert --tree zones.tree
 expect 3 '' 'cannot read column' convert --progress plain
 input=/dev/null
 # On a terminal, to which the rows go too.

@@ -175,3 +175,13 @@ for input in rows stopped; do
     done
     tell "convert, $input"
 done
+# The same rows by files that are read, of which one is refused.
+"$program" build zones.tree chain
+mkdir zones.tree/No
+head -c 100 zones.tree/Etc/UTC >zones.tree/No/Where
+for input in rows stopped; do
+    for workers in 1 8; do
+        every convert --workers $workers --row-piece 1 --tree zones.tree
+    done
+    tell "convert by a tree, $input"
+done

@@ -15,8 +15,9 @@
 #
 # First the rows of all converters are compared, on columns of 1,000,000 rows (or ROWS, if fewer).
 # They must be the same with 1 and 4 workers, except for the C++ library in the years of footers,
-# which it doesn't read. A second table has `--append` on records of ten fields, beside the C++
-# library alone. The last line is the time of a whole run with a column of one row.
+# which it doesn't read. After the table come `--tree` over the files of the release, beside the
+# source, and `--append` on records of ten fields, beside the C++ library. The last line is the time
+# of a whole run with a column of one row.
 #
 # With the word `stream`, only pzic runs. It converts a column of ROWS rows through pipes, by
 # default 100,000,000 rows, which are just under 4 GiB.
@@ -75,6 +76,7 @@ convert() {
     case $1:$kind in
     pzic:wide) set -- "$program" convert --workers "$2" --append --zone-field 3 --time-field 6 "$release" ;;
     pzic:*) set -- "$program" convert --workers "$2" "$release" ;;
+    tree:*) set -- "$program" convert --workers "$2" --tree "$work/tree" ;;
     convert.rs:*) set -- "$work/convert" "$work/tree" "$2" ;;
     convert.cpp:wide) set -- "$work/library" "$2" append ;;
     convert.cpp:*) set -- "$work/library" "$2" ;;
@@ -110,6 +112,7 @@ for kind in random rising footer quoted; do
     for workers in 1 4; do
         compare "$kind" convert.rs "$workers"
         compare "$kind" convert.cpp "$workers"
+        compare "$kind" tree "$workers"
     done
 done
 kind=wide
@@ -166,18 +169,32 @@ echo 'column workers | seconds M rows/s times 1   MB | seconds M rows/s pzic is 
 for kind in random rising footer quoted; do time_all "$kind"; done
 load
 
+# time_both KIND CONVERTER: times pzic and another converter on a column.
+time_both() {
+    kind=$1
+    rm -f "$work"/runs.*
+    column "$kind" "$rows"
+    turn=0
+    while [ "$turn" -lt "$runs" ]; do
+        for workers in 1 4; do
+            for converter in pzic "$2"; do once "$converter" "$workers"; done
+        done
+        turn=$((turn + 1))
+    done
+}
+
+# ------------------------------------------------------------------ a tree
+
+time_both random tree
+echo "$(best_of tree 1) $(best_of pzic 1) $(best_of tree 4) $(best_of pzic 4)" |
+    awk -v rows="$rows" -v runs="$runs" '{
+        printf "--tree on the random column, best of %d: %.2f M rows/s by 1 worker and %.2f by 4, and by the source %.2f and %.2f\n",
+            runs, rows * 1e3 / $1, rows * 1e3 / $3, rows * 1e3 / $2, rows * 1e3 / $4
+    }'
+
 # ------------------------------------------------------------------ records as they stand
 
-kind=wide
-rm -f "$work"/runs.*
-column wide "$rows"
-turn=0
-while [ "$turn" -lt "$runs" ]; do
-    for workers in 1 4; do
-        for converter in pzic convert.cpp; do once "$converter" "$workers"; done
-    done
-    turn=$((turn + 1))
-done
+time_both wide convert.cpp
 echo "--append on $rows records of ten fields, to nowhere, best of $runs: $(load)"
 for workers in 1 4; do
     echo "$(best_of pzic "$workers") $(best_of convert.cpp "$workers")" |

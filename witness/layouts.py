@@ -7,8 +7,8 @@ usage: layouts.py PROGRAM SOURCE FOLDER
 FOLDER has the folder `ours` with our files of SOURCE. Each column has the same 100,000 random instants of a fixed seed over all zones and
 links, near transitions and elsewhere, counted in the unit of the column, and in one of a hundred records quotes round each field, with
 delimiters and line ends within the fields that aren't read. With --keep-going one of fifty records has a fault, the first and the last
-among them. Each option is tried alone and with each other one, by 1 and 4 workers. Prints a line for each, and the first differences; the
-status is 1 if there is one.
+among them, and --faults lists them. Each option is tried alone and with each other one, by 1 and 4 workers. Prints a line for each, and
+the first differences; the status is 1 if there is one.
 """
 import csv
 import functools
@@ -17,14 +17,19 @@ import itertools
 import random
 import subprocess
 import sys
-import zoneinfo
+from collections import namedtuple
+from zoneinfo import ZoneInfo
 
 import files
 from columns import FIRST, LAST, compare, file_of
 from rows import row
 
+# a column by some options, as text; its records, as they stand there (starts) and as names and counts
+Column = namedtuple("Column", "chosen delimiter digits text starts records")
+
 RECORDS = 100000
-FAULTY = [("No,W\there", "0"), ("Etc/UTC", '1,"5;\t'), None]                              # names and counts, or as they are
+NOWHERE = ["No,W\there", "No/Where", "Etc", "Etc/../Etc/UTC", "/Etc/UTC"]                # of no zone: some are paths of a tree
+FAULTY = [(NOWHERE, "0"), (["Etc/UTC"], '1,"5;\t'), None]                                # names and counts, or as they are
 UNITS = {"s": 0, "ms": 3, "us": 6, "ns": 9}
 OPTIONS = {
     "zone": ["--zone", "Europe/Dublin"],
@@ -36,10 +41,12 @@ OPTIONS = {
     "ns": ["--unit", "ns"],
     "header": ["--header"],
     "append": ["--append"],
-    "going": ["--keep-going"],
+    "going": ["--keep-going", "--faults", "FILE"],
 }
 TOGETHER = [("delimiter", "semicolon"), ("ms", "us"), ("ms", "ns"), ("us", "ns")]      # that are one option
 
+
+# ------------------------------------------------------------------ a column
 
 def moments_of(folder, names):
     """names, seconds, and nanoseconds after them"""
@@ -51,12 +58,7 @@ def moments_of(folder, names):
         yield name, min(max(second, FIRST), LAST), random.randrange(10 ** 9)
 
 
-@functools.cache
-def row_of(name, second):
-    return row(name, zoneinfo.ZoneInfo(name), second).split(",")
-
-
-def column_of(pairs, chosen, delimiter):
+def text_of(pairs, chosen, delimiter):
     """the text of the column, and of each record as it stands there"""
     text, records = io.StringIO(), []
     if "header" in chosen:
@@ -64,8 +66,9 @@ def column_of(pairs, chosen, delimiter):
         text.write(records[0] + "\n")
     for number, (name, count) in enumerate(pairs):
         count, faulty = str(count), "going" in chosen and number % 50 in (0, 49)
-        if faulty:
-            name, count = FAULTY[number // 25 % 3] or (name, count)
+        if faulty and FAULTY[number // 25 % 3]:
+            choice, count = FAULTY[number // 25 % 3]
+            name = choice[number // 75 % len(choice)]
         fields = [count] if "zone" in chosen else [name, count]
         if "fields" in chosen:
             fields = ["", count, "a,b;c" if delimiter == "\t" else "a\tb", name, "é"][: 5 if number % 2 else 4]
@@ -81,83 +84,134 @@ def column_of(pairs, chosen, delimiter):
 
 
 def records_of(text, chosen, delimiter):
-    """the names and counts of records, as Python's csv reads them, and their faults"""
+    """the names and counts of records, as Python's csv reads them, or none where there are too few or too many fields"""
     records = [fields for fields in csv.reader(io.StringIO(text, newline=""), delimiter=delimiter) if fields]
     time = 1 if "fields" in chosen or "zone" not in chosen else 0
     zone = None if "zone" in chosen else 3 if "fields" in chosen else 0
     least = max(time, zone or 0) + 1
     for fields in records["header" in chosen:]:
         if len(fields) < least or len(fields) > least and not {"fields", "append"} & set(chosen):
-            yield None, None, "RowFields"
-            continue
-        name = "Europe/Dublin" if zone is None else fields[zone]
-        fault = "RowZone" if name == "No,W\there" else None if fields[time].lstrip("-").isdigit() else "RowInstant"
-        yield name, fields[time], fault
+            yield None, None
+        else:
+            yield "Europe/Dublin" if zone is None else fields[zone], fields[time]
 
 
-def faulty_row(name, count, fault, start, chosen, delimiter):
+def column_of(moments, chosen):
+    """a column of these moments"""
+    delimiter = "\t" if "delimiter" in chosen else ";" if "semicolon" in chosen else ","
+    digits = max([UNITS.get(option, 0) for option in chosen], default=0)
+    counts = [(name, second * 10 ** digits + nano // 10 ** (9 - digits)) for name, second, nano in moments]
+    text, starts = text_of(counts, chosen, delimiter)
+    return Column(chosen, delimiter, digits, text, starts, list(records_of(text, chosen, delimiter)))
+
+
+# ------------------------------------------------------------------ its rows
+
+def zones_of(folder, names):
+    """zoneinfo's zones by the files of a folder"""
+    zones = {}
+    for name in names:
+        with open(f"{folder}/{name}", "rb") as file:
+            zones[name] = ZoneInfo.from_file(file, name)
+    return zones
+
+
+@functools.cache
+def rest_of(zone, second):
+    """local time, offset, flag and abbreviation"""
+    return row("", zone, second).split(",", 2)[2]
+
+
+def fault_of(zones, name, count):
+    if count is None:
+        return "RowFields"
+    return "RowZone" if name not in zones else None if count.lstrip("-").isdigit() else "RowInstant"
+
+
+def faulty_row(column, name, count, start):
     """the row of a record with a fault"""
-    if fault == "RowFields":
+    if count is None:
         return start
-    if "append" in chosen:
-        return start + 4 * delimiter
+    if "append" in column.chosen:
+        return start + 4 * column.delimiter
     text = io.StringIO()
-    csv.writer(text, delimiter=delimiter).writerow([name, count, "", "", "", ""])
+    csv.writer(text, delimiter=column.delimiter).writerow([name, count, "", "", "", ""])
     return text.getvalue().removesuffix("\r\n")
 
 
-def rows_of(records, texts, chosen, delimiter, digits):
-    """the rows of names and counts, of which each has its record as it stands beside it"""
-    starts, names = iter(texts), ["zone", "instant", "local", "offset", "daylight", "abbreviation"]
-    if "header" in chosen:
+def row_by(column, zone, name, count, start):
+    """the row of a record without a fault"""
+    second, fraction = divmod(int(count), 10 ** column.digits)
+    local, *rest = rest_of(zone, second).split(",")
+    if column.digits:
+        local += f".{fraction:0{column.digits}}"
+    return column.delimiter.join([*([start] if "append" in column.chosen else [name, str(int(count))]), local, *rest])
+
+
+def rows_of(column, zones):
+    """the rows of a column by zoneinfo's zones, each with its line end, as one text, and the faults, each as --faults writes it"""
+    starts, names = iter(column.starts), ["zone", "instant", "local", "offset", "daylight", "abbreviation"]
+    rows, faults = [], []
+    if "header" in column.chosen:
         header = next(starts)
-        yield delimiter.join([header, *names[2:]] if "append" in chosen else names)
-    for (name, count, fault), start in zip(records, starts):
-        if fault:
-            yield faulty_row(name, count, fault, start, chosen, delimiter)
-            continue
-        second, fraction = divmod(int(count), 10 ** digits)
-        fields = list(row_of(name, second))
-        fields[1] = str(int(count))
-        if digits:
-            fields[2] += f".{fraction:0{digits}}"
-        yield delimiter.join([start, *fields[2:]] if "append" in chosen else fields)
+        rows.append(column.delimiter.join([header, *names[2:]] if "append" in column.chosen else names))
+    for number, ((name, count), start) in enumerate(zip(column.records, starts), 1):
+        if fault := fault_of(zones, name, count):
+            faults.append(f"{number},{fault}")
+            rows.append(faulty_row(column, name, count, start))
+        else:
+            rows.append(row_by(column, zones[name], name, count, start))
+    return "".join(f"{line}\n" for line in rows), faults
 
 
-def words_of(chosen):
-    words = [word for option in chosen for word in OPTIONS[option]]
+# ------------------------------------------------------------------ the program
+
+def words_of(chosen, path):
+    words = [path if word == "FILE" else word for option in chosen for word in OPTIONS[option]]
     if "zone" in chosen and "fields" in chosen:
         words = [word for word in words if word not in ("--zone-field", "4")]
     return words
 
 
-def try_options(program, source, moments, chosen):
-    delimiter = "\t" if "delimiter" in chosen else ";" if "semicolon" in chosen else ","
-    digits = max([UNITS.get(option, 0) for option in chosen])
-    counts = [(name, second * 10 ** digits + nano // 10 ** (9 - digits)) for name, second, nano in moments]
-    text, texts = column_of(counts, chosen, delimiter)
-    records = list(records_of(text, chosen, delimiter))
-    wanted = "\n".join(rows_of(records, texts, chosen, delimiter, digits)).split("\n")
-    faults = [f"{row},{fault}" for row, (_, _, fault) in enumerate(records, 1) if fault]
-    told = f"row {faults[0].replace(',', ': ')}\n{len(faults)} rows with faults\n" if faults else ""
+def told_of(faults):
+    """what is told of rows with faults"""
+    return f"row {faults[0].replace(',', ': ')}\n{len(faults)} rows with faults\n" if faults else ""
+
+
+def compare_texts(what, text, wanted):
+    if text != wanted:
+        compare(what, text.split("\n"), wanted.split("\n"))
+
+
+def try_column(call, column, wanted, path):
+    """has the program convert a column by 1 and 4 workers, and compares the rows and faults with those that are wanted. The call is the
+    program and the words that say where its zones are, and the path is one for a list of faults"""
+    rows, faults = wanted
     for workers in "1", "4":
-        done = subprocess.run([program, "convert", "--workers", workers, *words_of(chosen), source], input=text.encode(), capture_output=True)
-        if done.returncode != bool(faults) or done.stderr.decode() != told:
-            files.differ(f"{' '.join(chosen)}: status {done.returncode}, {done.stderr}")
-        compare(" ".join(chosen), done.stdout.decode().split("\n")[:-1], wanted)
-    files.report(f"{len(wanted)} rows by {' and '.join(chosen)}, by 1 and 4 workers")
+        words = ["--workers", workers, *words_of(column.chosen, path), *call[1:]]
+        with open(path, "w", encoding="ascii"):
+            """nothing is left of an earlier run"""
+        done = subprocess.run([call[0], "convert", *words], input=column.text.encode(), capture_output=True)
+        what, told = " ".join(words), done.stderr.decode()
+        if done.returncode != bool(faults) or told != told_of(faults):
+            files.differ(f"{what}: status {done.returncode}, {told!r}, and not {told_of(faults)!r}")
+        compare_texts(what, done.stdout.decode(), rows)
+        if "going" in column.chosen:
+            with open(path, encoding="ascii") as file:
+                compare_texts(f"{what}, faults", file.read(), "".join(f"{fault}\n" for fault in faults))
 
 
 def main(program, source, folder):
     random.seed(34)
-    zoneinfo.reset_tzpath([f"{folder}/ours"])
-    moments = list(moments_of(folder, files.names_of(f"{folder}/ours")))
-    for option in OPTIONS:
-        try_options(program, source, moments, (option,))
-    for pair in itertools.combinations(OPTIONS, 2):
-        if pair not in TOGETHER:
-            try_options(program, source, moments, pair)
+    names = files.names_of(f"{folder}/ours")
+    moments, zones = list(moments_of(folder, names)), zones_of(f"{folder}/ours", names)
+    pairs = [pair for pair in itertools.combinations(OPTIONS, 2) if pair not in TOGETHER]
+    for chosen in [(option,) for option in OPTIONS] + pairs:
+        column = column_of(moments, chosen)
+        try_column([program, source], column, rows_of(column, zones), f"{folder}/faults")
+        files.report(f"{len(moments)} rows by {' and '.join(chosen)}, by 1 and 4 workers")
 
 
-main(*sys.argv[1:])
-sys.exit(files.found["in all"] != 0)
+if __name__ == "__main__":
+    main(*sys.argv[1:])
+    sys.exit(files.found["in all"] != 0)
