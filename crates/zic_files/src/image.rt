@@ -35,7 +35,7 @@ impl Model for Image {
 pub enum Unfit {
     /// `zic_tzif::read` refuses them: the first check that fails.
     Bad(Reason),
-    /// The TZ string is empty, so that local time is left open after the last transition.
+    /// The TZ string is empty: local time is left open after the last transition, if there is one.
     NoFooter,
     /// Some local time type, or a state of the footer, is farther than 24:00:00 from UT, or its
     /// abbreviation is other than 3 to 16 ASCII letters, digits, `+` and `-`.
