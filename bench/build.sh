@@ -3,14 +3,11 @@
 # file system in memory if there is one. The runs are `build` by 1, 2 and 4 workers, and `check`, of
 # the system's release of the tz database and of two sources at the limits: 10,000 zones of one
 # line, and 10,000 rules with 10,000 lines of 5,000 zones. Prints the milliseconds of the best of
-# five runs, and the memory of one run. Then prints, for the release, the times of the parts of a
-# run by one worker. Needs `rt`, `zic`, GNU time and the release.
+# five runs, and the memory of one run. Needs `rt`, `zic`, GNU time and the release.
 set -eu
 . "$(dirname "$0")/common.sh"
 program=crates/zic_main/out/zic_main
 build zic_main check -
-build probe counts
-build bench files
 awk 'BEGIN { for (i = 0; i < 10000; i++) printf "Zone Area%d/City%d %d:%02d - %%z\n", i % 50, i, i / 60 % 24, i % 60 }' >"$work/zones"
 awk 'BEGIN {
     for (i = 0; i < 10000; i++)
@@ -58,19 +55,3 @@ for source in "$release" "$work/zones" "$work/lines"; do
         show "$(basename "$source"), $name, $(call memory "$name" "$source") MB" "$(cat "$work/best.$name")"
     done
 done
-
-# part NAME MANY COMMAND...: shows the time of doing the work of a command once. It is computed from
-# the times of MANY rounds and of none.
-part() {
-    name=$1 many=$2
-    shift 2
-    show "$name" $((($(best "$@" "$many") - $(best "$@" 0)) / many))
-}
-
-input=$release
-echo 'Of tzdata.zi, on one thread:'
-part 'its source read' 20 "$probe" counts
-part 'the timelines of its zones' 20 "$probe" changes
-show 'its source read, timelines, footers and tables, in one run' "$(best "$bench" files write 0)"
-part 'the octets of its tables' 1000 "$bench" files write
-part 'all files read back' 1000 "$bench" files read

@@ -8,7 +8,6 @@ trap 'rm -rf "$work"' EXIT
 trap 'exit 130' INT
 trap 'exit 143' HUP TERM
 release=/usr/share/zoneinfo/tzdata.zi
-bench=crates/bench/out/bench
 probe=crates/probe/out/probe
 input=/dev/null
 
@@ -28,15 +27,6 @@ plain() {
     rustc --edition 2021 -C opt-level=3 -o "$work/$1" "bench/$1.rs"
 }
 
-# side_by_side NAME: builds $work/NAME, and the program of the benchmarks, and checks that it prints
-# the same for the word NAME.
-side_by_side() {
-    build bench "$1"
-    plain "$1"
-    "$work/$1" <"$input" >"$work/plain.out"
-    cmp "$work/proved.out" "$work/plain.out"
-}
-
 # best COMMAND...: prints the nanoseconds that a command takes, the best of five runs.
 best() {
     least=
@@ -52,10 +42,4 @@ best() {
 # show NAME NANOSECONDS: prints a time in milliseconds.
 show() {
     printf '%s: %d.%03d ms\n' "$1" $(($2 / 1000000)) $(($2 / 1000 % 1000))
-}
-
-# show_call NAME NANOSECONDS CALLS: prints the nanoseconds of one call.
-show_call() {
-    tenths=$(($2 * 10 / $3))
-    echo "$1: $((tenths / 10)).$((tenths % 10)) ns a call"
 }

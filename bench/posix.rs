@@ -1,5 +1,5 @@
-//! The meaning of POSIX TZ strings in plain Rust, for `footer.rs` and `convert.rs`, with the usual
-//! algorithm for dates.
+//! The meaning of POSIX TZ strings in plain Rust, for `convert.rs`, with the usual algorithm for
+//! dates.
 
 const SECONDS_OF_DAY: i64 = 86_400;
 const CYCLE: i64 = 146_097 * SECONDS_OF_DAY;

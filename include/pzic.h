@@ -5,7 +5,7 @@
  * are seconds, positive east.
  *
  * No call prints, starts a thread, ends the process or keeps state of its own between calls. A call
- * that fails says so by its status, and then writes only what is told of it here.
+ * that fails returns a status that says why, and writes only what this header names.
  *
  * Pointers. No pointer may be NULL, also where a length is 0. It points to as many values as the
  * length beside it says, aligned as their type wants. What a call writes to overlaps nothing else
@@ -107,7 +107,7 @@ typedef struct pzic_state {
 
 /*
  * Reads a zone from the bytes of a TZif file of version 2 or 3, of at most 1,048,576 bytes. What the
- * handle held before is let go first. The bytes aren't needed any longer afterwards.
+ * handle held before is freed first. The bytes aren't needed any longer afterwards.
  *
  * PZIC_OK         the handle holds the zone
  * PZIC_BAD_FILE   the bytes are no such file, and *reason is the number of the first check that
@@ -119,8 +119,8 @@ typedef struct pzic_state {
 int32_t pzic_zone_read(const uint8_t *bytes, size_t length, pzic_handle *zone, uint32_t *reason);
 
 /*
- * Has `other` hold the same as `handle` too: a zone, files or rows. What `other` held before is let
- * go first. A zone, files and rows are let go with the last handle that holds them.
+ * Makes `other` hold what `handle` holds: a zone, files or rows. What `other` held before is freed
+ * first. A zone, files and rows are freed with the last handle that holds them.
  *
  * PZIC_OK         both hold the same
  * PZIC_NO_HANDLE  `handle` holds nothing, and neither does `other`
@@ -128,7 +128,7 @@ int32_t pzic_zone_read(const uint8_t *bytes, size_t length, pzic_handle *zone, u
  */
 int32_t pzic_share(pzic_handle *handle, pzic_handle *other);
 
-/* Lets go what a handle holds, which holds nothing then. It may hold nothing before. */
+/* Frees what a handle holds; it then holds nothing. It may be empty already. */
 void pzic_free(pzic_handle *handle);
 
 /*
@@ -141,9 +141,14 @@ void pzic_free(pzic_handle *handle);
 int32_t pzic_zone_at(pzic_handle *zone, int64_t instant, pzic_state *state);
 
 /*
- * As pzic_zone_at, and tells from the instant *first to the instant *last, both included, local
- * time is the same. The instants before and after are a transition's or an edge's of the footer,
- * or there is none: *first may be INT64_MIN and *last INT64_MAX.
+ * As pzic_zone_at, and also writes the first and the last instant, both included, of the time around
+ * `instant` in which local time is the same. *first is INT64_MIN, or the instant of a transition or
+ * of an edge of the footer; *last is INT64_MAX, or the second before one.
+ *
+ * PZIC_OK           *state is local time, from *first to *last
+ * PZIC_UNSPECIFIED  the file leaves local time open from *first to *last; *state is offset 0 with an
+ *                   empty abbreviation
+ * PZIC_NO_HANDLE    `zone` holds no zone; nothing is written
  */
 int32_t pzic_zone_span(pzic_handle *zone, int64_t instant, pzic_state *state, int64_t *first,
                        int64_t *last);
@@ -177,7 +182,7 @@ typedef struct pzic_fault {
 /*
  * Compiles texts of Rule, Zone, continuation and Link lines, as zic(8) has them, on the calling
  * thread. The texts lie one after another in one array, and lengths[i] is the length of the i-th.
- * What the handle held before is let go first.
+ * There may be none: `count` 0 makes no file. What the handle held before is freed first.
  *
  * PZIC_OK          the handle holds the files of all Zone and Link lines, in the order of the texts
  *                  and their lines
@@ -212,7 +217,7 @@ int32_t pzic_files_bytes(pzic_handle *files, size_t number, uint8_t *room, size_
                          size_t *length);
 
 /*
- * Has `zone` hold the zone of a file. What it held before is let go first. The files stay in memory
+ * Makes `zone` hold the zone of a file. What it held before is freed first. The files stay in memory
  * while it does.
  *
  * PZIC_OK         the handle holds the zone
@@ -235,7 +240,7 @@ typedef struct pzic_row_fault {
  * header. A record of the column is a zone's name, a comma and an instant, and a row the name, the
  * instant, local time, the UT offset, the daylight flag and the abbreviation. A column may be given
  * in pieces that end with a line end outside quotes; each is a column of its own. It may have
- * 100,000,000 rows. What `rows` held before is let go first.
+ * 100,000,000 rows. What `rows` held before is freed first.
  *
  * PZIC_OK         `rows` holds the rows
  * PZIC_BAD_ROW    *fault is the first row that has a fault, and `rows` holds the rows before it

@@ -1,8 +1,8 @@
 """Local time by the files of the time zone database.
 
 The calls of the library ``libpzic``, over :mod:`ctypes`. Instants are seconds from
-1970-01-01T00:00:00 UT, without leap seconds: any number that 64 bits with a sign hold. UT offsets
-are seconds, positive east.
+1970-01-01T00:00:00 UT, without leap seconds: any signed 64-bit integer. UT offsets are seconds,
+positive east.
 
     >>> import pzic
     >>> tree = pzic.Tree.open("/usr/share/zoneinfo")

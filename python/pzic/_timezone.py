@@ -105,8 +105,8 @@ def _end_of(second: int, zone: TimeZone) -> datetime:
 class TimeZone(tzinfo):
     """A zone for :mod:`datetime`, with the fold of PEP 495.
 
-    From an instant to local time the answers are the file's. From local time to the instant the
-    file is asked at the changes near: a time that comes twice is the first one with ``fold=0`` and
+    From an instant to local time the answers are the file's. For a local time it looks at the
+    changes nearby: a time that comes twice is the first one with ``fold=0`` and
     the second with ``fold=1``; a time that is left out is told by the offset before with
     ``fold=0``, and by the one after with ``fold=1``. Where the file leaves local time open, it is
     UT, under the abbreviation ``-00``. The answers of each year are kept.

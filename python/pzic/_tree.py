@@ -41,7 +41,7 @@ class Tree(Mapping[str, Zone]):
     """The zones of a folder of TZif files, by name: ``tree["Europe/Dublin"]``.
 
     A file is read when its zone is asked for, and once. :class:`KeyError` says that no file has the
-    name, and :class:`BadFile` that the file isn't one of zones.
+    name, and :class:`BadFile` that the file isn't a TZif file.
     """
 
     def __init__(self, folder: Union[str, "os.PathLike[str]"]) -> None:
@@ -124,7 +124,7 @@ class Compiled(Mapping[str, Zone]):
             c.release(handle)
 
     def data(self, name: str) -> bytes:
-        """Return the bytes of the TZif file of a name."""
+        """Return the bytes of the TZif file of a name, or raise :class:`KeyError`."""
         wanted = name.encode("utf-8")
         number = ctypes.c_size_t()
         if c.files_find(self._handle, wanted, len(wanted), number) != c.OK:
@@ -133,7 +133,8 @@ class Compiled(Mapping[str, Zone]):
 
     def convert(self, column: bytes) -> bytes:
         """Return the rows of a column, as ``pzic convert`` writes them. Each record of the column is
-        a zone's name, a comma and an instant. Other threads of Python run meanwhile.
+        a zone's name, a comma and an instant. Other threads of Python can run in the
+        meantime.
 
         Raises :class:`BadRow` at the first row that has a fault, and :class:`MemoryError`.
         """

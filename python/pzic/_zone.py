@@ -122,8 +122,8 @@ class Zone:
         :class:`array.array` of ``"q"`` or a numpy array of ``int64``; ``datetime64[s]`` is viewed as
         that by ``instants.view("int64")``. The offsets are written to ``offsets``, which has items
         of 4 bytes with a sign, as a numpy array of ``int32``, and the flags to ``flags``, of single
-        bytes: 0, :data:`DAYLIGHT` or :data:`OPEN`. Each is made where it is left out. Threads of
-        Python run meanwhile; none may write to the three.
+        bytes: 0, :data:`DAYLIGHT` or :data:`OPEN`. Each is made where it is left out. Other
+        threads of Python can run in the meantime; none may write to the three.
         """
         source = _items(instants, "lq", 8, False)
         count = len(source)

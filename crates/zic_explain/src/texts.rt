@@ -510,7 +510,8 @@ Right:
   $ names 64 | pzic check -
 ?  A generated source with a different abbreviation for each change.
 @RowFields?A record doesn't have two fields.?  A record doesn't have two fields. With `--zone`: not one. With
-  `--zone-field` or `--time-field`: not as many as these say.
+  `--zone-field` or `--time-field`: not as many as these say. With `--append`:
+  fewer than are read.
 ?  `NAME,SECONDS` with one comma.
 ?
 The examples use:
@@ -547,7 +548,7 @@ Right:
 ?  In row 1: a header, which `--header` passes over. Otherwise a name of
   another release or of `backward`, or an abbreviation such as `PST`. With
   `--tree` also the path of another folder, or a file with leap seconds.
-@RowInstant?The field for it isn't an instant.?  The field for it isn't an instant.
+@RowInstant?The field of the instant doesn't hold an instant.?  The field of the instant doesn't hold an instant.
 ?  Seconds since 1970-01-01T00:00:00 UT: 1 to 18 digits, with `-` before them
   for earlier instants, without `+`, spaces or a fraction. With `--unit` 3, 6
   or 9 digits more.
@@ -963,8 +964,9 @@ It prints:
 Right:
   $ pzic convert utc.zi </dev/null
 ?  A service that runs with its standard input closed.
-@cannot write PATH?The file at PATH, or a folder that it needs, can't be written.?  The file at PATH, or a folder that it needs, can't be written. Status 3. The
-  files of all earlier Zone and Link lines are in place.
+@cannot write PATH?The file at PATH, or a folder that it needs, can't be written.?  The file at PATH, or a folder that it needs, can't be written. Status 3. PATH
+  may also be the file of `--faults`. The files of all earlier Zone and Link
+  lines are in place; with `--links hard` or `symlink` those of zones come first.
 ?  A folder that can be written to and has room. DIR must not be empty.
 ?
 The examples use:
