@@ -12,7 +12,7 @@ use Rattle.zic_io.specs.declared.failure.Failure.{Failure}
 use Rattle.zic_io.specs.declared.failure.Failure.TheVariants as failures
 use Rattle.zic_commands.specs.ConvertingBy.{HasZone, IsFailureOfZone}
 use Rattle.zic_commands.specs.ConvertingTree.{HoldsOfTree, IsFailureOfTreeZone, Replied}
-use Rattle.zic_commands.specs.code.Learning.{IsZoneAsked, IsZoneSettled, LearnsZone}
+use Rattle.zic_commands.specs.code.Learning.{IsZoneSettled, LearnsZone}
 
 module _ (stay : FilesStay) (replies others : List Reply) (learnt files : List File) (are : AreFilesOfReplies replies learnt) (are_more : AreFilesOfReplies (replies ++ others) files) where
   -- the files of further replies have the zone too
@@ -44,12 +44,7 @@ module _ (from : ZoneFrom) (tree : Replied) (learnt : Learnt) (learns : LearnsZo
         (λ others files are. no_zone_still stay learns.replies others learnt.files files learns.learnt.files are from failure learns.settled none),
   )
 
--- memory ran out
-pub memory_for_zone : (from : ZoneFrom) (tree : Replied) → IsZoneAsked from tree → IsFailureOfTreeZone from tree failures.Memory
-memory_for_zone (zone.Field index) tree asked = absurd asked
-memory_for_zone (zone.Name name) tree asked = inl (refl, asked)
-
--- or there is none
+-- there is none
 pub no_zone_of_tree : (from : ZoneFrom) (tree : Replied) (learnt : Learnt) → LearnsZone from tree learnt → FilesStay → (failure : Failure) → IsFailureOfZone learnt.files from failure
     → IsFailureOfTreeZone from tree failure
 no_zone_of_tree (zone.Field index) tree learnt learns stay failure none = absurd none

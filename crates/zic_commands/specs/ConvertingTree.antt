@@ -21,14 +21,20 @@ pub record Replied : Type 0 where
   pub before : Option (List Reply)
   pub after : Option (List Reply)
 
--- the tree replied to this name only, at most once, and only if a zone may have it
-pub record IsAskedFor (name : List ℕ) (tree : Replied) : Type 0 where
+-- these replies are all to the zone that all rows are to be in, and there are none if rows name their zones
+abbrev pub AreOfZone : ZoneFrom → List Reply → Type 0
+AreOfZone (zone.Field index) replies = replies ≡ []
+AreOfZone (zone.Name name) replies = AreOfName (string_bytes name) replies
+
+-- the tree replied to the zone that all rows are to be in, if there is to be one, and to no other name: at most once, and only if a zone may have
+-- the name
+pub record IsZoneAsked (from : ZoneFrom) (tree : Replied) : Type 0 where
   pub replies : List Reply
   pub gains : Gains tree.before tree.after replies
   pub asked : AreAsked replies
-  pub of_name : AreOfName name replies
+  pub of_zone : AreOfZone from replies
 
--- `Holds` is true of the files of the tree's replies, which are known, and still if other replies follow.
+-- The tree's replies have files: `Holds` is true of them, and still if other replies follow.
 abbrev pub HoldsOfTree : Replied → (List File → Type 0) → Type 0
 HoldsOfTree tree Holds = (learnt : Learnt) × HoldsByLearnt [] tree.before tree.after learnt Holds
 
@@ -37,22 +43,23 @@ abbrev pub ConvertsByTree : {R W : Type 0} → Limits → Layout → ℕ → Rep
 ConvertsByTree plan layout n tree run log = HoldsOfTree tree (ConvertsByFiles plan layout n run log)
 
 -- why no zone for all rows is found: memory ran out while the tree was asked for it, or the tree has no file that rows can be made of under
--- its name
+-- its name, which the failure tells unless memory runs out
 abbrev pub IsFailureOfTreeZone : ZoneFrom → Replied → Failure → Type 0
 IsFailureOfTreeZone (zone.Field index) tree failure = ⊥
 IsFailureOfTreeZone (zone.Name name) tree failure =
-    ((failure ≡ failures.Memory) × IsAskedFor (string_bytes name) tree)
-    ⊎ HoldsOfTree tree (λ files. IsFailureOfZone files (zone.Name name) failure)
+    (failure ≡ failures.Memory) ⊎ HoldsOfTree tree (λ files. IsFailureOfZone files (zone.Name name) failure)
 
 -- no zone for all rows is found; nothing is read of the column, and nothing is written
 pub record IsFailureWithoutTreeZone {R W : Type 0} (layout : Layout) (tree : Replied) (run : Conversion R W) (failure : Failure) : Type 0 where
   pub of_zone : IsFailureOfTreeZone layout.zone tree failure
+  pub asked : IsZoneAsked layout.zone tree
   pub unread : run.reader' ≡ run.reader
   pub unwritten : run.writer' ≡ run.writer
 
--- the tree has the zone for all rows, and the header can't be written
+-- the tree has the zone for all rows, if there is to be one, and the header can't be written
 pub record IsFailureOfTreeHeader {R W : Type 0} (layout : Layout) (tree : Replied) (run : Conversion R W) (failure : Failure) : Type 0 where
   pub has_zone : HoldsOfTree tree (λ files. HasZone files layout.zone)
+  pub asked : IsZoneAsked layout.zone tree
   pub ends : EndsAtHeader layout run failure
 
 -- The conversion of the column by the files of the tree ended early. It never ends for a fault of a source, so it doesn't matter how many

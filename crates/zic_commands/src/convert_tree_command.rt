@@ -3,10 +3,12 @@
 ghost use Rattle.std.specs.Prelude.{◌≡◌, ◌≤◌, ◌+◌, [], IfOk, IfErr};
 ghost use Rattle.zic_counted.specs.Counts.{HasFailedSince};
 ghost use Rattle.zic_convert.specs.Tree.{HoldsByLearnt};
+ghost use Rattle.zic_io.specs.declared.failure.Failure.TheVariants as failures;
 ghost use Rattle.zic_commands.specs.Converting.{conversion};
 ghost use Rattle.zic_commands.specs.ConvertingBy.{HasZone};
-ghost use Rattle.zic_commands.specs.ConvertingTree.{ConvertsByTree, IsFailureOfConvertTree, IsFailureOfTreeZone};
-ghost use Rattle.zic_commands.specs.code.Learning.{IsZoneAsked, LearnsZone};
+ghost use Rattle.zic_commands.specs.ConvertingTree.{ConvertsByTree, IsFailureOfConvertTree};
+ghost use Rattle.zic_commands.specs.ConvertingTree.{IsFailureOfTreeZone, IsZoneAsked};
+ghost use Rattle.zic_commands.specs.code.Learning.{LearnsZone};
 
 use crate::convert_command::{find_zone, write_header_by};
 use std::alloc::{AllocError, Global};
@@ -75,6 +77,8 @@ fn files_with_zone<Z: ZoneTree>(
         (Z.replied tree.old) (Z.replied tree.new) files (λ files. HasZone files zone.now)) }
     ensures err { IfErr result (IsFailureOfTreeZone zone.now
         (record { before = Z.replied tree.old; after = Z.replied tree.new })) }
+    ensures asked { IsZoneAsked zone.now
+        (record { before = Z.replied tree.old; after = Z.replied tree.new }) }
 {
     // The zone stays, whatever else the tree is asked for.
     files_stay();
@@ -92,8 +96,10 @@ fn learn_zone<Z: ZoneTree>(
 ) -> Result<TreeFiles, AllocError>
     ensures ok { IfOk result (LearnsZone zone.now
         (record { before = Z.replied tree.old; after = Z.replied tree.new })) }
-    ensures err { IfErr result (λ _. IsZoneAsked zone.now
-        (record { before = Z.replied tree.old; after = Z.replied tree.new })) }
+    ensures err { IfErr result (λ _. IsFailureOfTreeZone zone.now
+        (record { before = Z.replied tree.old; after = Z.replied tree.new }) failures.Memory) }
+    ensures asked { IsZoneAsked zone.now
+        (record { before = Z.replied tree.old; after = Z.replied tree.new }) }
 {
     let mut files = TreeFiles::new(alloc);
     let ZoneFrom::Name(name) = zone else {

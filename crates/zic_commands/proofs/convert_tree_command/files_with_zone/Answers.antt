@@ -2,13 +2,13 @@ use Rattle.std.proofs.Common.{List, subst}
 use Rattle.std.proofs.lemmas.Result.{err_from_is_err_and}
 use Rattle.zic_files.specs.File.{File}
 use Rattle.zic_commands.specs.ConvertingBy.{HasZone, IsFailureOfZone}
-use Rattle.zic_commands.proofs.TreeZoneLemmas.{has_zone_learnt, memory_for_zone, no_zone_of_tree}
+use Rattle.zic_commands.proofs.TreeZoneLemmas.{has_zone_learnt, no_zone_of_tree}
 use Rattle.zic_commands.proofs.convert_tree_command.files_with_zone.Goals as goal
 
 pub returns-in_err-learnt-clause-err : goal.returns-in_err-learnt-clause-err
 returns-in_err-learnt-clause-err g c =
     let p = err_from_is_err_and c.from_residual.result c.from_residual.ensures.1 in
-    rw (p.1, p.2) (memory_for_zone c.args.zone.now _ c.in_err-learnt.ensures.err)
+    rw (p.1, p.2) c.in_err-learnt.ensures.err
 
 pub returns-in_err-find_zone-clause-err : goal.returns-in_err-find_zone-clause-err
 returns-in_err-find_zone-clause-err g c =
