@@ -14,6 +14,10 @@ set -euo pipefail
 cd "$(dirname "${BASH_SOURCE[0]}")/.."
 . .ci/release.sh
 build zic_main check -
+# The recipe for GNU parallel, and the completions of zsh.
+for tool in parallel zsh; do
+    command -v $tool >"$work/log" || install $tool 2>"$work/log" || echo "pages: no $tool"
+done
 unset -f install
 repository=$PWD
 work=${work:?}
@@ -282,6 +286,7 @@ done
 # PROOF.md names only definitions that exist, and describes every crate.
 find crates/*/specs -name '*.antt' -exec cat {} + | grep -oE '[A-Z][A-Za-z]+' | sort -u >"$work/definitions"
 verbs='Is|Are|Writes|Converts|Answers|Reads|Goes|Gives|Shows|Means|Spells|Counts|Takes|Yields|Columns|Reports'
+verbs+='|May|Image|Compile|Needs|Notes|Ends|Holds|Has|Appends|Keeps|Within|On|If'
 grep -oE "\`($verbs)[A-Za-z]*\`" docs/PROOF.md | tr -d '`' | sort -u |
     comm -23 - "$work/definitions" >"$work/unknown"
 [ ! -s "$work/unknown" ] || differ "docs/PROOF.md names what no definition is: $(tr '\n' ' ' <"$work/unknown")"

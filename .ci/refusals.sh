@@ -1,9 +1,9 @@
 #!/usr/bin/env bash
 # Refuses each growth of memory of a run in turn, and then all starts of threads from the first on,
-# from the second on, and so forth. The runs are tests of tasks of five pieces, of claims, and of
-# the calls from a source to a file, which must still pass, and commands of the program, with
-# several numbers of workers and sizes of pieces. If a growth is refused, a command says `out of
-# memory`, or reports the fault that it reports otherwise; it may give its whole answer only if the
+# from the second on, and so forth. The runs are tests of tasks of five pieces and of claims, which
+# must still pass, one row of each call of witness/rows, and commands of the program, with several
+# numbers of workers and sizes of pieces. If a growth is refused, the answers to rows end there, and
+# a command says `out of memory`, or reports the fault that it reports otherwise; it may give its whole answer only if the
 # growth was for the start of a worker. If threads are refused, it gives its whole answer. It never
 # leaves files or rows that aren't part of its whole answer. A `convert` of one zone and of a column
 # of one round starts its workers, all but the calling thread, once, and once more for the rows
@@ -41,7 +41,27 @@ pass() {
 pass program_tests pieces::values_stand_in_order
 pass program_tests pieces::the_least_stop_decides
 pass program_tests claims::a_pass_sees_the_report_of_another
-pass zone_tests growths::calls_answer_the_same_after_a_refused_growth
+
+# ------------------------------------------------------------------ calls of the library
+
+build probe counts
+python3 witness/worked_rows.py --calls witness/rows/*.txt >"$work/calls"
+crates/probe/out/probe rows <"$work/calls" >"$work/answers"
+for ((n = 1; ; n++)); do
+    status=0
+    timeout 60 env "REFUSE_GROWTH=$n" "LD_PRELOAD=$work/refuse.so" crates/probe/out/probe rows \
+        <"$work/calls" >"$work/got" 2>"$work/log" || status=$?
+    grep -q '^refused' "$work/log" || break
+    # What finds no memory for its answer says so alone.
+    if [ $status = 0 ] || { [ "$(cat "$work/got")" != 'out of memory' ] &&
+        [ -s "$work/got" ] && ! cmp -s -n "$(stat -c %s "$work/got")" "$work/got" "$work/answers"; }; then
+        echo "rows, REFUSE_GROWTH=$n: status $status" >&2
+        diff "$work/answers" "$work/got" >&2
+        exit 1
+    fi
+done
+cmp "$work/got" "$work/answers"
+echo "$(wc -l <"$work/calls") calls of the library: $((n - 1)) growths refused in turn"
 
 # ------------------------------------------------------------------ commands
 

@@ -2,10 +2,12 @@
 """Calls the library's functions as files of rows say, and compares the answers with those that stand in the rows.
 
 usage: worked_rows.py PROBE FILE..
+       worked_rows.py --calls FILE..
 
 PROBE is the program of crates/probe, which answers by its word `rows`. FILE is NAME.txt with calls of the module NAME of
 crates/probe/src/rows. Prints each row that differs, each call of a module that no row makes, and the number of rows. The
-status is 1 if there is such a row or call.
+status is 1 if there is such a row or call. With `--calls` it prints the first row of each call, as PROBE reads it, and calls
+nothing.
 
 A file is made of lines. The first characters say what a line is:
 
@@ -144,6 +146,14 @@ def differences_of(files, rows, answers):
         yield from (f'{module}.txt: no row calls {call}' for call in sorted(calls - made))
 
 
+def print_calls(rows):
+    """Prints the first row of each call."""
+    first = {}
+    for row in rows:
+        first.setdefault(tuple(row.call.split()[:2]), row.call)
+    print('\n'.join(first.values()))
+
+
 def main():
     program, *paths = sys.argv[1:]
     files = {Path(path).stem: blocks_of(Path(path)) for path in paths}
@@ -153,6 +163,9 @@ def main():
             named[block.head[2:]], = texts_of(named, block)
     rows = [row for module, blocks in files.items() for block in blocks if block.head[0] == '>'
             for row in rows_of(named, module, block)]
+    if program == '--calls':
+        print_calls(rows)
+        return
     differences = list(differences_of(files, rows, answers_of(program, rows)))
     for difference in differences[:20]:
         print(difference, file=sys.stderr)

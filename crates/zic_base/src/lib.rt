@@ -1,5 +1,5 @@
 //! Types and texts that all crates share: places of lines, faults of sources and zones, short
-//! texts, the bytes of abbreviations, digits, states, and limits. The tests stand in `zone_tests`.
+//! texts, the bytes of abbreviations, digits, states, and limits. The rows of `witness/rows` test it.
 #![tactic(auto)]
 
 mod byte;

@@ -511,7 +511,8 @@ Right:
 ?  A generated source with a different abbreviation for each change.
 @RowFields?A record doesn't have two fields.?  A record doesn't have two fields. With `--zone`: not one. With
   `--zone-field` or `--time-field`: not as many as these say. With `--append`:
-  fewer than are read.
+  fewer than are read. With `--keep-going` the record is written as it stands,
+  the run goes on, and `N rows with faults` is printed at the end.
 ?  `NAME,SECONDS` with one comma.
 ?
 The examples use:
@@ -966,7 +967,7 @@ Right:
 ?  A service that runs with its standard input closed.
 @cannot write PATH?The file at PATH, or a folder that it needs, can't be written.?  The file at PATH, or a folder that it needs, can't be written. Status 3. PATH
   may also be the file of `--faults`. The files of all earlier Zone and Link
-  lines are in place; with `--links hard` or `symlink` those of zones come first.
+  lines are in place; with `--links hard` or `symlink` all zones come first.
 ?  A folder that can be written to and has room. DIR must not be empty.
 ?
 The examples use:

@@ -16,7 +16,7 @@ Gains None new replies = ⊤
 Gains (Some old) None replies = ⊥
 Gains (Some old) (Some new) replies = new ≡ old ++ replies
 
--- A tree replied to names of zones only, to each of them once.
+-- A tree replied to names of zones only, and to none of them twice.
 pub record AreAsked (replies : List Reply) : Type 0 where
   pub named : All (λ reply. is_name reply.name ≡ true) replies
   pub once : AllPairs (λ reply other. reply.name ≢ other.name) replies

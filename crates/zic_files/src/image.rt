@@ -30,12 +30,12 @@ impl Model for Image {
     ghost invariant = { λ i. IsFile i.octets.items i.zone };
 }
 
-/// Why no image is made of bytes that are to have rows.
+/// Why no image is made of bytes that rows are to be made of.
 #[derive(Clone, Copy, Debug, PartialEq, Eq)]
 pub enum Unfit {
     /// `zic_tzif::read` refuses them: the first check that fails.
     Bad(Reason),
-    /// The TZ string is empty: local time is left open after the last transition, if there is one.
+    /// The TZ string is empty: local time is left open from the last transition on, if there is one.
     NoFooter,
     /// Some local time type, or a state of the footer, is farther than 24:00:00 from UT, or its
     /// abbreviation is other than 3 to 16 ASCII letters, digits, `+` and `-`.

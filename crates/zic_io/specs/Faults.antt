@@ -25,6 +25,6 @@ abbrev pub held_by : {W : Type 0} → (W → Option (List ℕ)) → Option W →
 held_by contents None = None
 held_by contents (Some file) = contents file
 
--- what the file holds, where that is known, grew by the lines of just these faults
+-- what the file holds, if there is one and that is known, grew by the lines of just these faults
 abbrev pub HasLines : {W : Type 0} → (W → Option (List ℕ)) → FaultNotes W → Type 0
 HasLines contents notes = IfSome notes.file (λ file. Appends notes.start (contents file) (faults_text notes.noted))

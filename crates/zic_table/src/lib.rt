@@ -1,5 +1,5 @@
 //! The table of a zone, which is the content of its file; and the file of a zone, compiled and
-//! read again. The tests stand in `zone_tests`.
+//! read again. The rows of `witness/rows` test it.
 #![tactic(auto)]
 
 mod image;
