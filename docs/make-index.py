@@ -92,7 +92,7 @@ class Index:
         while rest:
             at = rest.pop()
             name = rf'\b{at.owner}\b' if at.trait else rf'\b{at.name}(?:::<[^>()]*>)?\('
-            near = [g for g in crate if g not in seen and re.search(name, g.head + g.body)]
+            near = [g for g in crate if g not in seen and is_in_scope(at, g) and re.search(name, g.head + g.body)]
             seen |= set(near)
             yield from (g for g in near if g.is_public)
             rest += [g for g in near if not g.is_public]
@@ -133,6 +133,13 @@ class Index:
         own = [link(path.stem, path) for path, within in self.edits[f].items() if not within]
         others = [f'{link(path.stem, path)} in `{within.title}`' for path, within in self.edits[f].items() if within]
         return ', '.join(own or others[:1])
+
+
+def is_in_scope(f, caller):
+    """Returns whether a function may call another by its name: a free one is of its module, or is imported."""
+    module, other = f.module.path.stem, caller.module
+    path = rf'\b{module}(?:::{{[^;]*?\b|::){f.name}\b'
+    return f.owner != '' or other is f.module or re.search(path, other.text) is not None
 
 
 def tests_of(f):
