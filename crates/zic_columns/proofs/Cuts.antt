@@ -6,7 +6,7 @@ use Rattle.std.proofs.lemmas.List.Elements.{All-head, All-nil, All-push, All-tai
 use Rattle.std.proofs.lemmas.Bool.{cases_lt, eqb-true}
 use Rattle.std.proofs.lemmas.Grind.{flat_map-append}
 use Rattle.zic_columns.specs.Column.{AreWholeRecords, column_records}
-use Rattle.zic_columns.specs.Cut.{AreCutAfter}
+use Rattle.zic_columns.specs.code.Cut.{AreCutAfter}
 use Rattle.zic_columns.specs.Own.{Whole, whole_records}
 use Rattle.zic_columns.specs.Round.{ArePiecesOf, wholes_of}
 use Rattle.zic_columns.specs.code.Range.{AreWithin, piece_at, pieces_at}

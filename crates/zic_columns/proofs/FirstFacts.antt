@@ -7,7 +7,7 @@ use Rattle.std.proofs.lemmas.List.Elements.{All-push, All-weaker}
 use Rattle.memchr.specs.Find.{IsFirstByte, is_byte3}
 use Rattle.csv.specs.declared.parser.State.TheVariants as st
 use Rattle.zic_columns.specs.Column.{AreWholeRecords, HasNoQuote, column_records, ends_line, fields_of, plain_records}
-use Rattle.zic_columns.specs.Cut.{AreCutAfter}
+use Rattle.zic_columns.specs.code.Cut.{AreCutAfter}
 use Rattle.zic_columns.specs.code.Line.{IsAfterLineEnds, IsFirstRecord}
 use Rattle.zic_columns.specs.code.Machine.{BeginsRecord, IsEndOfRecord, ReadsTo, state_at}
 use Rattle.zic_columns.specs.declared.machine.Place.{Place}

@@ -3,7 +3,7 @@ use Rattle.std.proofs.Common.{◌≡◌, ◌⊎◌, ℕ, ◌≤◌, List, [], �
 use Rattle.std.proofs.lemmas.List.{append-nil, drop_all, drop_at, length-append, length-drop, length-take, nil_from_length, take-append-drop}
 use Rattle.std.specs.Io.KnownBytes.{prepend_known}
 use Rattle.zic_columns.specs.Column.{AreWholeRecords, column_records}
-use Rattle.zic_columns.specs.Cut.{AreCutAfter}
+use Rattle.zic_columns.specs.code.Cut.{AreCutAfter}
 use Rattle.zic_columns.specs.Own.{Whole, first_own, first_text, own_texts, whole_records}
 use Rattle.zic_columns.specs.Round.{PassesFirst}
 use Rattle.zic_columns.specs.code.Hand.{AreSomeRecords, CanBeCut, Takes}

@@ -6,7 +6,7 @@ use Rattle.std.proofs.lemmas.List.{drop-append-le, drop-drop, drop_all, drop_at,
 use Rattle.std.proofs.lemmas.List.Elements.{All-take}
 use Rattle.csv.specs.declared.parser.State.TheVariants as st
 use Rattle.zic_columns.specs.Column.{AreWholeLines, AreWholeRecords, HasNoQuote, IsFirstQuote, ends_line}
-use Rattle.zic_columns.specs.Cut.{AreCutAfterLines}
+use Rattle.zic_columns.specs.code.Cut.{AreCutAfterLines}
 use Rattle.zic_columns.specs.code.Hand.{BeginWithLines, IsScanned}
 use Rattle.zic_columns.specs.code.Machine.{BeginsRecord, IsEndOfRecord, ReadsTo, state_at}
 use Rattle.zic_columns.specs.declared.hand.Scan.{Scan}

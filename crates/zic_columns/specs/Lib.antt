@@ -1,6 +1,5 @@
 pub mod Column
 pub mod Record
-pub mod Cut
 pub mod Round
 pub mod Exchange
 pub mod Wide

@@ -2,7 +2,7 @@
 
 ghost use Rattle.std.specs.Prelude.{◌≡◌, [], MatchOption};
 ghost use Rattle.zic_columns.specs.Column.{column_records};
-ghost use Rattle.zic_columns.specs.Cut.{AreCutAfter};
+ghost use Rattle.zic_columns.specs.code.Cut.{AreCutAfter};
 ghost use Rattle.zic_columns.specs.code.Line.{IsFirstRecord};
 ghost use Rattle.zic_columns.specs.code.Machine.{BeginsRecord};
 

@@ -2,7 +2,7 @@
 
 ghost use Rattle.std.specs.Prelude.{◌≤◌, length, take, drop};
 ghost use Rattle.zic_columns.specs.Column.{AreWholeRecords};
-ghost use Rattle.zic_columns.specs.Cut.{AreCutAfterLines};
+ghost use Rattle.zic_columns.specs.code.Cut.{AreCutAfterLines};
 ghost use Rattle.zic_columns.specs.code.Hand.{BeginWithLines, IsScanned};
 
 use crate::machine::{Place, record_end};
