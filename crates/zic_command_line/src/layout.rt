@@ -105,7 +105,7 @@ fn delimiter(alloc: Global, matches: &ArgMatches<'_>) -> Result<Delimiter, NoReq
         Some(delimiter) => Ok(delimiter),
         None => Err(usage(
             alloc,
-            "--delimiter is tab, or an ASCII character that no name and no number has",
+            "--delimiter is tab, or an ASCII character that no field of a row has",
         )),
     }
 }

@@ -934,8 +934,8 @@ Right:
   $ pzic show tree/NY 0
 ?  Some other file.
 @cannot read PATH?The source or the file can't be read.?  The source or the file can't be read. Status 3.
-?  The path of a readable file, or `-` for standard input. A source has at most
-  67,108,864 bytes.
+?  The path of a readable file. For `check` and `build` it may be `-`, standard
+  input. A source has at most 67,108,864 bytes.
 ?
 The examples use:
   $ echo 'Zone Etc/UTC 0 - UTC' >utc.zi
@@ -1032,7 +1032,8 @@ It prints:
 
 Right:
   $ echo 0 | pzic convert --zone Etc/UTC utc.zi
-?  A name of another release or of `backward`: `pzic check` lists all names.
+?  A name of another release or of `backward`: `pzic check` lists all names of a
+  source. With `--tree`, list the folder.
 @out of memory?The system refused memory.?  The system refused memory. Status 4.
 ?  A few MB for a release of the tz database, and at most some 60 MB for a
   column with 4 threads.
