@@ -23,4 +23,5 @@ pub mod InMemory
 pub mod Asking
 pub mod Staying
 mod Trees
+mod Ends
 mod TreeEnds

@@ -2,12 +2,13 @@
 use Rattle.std.proofs.Common.{◌≡◌, ◌+◌, ℕ, List, [], ◌++◌, Option, Some, None, refl}
 use Rattle.std.proofs.Math.Seq.{take-length}
 use Rattle.std.specs.List.{concat}
-use Rattle.std.specs.Prelude.{IfSome}
+use Rattle.std.specs.Prelude.{IfErr, IfOk, IfSome, Result}
 use Rattle.zic_columns.specs.Round.{HasNoRecord, TakesPieces}
 use Rattle.zic_counted.specs.Counts.{Counts}
 use Rattle.zic_counted.specs.Written.{FailsWithin}
 use Rattle.zic_files.specs.File.{File}
 use Rattle.zic_files.specs.Sound.{AreSoundFiles}
+use Rattle.zic_files.specs.Tree.{Learnt, Reply}
 use Rattle.zic_plan.specs.Plan.{Limits}
 use Rattle.zic_plan.specs.declared.layout.Layout.{Layout}
 use Rattle.zic_plan.specs.declared.stop.RowFault.{RowFault}
@@ -18,18 +19,20 @@ use Rattle.zic_convert.specs.Column.{ConvertsBy, header_text}
 use Rattle.zic_convert.specs.Convert.{WritesAllOf, WritesPartOf}
 use Rattle.zic_convert.specs.LayoutRows.{faults_by}
 use Rattle.zic_convert.specs.Log.{AreFaultsBy, Notes, NotesPart}
-use Rattle.zic_convert.specs.Tree.{ConvertsAllBy, EndsBy, Run}
-use Rattle.zic_convert.specs.code.Halt.{IsReadingStop, NotesAtHalt, WritesAtHalt}
+use Rattle.zic_convert.specs.Tree.{ConvertsAllBy, EndsBy, EndsByTree, HoldsByLearnt, Run}
+use Rattle.zic_convert.specs.code.Halt.{EndsAtHalt, HaltsByTree, IsEnd, IsReadingStop, NotesAtHalt, WritesAtHalt}
 use Rattle.zic_convert.specs.code.Progress.{IsSoFar, RowsOfRecords, Takes}
 use Rattle.zic_convert.specs.code.Row.{wholes_in, wholes_of_all}
 use Rattle.zic_convert.specs.code.Written.{HaltsInRound, WritesRound, Wrote, pieces_by}
 use Rattle.zic_convert.specs.declared.halt.Halt.{Halt}
 use Rattle.zic_convert.specs.declared.halt.Halt.TheVariants as halt
+use Rattle.zic_convert.proofs.Ends.{err_end}
 use Rattle.zic_convert.proofs.Halts.{all_done, ends_at_flush, ends_in_round, goes_on, noted_in_round}
 use Rattle.zic_convert.proofs.Logs.{all_noted, part_all, unread_noted}
 use Rattle.zic_convert.proofs.Options.{for_some, if_some}
 use Rattle.zic_convert.proofs.Progress.{at_start, none_taken, round_taken, taken_come_next, unread_part}
 use Rattle.zic_convert.proofs.Sounds.{all_known}
+use Rattle.zic_convert.proofs.Trees.{by_learnt, learnt_ends}
 
 -- how far a conversion of bytes, where they are known, has come by these files
 abbrev pub IsFarBy : Layout → ℕ → Option (List ℕ) → Option (List ℕ) → ℕ → Option (List ℕ) → Option (List ℕ) → Option (List RowFault) → Option (List RowFault) → List File → Type 0
@@ -118,7 +121,7 @@ module _ (layout : Layout) (most : ℕ) (run : Run) (files : List File) where
       × ((faults : List RowFault) × AreFaultsBy files layout most column faults × NotesPart run.log run.log' faults))
 
   -- all rows are a part
-  pub all_in_part : (n : ℕ) → ConvertsAllBy layout most n run files → EndsInPart
+  all_in_part : (n : ℕ) → ConvertsAllBy layout most n run files → EndsInPart
   all_in_part n done = if_some run.column _ (λ column e.
       let (writes, notes) = for_some run.column _ column done e in
       let (faults, are, noted) = notes in (
@@ -133,7 +136,8 @@ module _ (layout : Layout) (most : ℕ) (run : Run) (files : List File) where
         (faults, are, part_all run.log run.log' faults noted),
       ))
 
-  pub ends_as_read : {R : Type 0} (reader : Counts R) (failed given most_bytes : ℕ) (why : RunStop) → IsReadingStop reader failed given most_bytes why → EndsInPart → EndsBy layout most why run files
+  -- it ends for its reader
+  ends_as_read : {R : Type 0} (reader : Counts R) (failed given most_bytes : ℕ) (why : RunStop) → IsReadingStop reader failed given most_bytes why → EndsInPart → EndsBy layout most why run files
   ends_as_read reader failed given most_bytes stop.ReadFailed is part = part
   ends_as_read reader failed given most_bytes stop.ColumnTooLong is part = part
   ends_as_read reader failed given most_bytes stop.Memory is part = part
@@ -141,3 +145,16 @@ module _ (layout : Layout) (most : ℕ) (run : Run) (files : List File) where
   ends_as_read reader failed given most_bytes (stop.Source fault) is part = absurd is
   ends_as_read reader failed given most_bytes stop.WriteFailed is part = absurd is
   ends_as_read reader failed given most_bytes stop.NoThread is part = absurd is
+
+-- how a conversion by a tree ends early
+pub ends_by_tree : {R : Type 0} (reader : Counts R) (failures taken most_bytes : ℕ) (layout : Layout) (most : ℕ) (run : Run) (replies : List Reply) (gave gives : Option (List Reply)) (learnt : Learnt)
+    (outcome : Result ℕ Halt) (result : Result ℕ RunStop) → IsEnd reader failures taken most_bytes outcome result
+    → IfOk outcome (λ n. HoldsByLearnt replies gave gives learnt (ConvertsAllBy layout most n run))
+    → IfErr outcome (λ why. HaltsByTree why replies gave gives learnt (EndsAtHalt layout most why run))
+    → IfErr result (λ why. EndsByTree why replies gave gives learnt (EndsBy layout most why run))
+ends_by_tree reader failures taken most_bytes layout most run replies gave gives learnt outcome result is =
+    err_end reader failures taken most_bytes outcome result _ (λ why. HaltsByTree why replies gave gives learnt (EndsAtHalt layout most why run)) _
+    (λ n all. by_learnt replies gave gives learnt _ all _ (λ files sound done. all_in_part layout most run files n done))
+    (λ why read part. learnt_ends why replies gave gives learnt _ (by_learnt replies gave gives learnt _ part _
+    (λ files sound part. ends_as_read layout most run files reader failures taken most_bytes why read part)))
+    (λ why ends. ends) is

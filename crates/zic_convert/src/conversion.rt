@@ -15,7 +15,7 @@ ghost use Rattle.zic_convert.specs.Log.{Notes, NotesAll, NotesUntil};
 ghost use Rattle.zic_convert.specs.code.Progress.{BeginsRows, RowsOfColumn, RowsOfRecords};
 ghost use Rattle.zic_convert.specs.code.Progress.{faults_of_column, header_in};
 ghost use Rattle.zic_convert.specs.code.Row.{wholes_in};
-ghost use Rattle.zic_convert.specs.code.Halt.{IsCauseOfHalt, IsReadingStop, WritesAtHalt};
+ghost use Rattle.zic_convert.specs.code.Halt.{IsCauseOfHalt, IsEnd, IsReadingStop, WritesAtHalt};
 ghost use Rattle.zic_convert.specs.code.Halt.{NotesAtHalt, NotesUntilHalt};
 
 use crate::halt::Halt;
@@ -278,6 +278,29 @@ pub(crate) fn reading_stop<R>(reader: &Counted<R>, failures: u64, taken: u64, mo
     RunStop::Memory
 }
 
+/// Returns how a conversion ends whose column had this outcome. The reader had counted `failures`
+/// failures and `taken` bytes before, and may have taken `most` bytes since.
+///
+/// No clause of what reads a column says how much it takes, or that no read failed: the reader's own
+/// counts decide.
+pub(crate) fn ended<R>(
+    outcome: Result<u64, Halt>,
+    reader: &Counted<R>,
+    failures: u64,
+    taken: u64,
+    most: u64,
+) -> Result<u64, RunStop>
+    ensures { IsEnd reader.now failures taken most outcome result }
+{
+    match outcome {
+        Ok(_) if reader.has_failed_since(failures) => Err(RunStop::ReadFailed),
+        Ok(_) if reader.taken().saturating_sub(taken) > most => Err(RunStop::ColumnTooLong),
+        Ok(count) => Ok(count),
+        Err(Halt::Stop(stop)) => Err(stop),
+        Err(Halt::Unread) => Err(reading_stop(reader, failures, taken, most)),
+    }
+}
+
 /// Converts a column of records, each with a zone's name and an instant, to rows of six fields: the
 /// name, the instant, local time, UT offset, daylight flag (0 or 1) and abbreviation. Returns the
 /// number of rows.
@@ -340,17 +363,8 @@ pub fn convert<T: Threads + Wait + Sync, R: Read, W: Write, G: Gate + Sync>(
         plan,
         gate,
     };
-    match convert_column(&setting, &mut *reader, writer) {
-        // No clause of what reads a column says how much it takes, or that no read failed: the
-        // reader's own counts decide.
-        Ok(_) if reader.has_failed_since(failures) => Err(RunStop::ReadFailed),
-        Ok(_) if reader.taken().saturating_sub(taken) > plan.max_bytes() => {
-            Err(RunStop::ColumnTooLong)
-        }
-        Ok(count) => Ok(count),
-        Err(Halt::Stop(stop)) => Err(stop),
-        Err(Halt::Unread) => Err(reading_stop(reader, failures, taken, plan.max_bytes())),
-    }
+    let outcome = convert_column(&setting, &mut *reader, writer);
+    ended(outcome, reader, failures, taken, plan.max_bytes())
 }
 
 /// Converts a column as [`convert`] does, after its first record, which is a header: it makes no
@@ -391,15 +405,8 @@ pub fn convert_after_header<T: Threads + Wait + Sync, R: Read, W: Write>(
         plan,
         gate: &Open,
     };
-    match convert_body(&setting, &mut *reader, writer) {
-        Ok(_) if reader.has_failed_since(failures) => Err(RunStop::ReadFailed),
-        Ok(_) if reader.taken().saturating_sub(taken) > plan.max_bytes() => {
-            Err(RunStop::ColumnTooLong)
-        }
-        Ok(count) => Ok(count),
-        Err(Halt::Stop(stop)) => Err(stop),
-        Err(Halt::Unread) => Err(reading_stop(reader, failures, taken, plan.max_bytes())),
-    }
+    let outcome = convert_body(&setting, &mut *reader, writer);
+    ended(outcome, reader, failures, taken, plan.max_bytes())
 }
 
 /// How a column is converted: by which files, how work is shared and how long the column may be, and
@@ -473,13 +480,6 @@ pub fn convert_by<T: Threads + Wait + Sync, R: Read, W: Write, L: FaultLog>(
         plan,
         gate: &Open,
     };
-    match convert_delimited(&setting, order.layout, &mut *reader, writer, log) {
-        Ok(_) if reader.has_failed_since(failures) => Err(RunStop::ReadFailed),
-        Ok(_) if reader.taken().saturating_sub(taken) > plan.max_bytes() => {
-            Err(RunStop::ColumnTooLong)
-        }
-        Ok(count) => Ok(count),
-        Err(Halt::Stop(stop)) => Err(stop),
-        Err(Halt::Unread) => Err(reading_stop(reader, failures, taken, plan.max_bytes())),
-    }
+    let outcome = convert_delimited(&setting, order.layout, &mut *reader, writer, log);
+    ended(outcome, reader, failures, taken, plan.max_bytes())
 }

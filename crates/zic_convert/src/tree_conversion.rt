@@ -15,7 +15,7 @@ ghost use Rattle.zic_convert.specs.code.Progress.{RowsOfColumn, RowsOfRecords, f
 ghost use Rattle.zic_convert.specs.code.Row.{wholes_in};
 ghost use Rattle.zic_convert.specs.code.Written.{HaltsInRound, WritesRound, pieces_by};
 
-use crate::conversion::{Begun, begin_column, reading_stop, round_len};
+use crate::conversion::{Begun, begin_column, ended, round_len};
 use crate::halt::Halt;
 use crate::learning::learn_round;
 use crate::output::{flush, header_line, write_all};
@@ -275,12 +275,6 @@ pub fn convert_tree<T: Threads + Wait + Sync, Z: ZoneTree, R: Read, W: Write, L:
 {
     let failures = reader.failures();
     let taken = reader.taken();
-    let most = setting.plan.max_bytes();
-    match convert_tree_delimited(setting, tree, files, &mut *reader, writer, log) {
-        Ok(_) if reader.has_failed_since(failures) => Err(RunStop::ReadFailed),
-        Ok(_) if reader.taken().saturating_sub(taken) > most => Err(RunStop::ColumnTooLong),
-        Ok(count) => Ok(count),
-        Err(Halt::Stop(stop)) => Err(stop),
-        Err(Halt::Unread) => Err(reading_stop(reader, failures, taken, most)),
-    }
+    let outcome = convert_tree_delimited(setting, tree, files, &mut *reader, writer, log);
+    ended(outcome, reader, failures, taken, setting.plan.max_bytes())
 }

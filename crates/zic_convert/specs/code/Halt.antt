@@ -1,5 +1,5 @@
 -- How a conversion ends early.
-use Rattle.std.specs.Prelude.{◌≡◌, ℕ, ◌+◌, ◌<◌, ◌⊎◌, List, Option, IfSome}
+use Rattle.std.specs.Prelude.{◌≡◌, ℕ, ◌+◌, ◌<◌, ◌≤◌, ◌⊎◌, List, Option, IfSome, IfErr, IfOk, Result, Ok, Err}
 use Rattle.zic_counted.specs.Counts.{Counts, HasFailedSince, greatest}
 use Rattle.zic_files.specs.File.{File}
 use Rattle.zic_files.specs.Tree.{Learnt, Reply}
@@ -45,6 +45,19 @@ IsReadingStop reader failures taken most stop.ReadFailed = HasFailedSince reader
 IsReadingStop reader failures taken most stop.ColumnTooLong = (taken + most < reader.taken) ⊎ (reader.taken ≡ greatest)
 IsReadingStop reader failures taken most stop.Memory = Unit {0}
 IsReadingStop reader failures taken most _ = ⊥
+
+-- why the conversion of a column with this outcome ends early: where all was converted, or the column can't be read on, its reader tells why
+abbrev pub IsStopOf : {R : Type 0} → Counts R → ℕ → ℕ → ℕ → Result ℕ Halt → RunStop → Type 0
+IsStopOf reader failures taken most (Ok n) why = IsReadingStop reader failures taken most why
+IsStopOf reader failures taken most (Err halt.Unread) why = IsReadingStop reader failures taken most why
+IsStopOf reader failures taken most (Err (halt.Stop stop)) why = why ≡ stop
+
+-- how a conversion ends, by the outcome of its column and by what the reader counted since it had these counts
+pub record IsEnd {R : Type 0} (reader : Counts R) (failures taken most : ℕ) (outcome : Result ℕ Halt) (result : Result ℕ RunStop) : Type 0 where
+  pub rows : IfOk result (λ n. outcome ≡ Ok n)
+  pub within : IfOk result (λ _. reader.taken ≤ taken + most)
+  pub unfailed : IfOk result (λ _. HasFailedSince reader failures → ⊥)
+  pub stops : IfErr result (IsStopOf reader failures taken most outcome)
 
 -- by these files, the conversion of a column ended early
 abbrev pub EndsAtHalt : Layout → ℕ → Halt → Run → List File → Type 0
