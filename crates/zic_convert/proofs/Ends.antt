@@ -6,12 +6,12 @@ use Rattle.std.specs.Prelude.{IfErr, IfOk, IfSome, Result, Ok, Err}
 use Rattle.zic_counted.specs.Counts.{Counts}
 use Rattle.zic_files.specs.File.{File}
 use Rattle.zic_plan.specs.declared.layout.Layout.{Layout}
-use Rattle.zic_plan.specs.declared.stop.RowFault.{RowFault}
 use Rattle.zic_plan.specs.declared.stop.RunStop.{RunStop}
 use Rattle.zic_plan.specs.declared.stop.RunStop.TheVariants as stop
 use Rattle.zic_convert.specs.Convert.{IsCauseOf, Outcome, WritesAllOf, WritesAtOf, WritesPartOf}
-use Rattle.zic_convert.specs.Log.{NotesAll, NotesUntil}
-use Rattle.zic_convert.specs.code.Halt.{IsCauseOfHalt, IsEnd, IsOwnCause, IsReadingStop, NotesUntilHalt, WritesAtHalt}
+use Rattle.zic_convert.specs.Column.{header_text}
+use Rattle.zic_convert.specs.Tree.{ConvertsAllBy, EndsBy, Run}
+use Rattle.zic_convert.specs.code.Halt.{EndsAtHalt, IsCauseOfHalt, IsEnd, IsOwnCause, IsReadingStop, WritesAtHalt}
 use Rattle.zic_convert.specs.declared.halt.Halt.{Halt}
 use Rattle.zic_convert.specs.declared.halt.Halt.TheVariants as halt
 use Rattle.zic_convert.proofs.Logs.{part_all}
@@ -63,29 +63,42 @@ module _ {R : Type 0} (reader : Counts R) (failures taken most : ℕ) where
     writes_end outcome result is =
         err_end outcome result _ (λ why. IfSome known (λ column. WritesAtHalt (head column) (C column) why old new)) _ all_part part_read (λ why w. w) is
 
-  -- what was noted
-  module _ (known : Option (List ℕ)) (files : List File) (layout : Layout) (rows : ℕ) (old new : Option (List RowFault)) where
-    noted_part : (n : ℕ) → IfSome known (λ column. NotesAll files layout rows column old new) → IfSome known (λ column. NotesUntilHalt files layout rows column halt.Unread old new)
-    noted_part n all = if_some known _ (λ column e.
-        let (faults, are, noted) = for_some known _ column all e in
-        (faults, are, part_all old new faults noted))
+-- what was written of a column by a layout, and noted
+module _ (layout : Layout) (most : ℕ) (run : Run) (files : List File) where
+  -- a part of the rows was written, and of their faults noted
+  abbrev EndsInPart : Type 0
+  EndsInPart = EndsAtHalt layout most halt.Unread run files
 
-    noted_read : (why : RunStop) → IsReadingStop reader failures taken most why → IfSome known (λ column. NotesUntilHalt files layout rows column halt.Unread old new)
-        → IfSome known (λ column. NotesUntil files layout rows column why old new)
-    noted_read stop.ReadFailed is part = part
-    noted_read stop.ColumnTooLong is part = part
-    noted_read stop.Memory is part = part
-    noted_read (stop.Row row kind) is part = absurd is
-    noted_read (stop.Source fault) is part = absurd is
-    noted_read stop.WriteFailed is part = absurd is
-    noted_read stop.NoThread is part = absurd is
+  -- all rows are a part
+  pub all_in_part : (n : ℕ) → ConvertsAllBy layout most n run files → EndsInPart
+  all_in_part n done = if_some run.column _ (λ column e.
+      let (writes, notes) = for_some run.column _ column done e in
+      let (faults, are, noted) = notes in (
+        record {
+          texts = writes.texts;
+          fault = None;
+          converts = writes.converts;
+          part = header_text layout column ++ concat writes.texts;
+          starts = take-length (header_text layout column ++ concat writes.texts);
+          wrote = writes.wrote;
+        },
+        (faults, are, part_all run.log run.log' faults noted),
+      ))
 
-    pub notes_end : (outcome : Result ℕ Halt) (result : Result ℕ RunStop) → IsEnd reader failures taken most outcome result
-        → IfOk outcome (λ _. IfSome known (λ column. NotesAll files layout rows column old new))
-        → IfErr outcome (λ why. IfSome known (λ column. NotesUntilHalt files layout rows column why old new))
-        → IfErr result (λ why. IfSome known (λ column. NotesUntil files layout rows column why old new))
-    notes_end outcome result is =
-        err_end outcome result _ (λ why. IfSome known (λ column. NotesUntilHalt files layout rows column why old new)) _ noted_part noted_read (λ why n. n) is
+  -- it ends for its reader
+  pub ends_as_read : {R : Type 0} (reader : Counts R) (failed given most_bytes : ℕ) (why : RunStop) → IsReadingStop reader failed given most_bytes why → EndsInPart → EndsBy layout most why run files
+  ends_as_read reader failed given most_bytes stop.ReadFailed is part = part
+  ends_as_read reader failed given most_bytes stop.ColumnTooLong is part = part
+  ends_as_read reader failed given most_bytes stop.Memory is part = part
+  ends_as_read reader failed given most_bytes (stop.Row row kind) is part = absurd is
+  ends_as_read reader failed given most_bytes (stop.Source fault) is part = absurd is
+  ends_as_read reader failed given most_bytes stop.WriteFailed is part = absurd is
+  ends_as_read reader failed given most_bytes stop.NoThread is part = absurd is
+
+  pub ends_by : {R : Type 0} (reader : Counts R) (failed given most_bytes : ℕ) (outcome : Result ℕ Halt) (result : Result ℕ RunStop) → IsEnd reader failed given most_bytes outcome result
+      → IfOk outcome (λ n. ConvertsAllBy layout most n run files) → IfErr outcome (λ why. EndsAtHalt layout most why run files) → IfErr result (λ why. EndsBy layout most why run files)
+  ends_by reader failed given most_bytes outcome result is =
+      err_end reader failed given most_bytes outcome result _ (λ why. EndsAtHalt layout most why run files) _ all_in_part (ends_as_read reader failed given most_bytes) (λ why ends. ends) is
 
 -- nothing is asked of rows
 all_of : (outcome : Result ℕ Halt) → IfOk outcome (λ n. Unit {0})

@@ -24,4 +24,5 @@ pub mod Asking
 pub mod Staying
 mod Trees
 mod Ends
+mod Heads
 mod TreeEnds

@@ -296,15 +296,6 @@ module _ {A : Type 0} (d : ℕ) (known left : Option (List ℕ)) (P : A → List
       ap (map (put_back d)) same ∙ sym (drop-map (put_back d) (records_before header) (whole_records (strip_bom bytes))) in
       below a bytes e (subst (P a) all (for_some left _ rest p at)))
 
-  module _ {E : Type 0} where
-    pub if_ok_begun : (result : Result A E) → IfOk result (λ a. IfSome left (λ bytes. P a (wholes_in d bytes))) → IfOk result (λ a. IfSome known (Q a))
-    if_ok_begun (Ok a) p = begun_as a p
-    if_ok_begun (Err e) p = tt
-
-    pub if_err_begun : (result : Result E A) → IfErr result (λ a. IfSome left (λ bytes. P a (wholes_in d bytes))) → IfErr result (λ a. IfSome known (Q a))
-    if_err_begun (Ok e) p = tt
-    if_err_begun (Err a) p = begun_as a p
-
 -- where one thing holds of what is known, so does another
 module _ {A : Type 0} (known : Option (List ℕ)) (P Q : A → List ℕ → Type 0) (same : (a : A) (bytes : List ℕ) → P a bytes → Q a bytes) where
   known_as : (a : A) → IfSome known (P a) → IfSome known (Q a)
@@ -328,12 +319,3 @@ module _ {A : Type 0} (known left : Option (List ℕ)) (f : List ℕ → List �
 
   pub made_as : (a : A) → IfSome left (P a) → IfSome known (Q a)
   made_as a p = made_of known a (subst (λ (o : Option (List ℕ)). IfSome o (P a)) is p)
-
-  module _ {E : Type 0} where
-    pub if_ok_made : (result : Result A E) → IfOk result (λ a. IfSome left (P a)) → IfOk result (λ a. IfSome known (Q a))
-    if_ok_made (Ok a) p = made_as a p
-    if_ok_made (Err e) p = tt
-
-    pub if_err_made : (result : Result E A) → IfErr result (λ a. IfSome left (P a)) → IfErr result (λ a. IfSome known (Q a))
-    if_err_made (Ok e) p = tt
-    if_err_made (Err a) p = made_as a p

@@ -1,53 +1,39 @@
 -- How far a conversion by a tree has come, and how it ends, by files of the tree.
-use Rattle.std.proofs.Common.{◌≡◌, ◌+◌, ℕ, List, [], ◌++◌, Option, Some, None, refl}
-use Rattle.std.proofs.Math.Seq.{take-length}
-use Rattle.std.specs.List.{concat}
+use Rattle.std.proofs.Common.{◌≡◌, ◌+◌, ℕ, List, [], Option, Some, refl}
 use Rattle.std.specs.Prelude.{IfErr, IfOk, IfSome, Result}
 use Rattle.zic_columns.specs.Round.{HasNoRecord, TakesPieces}
 use Rattle.zic_counted.specs.Counts.{Counts}
-use Rattle.zic_counted.specs.Written.{FailsWithin}
 use Rattle.zic_files.specs.File.{File}
 use Rattle.zic_files.specs.Sound.{AreSoundFiles}
-use Rattle.zic_files.specs.Tree.{Learnt, Reply}
+use Rattle.zic_files.specs.Tree.{IsLearntFrom, Learnt, Reply}
 use Rattle.zic_plan.specs.Plan.{Limits}
 use Rattle.zic_plan.specs.declared.layout.Layout.{Layout}
 use Rattle.zic_plan.specs.declared.stop.RowFault.{RowFault}
 use Rattle.zic_plan.specs.declared.stop.RunStop.{RunStop}
 use Rattle.zic_plan.specs.declared.stop.RunStop.TheVariants as stop
 use Rattle.zic_tzif.specs.Laws.{FilesAnswerOnce}
-use Rattle.zic_convert.specs.Column.{ConvertsBy, header_text}
-use Rattle.zic_convert.specs.Convert.{WritesAllOf, WritesPartOf}
-use Rattle.zic_convert.specs.LayoutRows.{faults_by}
-use Rattle.zic_convert.specs.Log.{AreFaultsBy, Notes, NotesPart}
 use Rattle.zic_convert.specs.Tree.{ConvertsAllBy, EndsBy, EndsByTree, HoldsByLearnt, Run}
-use Rattle.zic_convert.specs.code.Halt.{EndsAtHalt, HaltsByTree, IsEnd, IsReadingStop, NotesAtHalt, WritesAtHalt}
-use Rattle.zic_convert.specs.code.Progress.{IsSoFar, RowsOfRecords, Takes}
+use Rattle.zic_convert.specs.code.Halt.{EndsAtHalt, HaltsByTree, IsEnd}
+use Rattle.zic_convert.specs.code.Learn.{HaltsAtTurn}
+use Rattle.zic_convert.specs.code.Progress.{IsSoFar, Takes}
+use Rattle.zic_convert.specs.code.Rest.{ConvertsRest, HaltsAtHead, HaltsInRecords, HaltsInRest}
 use Rattle.zic_convert.specs.code.Row.{wholes_in, wholes_of_all}
-use Rattle.zic_convert.specs.code.Written.{HaltsInRound, WritesRound, Wrote, pieces_by}
+use Rattle.zic_convert.specs.code.Written.{HaltsInRound, WritesRound, pieces_by}
 use Rattle.zic_convert.specs.declared.halt.Halt.{Halt}
 use Rattle.zic_convert.specs.declared.halt.Halt.TheVariants as halt
-use Rattle.zic_convert.proofs.Ends.{err_end}
-use Rattle.zic_convert.proofs.Halts.{all_done, ends_at_flush, ends_in_round, goes_on, noted_in_round}
-use Rattle.zic_convert.proofs.Logs.{all_noted, part_all, unread_noted}
-use Rattle.zic_convert.proofs.Options.{for_some, if_some}
-use Rattle.zic_convert.proofs.Progress.{at_start, none_taken, round_taken, taken_come_next, unread_part}
+use Rattle.zic_convert.proofs.Ends.{all_in_part, ends_as_read, err_end}
+use Rattle.zic_convert.proofs.Halts.{ends_in_round, goes_on, noted_in_round}
+use Rattle.zic_convert.proofs.Heads.{halts_at_head}
+use Rattle.zic_convert.proofs.Logs.{all_noted, unread_noted}
+use Rattle.zic_convert.proofs.Options.{if_some}
+use Rattle.zic_convert.proofs.Progress.{all_written, at_start, none_taken, round_taken, taken_come_next, unread_part}
 use Rattle.zic_convert.proofs.Sounds.{all_known}
-use Rattle.zic_convert.proofs.Trees.{by_learnt, learnt_ends}
+use Rattle.zic_convert.proofs.Trees.{at_first, by_asked, by_learnt, learnt_ends, nothing_asked}
 
 -- how far a conversion of bytes, where they are known, has come by these files
 abbrev pub IsFarBy : Layout → ℕ → Option (List ℕ) → Option (List ℕ) → ℕ → Option (List ℕ) → Option (List ℕ) → Option (List RowFault) → Option (List RowFault) → List File → Type 0
 IsFarBy layout most known left n held now log noted files =
     (bytes : List ℕ) → known ≡ Some bytes → IsSoFar layout files most (wholes_in layout.delimiter bytes) left n held now log noted
-
--- all rows of the bytes were written, and their faults noted
-abbrev pub IsDoneBy : Layout → ℕ → Option (List ℕ) → ℕ → Option (List ℕ) → Option (List ℕ) → Option (List RowFault) → Option (List RowFault) → List File → Type 0
-IsDoneBy layout most known n held now log noted files = IfSome known (λ bytes.
-    WritesAllOf [] (RowsOfRecords layout files most (wholes_in layout.delimiter bytes)) n held now × Notes log noted (faults_by layout files most 1 (wholes_in layout.delimiter bytes)))
-
--- the conversion of the bytes ended early
-abbrev pub HaltsBy : Layout → ℕ → Option (List ℕ) → Halt → Option (List ℕ) → Option (List ℕ) → Option (List RowFault) → Option (List RowFault) → List File → Type 0
-HaltsBy layout most known why held now log noted files = IfSome known (λ bytes.
-    WritesAtHalt [] (RowsOfRecords layout files most (wholes_in layout.delimiter bytes)) why held now × NotesAtHalt why log noted (faults_by layout files most 1 (wholes_in layout.delimiter bytes)))
 
 pub far_at_start : (layout : Layout) (most : ℕ) (known held : Option (List ℕ)) (log : Option (List RowFault)) (files : List File) → IsFarBy layout most known known 0 held held log log files
 far_at_start layout most known held log files bytes e = at_start layout files most (wholes_in layout.delimiter bytes) known held log bytes e refl
@@ -55,23 +41,16 @@ far_at_start layout most known held log files bytes e = at_start layout files mo
 module _ {W : Type 0} (contents : W → Option (List ℕ)) (once : FilesAnswerOnce) (layout : Layout) (plan : Limits) (known left : Option (List ℕ)) (n : ℕ) (held : Option (List ℕ)) (mid : Counts W)
     (log now : Option (List RowFault)) (files : List File) (sound : AreSoundFiles files) (far : IsFarBy layout plan.max_rows known left n held (contents mid.inner) log now files) where
   -- the column can't be read on
-  pub halts_unread : HaltsBy layout plan.max_rows known halt.Unread held (contents mid.inner) log now files
+  pub halts_unread : HaltsInRest layout plan.max_rows known halt.Unread held (contents mid.inner) log now files
   halts_unread = if_some known _ (λ bytes e. (
     unread_part layout files plan.max_rows (wholes_in layout.delimiter bytes) left n held (contents mid.inner) log now (far bytes e) (all_known files sound once),
     unread_noted layout files plan.max_rows (wholes_in layout.delimiter bytes) left n held (contents mid.inner) log now (far bytes e),
   ))
 
   -- memory was refused
-  pub halts_for_memory : HaltsBy layout plan.max_rows known (halt.Stop stop.Memory) held (contents mid.inner) log now files
+  pub halts_for_memory : HaltsInRest layout plan.max_rows known (halt.Stop stop.Memory) held (contents mid.inner) log now files
   halts_for_memory = if_some known _ (λ bytes e. (
     unread_part layout files plan.max_rows (wholes_in layout.delimiter bytes) left n held (contents mid.inner) log now (far bytes e) (all_known files sound once),
-    unread_noted layout files plan.max_rows (wholes_in layout.delimiter bytes) left n held (contents mid.inner) log now (far bytes e),
-  ))
-
-  -- the writer failed in the end
-  pub halts_at_flush : (new : Counts W) → FailsWithin contents mid new [] → HaltsBy layout plan.max_rows known (halt.Stop stop.WriteFailed) held (contents new.inner) log now files
-  halts_at_flush new fails = if_some known _ (λ bytes e. (
-    ends_at_flush contents layout files plan.max_rows (wholes_in layout.delimiter bytes) (all_known files sound once) left n held mid log now (far bytes e) new stop.WriteFailed refl fails,
     unread_noted layout files plan.max_rows (wholes_in layout.delimiter bytes) left n held (contents mid.inner) log now (far bytes e),
   ))
 
@@ -89,7 +68,7 @@ module _ {W : Type 0} (contents : W → Option (List ℕ)) (once : FilesAnswerOn
         (wholes_of_all layout.delimiter pieces) (taken_come_next layout.delimiter left next (wholes_of_all layout.delimiter pieces) taken) rows are new last next wrote.0 taken wrote.2 wrote.3)
 
     -- or the conversion ended in it
-    pub halts_in_round : (why : Halt) → HaltsInRound (pieces_by layout files plan pieces (n + 1)) contents mid new now last why → HaltsBy layout plan.max_rows known why held (contents new.inner) log last files
+    pub halts_in_round : (why : Halt) → HaltsInRound (pieces_by layout files plan pieces (n + 1)) contents mid new now last why → HaltsInRest layout plan.max_rows known why held (contents new.inner) log last files
     halts_in_round halt.Unread ends = absurd ends
     halts_in_round (halt.Stop why) ends = if_some known _ (λ bytes e. (
       ends_in_round contents layout files plan.max_rows (wholes_in layout.delimiter bytes) (all_known files sound once) left n held mid log now (far bytes e)
@@ -100,51 +79,50 @@ module _ {W : Type 0} (contents : W → Option (List ℕ)) (once : FilesAnswerOn
           refl refl refl refl refl new last why ends,
     ))
 
-  -- no record is left, and all rows are written and flushed
-  pub all_done_by : (next : Option (List ℕ)) → Takes layout.delimiter left next [] → HasNoRecord next → (new : Counts W) → Wrote contents mid new []
-      → IsDoneBy layout plan.max_rows known n held (contents new.inner) log now files
-  all_done_by next none end new flushed = if_some known _ (λ bytes e.
+  -- no record is left
+  pub all_done_by : (next : Option (List ℕ)) → Takes layout.delimiter left next [] → HasNoRecord next → ConvertsRest layout plan.max_rows known n held (contents mid.inner) log now files
+  all_done_by next none end = if_some known _ (λ bytes e.
       let all = wholes_in layout.delimiter bytes in
       let end_far = none_taken layout files plan.max_rows all left next n held (contents mid.inner) log now none (far bytes e) in (
-        all_done contents layout files plan.max_rows all (all_known files sound once) next n held mid log now end_far new end flushed,
+        all_written layout files plan.max_rows all next n held (contents mid.inner) log now end_far end,
         all_noted layout files plan.max_rows all next n held (contents mid.inner) log now end_far end,
       ))
 
+-- the column could not be turned to its next round, or the tree not asked
+pub halts_at_turn : {W : Type 0} (contents : W → Option (List ℕ)) (once : FilesAnswerOnce) (layout : Layout) (plan : Limits) (known left : Option (List ℕ)) (n : ℕ) (held : Option (List ℕ)) (mid : Counts W)
+    (log now : Option (List RowFault)) (replies : List Reply) (gave gives then : Option (List Reply)) (old new : Learnt)
+    → HoldsByLearnt replies gave gives old (IsFarBy layout plan.max_rows known left n held (contents mid.inner) log now) → (why : Halt) → HaltsAtTurn gives then old new why
+    → HaltsByTree why replies gave then new (HaltsInRest layout plan.max_rows known why held (contents mid.inner) log now)
+halts_at_turn contents once layout plan known left n held mid log now replies gave gives then old new far halt.Unread same =
+    rw (same.0, same.1) (by_learnt replies gave gives old _ far _ (λ files sound so_far. halts_unread contents once layout plan known left n held mid log now files sound so_far))
+halts_at_turn contents once layout plan known left n held mid log now replies gave gives then old new far (halt.Stop stop.Memory) asks =
+    by_asked replies gave gives old _ far then _ asks (λ files sound so_far. halts_for_memory contents once layout plan known left n held mid log now files sound so_far)
+halts_at_turn contents once layout plan known left n held mid log now replies gave gives then old new far (halt.Stop (stop.Row row kind)) ends = absurd ends
+halts_at_turn contents once layout plan known left n held mid log now replies gave gives then old new far (halt.Stop (stop.Source fault)) ends = absurd ends
+halts_at_turn contents once layout plan known left n held mid log now replies gave gives then old new far (halt.Stop stop.ReadFailed) ends = absurd ends
+halts_at_turn contents once layout plan known left n held mid log now replies gave gives then old new far (halt.Stop stop.WriteFailed) ends = absurd ends
+halts_at_turn contents once layout plan known left n held mid log now replies gave gives then old new far (halt.Stop stop.ColumnTooLong) ends = absurd ends
+halts_at_turn contents once layout plan known left n held mid log now replies gave gives then old new far (halt.Stop stop.NoThread) ends = absurd ends
+
 -- ---- a whole column
 
--- the whole column was converted, or it ended for its reader
-module _ (layout : Layout) (most : ℕ) (run : Run) (files : List File) where
-  -- a part of the rows was written, and of their faults noted
-  abbrev EndsInPart : Type 0
-  EndsInPart = IfSome run.column (λ column.
-      WritesPartOf (header_text layout column) (ConvertsBy files layout most column) run.held run.held'
-      × ((faults : List RowFault) × AreFaultsBy files layout most column faults × NotesPart run.log run.log' faults))
+-- the rows of a column did not begin
+module _ {W : Type 0} (contents : W → Option (List ℕ)) (once : FilesAnswerOnce) (old new : Counts W) (layout : Layout) (known : Option (List ℕ)) (most : ℕ) (log : Option (List RowFault))
+    (replies : List Reply) (gave : Option (List Reply)) (learnt : Learnt) (from : IsLearntFrom replies learnt) where
+  halts_by_all : (why : Halt) → HaltsAtHead contents old new layout known why → (files : List File) → AreSoundFiles files
+      → HaltsInRecords layout most known why (contents old.inner) (contents new.inner) log log files
+  halts_by_all why ends files sound = halts_at_head contents old new layout known files most (all_known files sound once) log why ends
 
-  -- all rows are a part
-  all_in_part : (n : ℕ) → ConvertsAllBy layout most n run files → EndsInPart
-  all_in_part n done = if_some run.column _ (λ column e.
-      let (writes, notes) = for_some run.column _ column done e in
-      let (faults, are, noted) = notes in (
-        record {
-          texts = writes.texts;
-          fault = None;
-          converts = writes.converts;
-          part = header_text layout column ++ concat writes.texts;
-          starts = take-length (header_text layout column ++ concat writes.texts);
-          wrote = writes.wrote;
-        },
-        (faults, are, part_all run.log run.log' faults noted),
-      ))
-
-  -- it ends for its reader
-  ends_as_read : {R : Type 0} (reader : Counts R) (failed given most_bytes : ℕ) (why : RunStop) → IsReadingStop reader failed given most_bytes why → EndsInPart → EndsBy layout most why run files
-  ends_as_read reader failed given most_bytes stop.ReadFailed is part = part
-  ends_as_read reader failed given most_bytes stop.ColumnTooLong is part = part
-  ends_as_read reader failed given most_bytes stop.Memory is part = part
-  ends_as_read reader failed given most_bytes (stop.Row row kind) is part = absurd is
-  ends_as_read reader failed given most_bytes (stop.Source fault) is part = absurd is
-  ends_as_read reader failed given most_bytes stop.WriteFailed is part = absurd is
-  ends_as_read reader failed given most_bytes stop.NoThread is part = absurd is
+  pub tree_halts_at_head : (why : Halt) → HaltsAtHead contents old new layout known why
+      → HaltsByTree why replies gave gave learnt (HaltsInRecords layout most known why (contents old.inner) (contents new.inner) log log)
+  tree_halts_at_head halt.Unread ends = at_first replies gave learnt _ from (halts_by_all halt.Unread ends)
+  tree_halts_at_head (halt.Stop stop.WriteFailed) ends = at_first replies gave learnt _ from (halts_by_all (halt.Stop stop.WriteFailed) ends)
+  tree_halts_at_head (halt.Stop stop.Memory) ends = nothing_asked replies gave learnt _ from (halts_by_all (halt.Stop stop.Memory) ends)
+  tree_halts_at_head (halt.Stop (stop.Row row kind)) ends = absurd ends
+  tree_halts_at_head (halt.Stop (stop.Source fault)) ends = absurd ends
+  tree_halts_at_head (halt.Stop stop.ReadFailed) ends = absurd ends
+  tree_halts_at_head (halt.Stop stop.ColumnTooLong) ends = absurd ends
+  tree_halts_at_head (halt.Stop stop.NoThread) ends = absurd ends
 
 -- how a conversion by a tree ends early
 pub ends_by_tree : {R : Type 0} (reader : Counts R) (failures taken most_bytes : ℕ) (layout : Layout) (most : ℕ) (run : Run) (replies : List Reply) (gave gives : Option (List Reply)) (learnt : Learnt)

@@ -7,4 +7,5 @@ pub mod ReadyZone
 pub mod Pieces
 pub mod Written
 pub mod Halt
+pub mod Rest
 pub mod Learn

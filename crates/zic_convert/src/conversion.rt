@@ -1,7 +1,7 @@
 //! Converts columns.
 
 ghost use Rattle.std.specs.Prelude.{◌≡◌, ◌≤◌, ◌+◌, [], IfOk, IfErr, IfSome};
-ghost use Rattle.zic_plan.specs.Plan.{IsPlan};
+ghost use Rattle.std.specs.Io.KnownBytes.{Appends};
 ghost use Rattle.zic_counted.specs.Counts.{HasFailedSince};
 ghost use Rattle.csv.specs.Reading.{strip_bom};
 ghost use Rattle.zic_columns.specs.Own.{own_texts};
@@ -10,16 +10,16 @@ ghost use Rattle.zic_convert.specs.Column.{ConvertsBodyTo, ConvertsBy, ConvertsT
 ghost use Rattle.zic_convert.specs.Column.{header_text, own_header};
 ghost use Rattle.zic_convert.specs.Convert.{IsCauseOf, WritesAll, WritesAllOf};
 ghost use Rattle.zic_convert.specs.Convert.{WritesAt, WritesAtOf};
-ghost use Rattle.zic_convert.specs.LayoutRows.{faults_by};
-ghost use Rattle.zic_convert.specs.Log.{Notes, NotesAll, NotesUntil};
-ghost use Rattle.zic_convert.specs.code.Progress.{BeginsRows, RowsOfColumn, RowsOfRecords};
-ghost use Rattle.zic_convert.specs.code.Progress.{faults_of_column, header_in};
-ghost use Rattle.zic_convert.specs.code.Row.{wholes_in};
-ghost use Rattle.zic_convert.specs.code.Halt.{IsCauseOfHalt, IsEnd, IsReadingStop, WritesAtHalt};
-ghost use Rattle.zic_convert.specs.code.Halt.{NotesAtHalt, NotesUntilHalt};
+ghost use Rattle.zic_convert.specs.Log.{NotesAll, NotesUntil};
+ghost use Rattle.zic_convert.specs.Tree.{ConvertsAllBy};
+ghost use Rattle.zic_convert.specs.code.Halt.{EndsAtHalt, IsCauseOfHalt, IsEnd, IsReadingStop};
+ghost use Rattle.zic_convert.specs.code.Halt.{WritesAtHalt};
+ghost use Rattle.zic_convert.specs.code.Progress.{BeginsRows, header_in};
+ghost use Rattle.zic_convert.specs.code.Rest.{ConvertsRecords, ConvertsRest, HaltsAtHead};
+ghost use Rattle.zic_convert.specs.code.Rest.{HaltsInRecords, HaltsInRest};
 
 use crate::halt::Halt;
-use crate::output::{flush, header_line, write_all};
+use crate::output::write_header;
 use crate::pieces::RowPieces;
 use crate::round::convert_round;
 use crate::row_files::RowFiles;
@@ -60,45 +60,34 @@ pub(crate) fn round_len(plan: &Plan) -> usize {
 ///
 /// # Errors
 ///
-/// `Unread` where the column can't be read on, `Memory`, or what ends a round.
-fn convert_rounds<T: Threads + Wait + Sync, R: Read + Drop, W: Write, G: Gate + Sync, L: FaultLog>(
+/// `Unread` where the column can't be read on, or what ends a round.
+fn convert_rounds<T: Threads + Wait + Sync, R: Read, W: Write, G: Gate + Sync, L: FaultLog>(
     setting: &Setting<'_, T, G>,
     layout: &Layout,
-    mut column: Column<R>,
+    files: &RowFiles<'_>,
+    column: &mut Column<R>,
     writer: &mut Counted<W>,
     log: &mut L,
 ) -> Result<u64, Halt>
-    ensures all { IfOk result (λ n. IfSome (unread R.remaining column) (λ bytes. WritesAllOf []
-        (RowsOfRecords layout.now setting.now.files.now setting.now.plan.now.max_rows
-        (wholes_in layout.now.delimiter bytes))
-        n (W.contents writer.old.inner) (W.contents writer.new.inner))) }
+    ensures all { IfOk result (λ n. ConvertsRest layout.now setting.now.plan.now.max_rows
+        (unread R.remaining column.old) n (W.contents writer.old.inner)
+        (W.contents writer.new.inner) (L.noted log.old) (L.noted log.new) files.now) }
     ensures flushed { IfOk result (λ _. writer.new.failures ≡ writer.old.failures) }
-    ensures halt { IfErr result (λ halt. IfSome (unread R.remaining column) (λ bytes. WritesAtHalt []
-        (RowsOfRecords layout.now setting.now.files.now setting.now.plan.now.max_rows
-        (wholes_in layout.now.delimiter bytes))
-        halt (W.contents writer.old.inner) (W.contents writer.new.inner))) }
+    ensures halt { IfErr result (λ halt. HaltsInRest layout.now setting.now.plan.now.max_rows
+        (unread R.remaining column.old) halt (W.contents writer.old.inner)
+        (W.contents writer.new.inner) (L.noted log.old) (L.noted log.new) files.now) }
     ensures cause { IfErr result (IsCauseOfHalt writer.old writer.new) }
-    ensures noted { IfOk result (λ _. IfSome (unread R.remaining column) (λ bytes.
-        Notes (L.noted log.old) (L.noted log.new) (faults_by layout.now setting.now.files.now
-        setting.now.plan.now.max_rows 1 (wholes_in layout.now.delimiter bytes)))) }
-    ensures noted_until { IfErr result (λ halt. IfSome (unread R.remaining column) (λ bytes.
-        NotesAtHalt halt (L.noted log.old) (L.noted log.new) (faults_by layout.now
-        setting.now.files.now setting.now.plan.now.max_rows 1
-        (wholes_in layout.now.delimiter bytes)))) }
 {
-    // The rest of a column that can't be read on has rows too: each file answers every instant,
-    // as `len` tells.
-    prove!(setting.files.len() <= usize::MAX);
+    // The rest of a column that can't be read on has rows too: each file answers every instant.
+    files.are_sound();
     files_answer_once();
     let wanted = round_len(setting.plan);
     let size = setting.plan.row_piece() as usize;
-    let files = RowFiles::new(setting.alloc, setting.files)?;
     let mut count = 0;
     while column.turn(setting.alloc, wanted, size)? {
-        let pieces = RowPieces::new(layout, &files, column.round(), count + 1, setting.plan);
+        let pieces = RowPieces::new(layout, files, column.round(), count + 1, setting.plan);
         count += convert_round(setting, &pieces, writer, log)?;
     }
-    flush(writer)?;
     Ok(count)
 }
 
@@ -138,12 +127,39 @@ pub(crate) fn begin_column<R: Read + Drop>(
     }
 }
 
+/// Begins a column after its header, if it has one, and writes the header before rows.
+///
+/// # Errors
+///
+/// `Unread` where the column can't be read on, `Memory`, or `WriteFailed`.
+pub(crate) fn begin_rows<R: Read + Drop, W: Write>(
+    alloc: Global,
+    plan: &Plan,
+    layout: &Layout,
+    reader: R,
+    writer: &mut Counted<W>,
+) -> Result<Column<R>, Halt>
+    ensures begins { IfOk result (λ column. IfSome (R.remaining reader)
+        (λ bytes. BeginsRows layout.now.header bytes (unread R.remaining column))) }
+    ensures head { IfOk result (λ _. IfSome (R.remaining reader) (λ bytes.
+        Appends (W.contents writer.old.inner) (W.contents writer.new.inner)
+        (header_in layout.now bytes))) }
+    ensures flushed { IfOk result (λ _. writer.new.failures ≡ writer.old.failures) }
+    ensures halt { IfErr result (HaltsAtHead W.contents writer.old writer.new layout.now
+        (R.remaining reader)) }
+{
+    let Begun { column, header } = begin_column(alloc, plan, layout, reader)?;
+    write_header(writer, layout, header)?;
+    Ok(column)
+}
+
 /// Converts a column by a layout, but for its delimiter: the records are those with commas. Returns
 /// the number of rows.
 ///
 /// # Errors
 ///
-/// As [`convert_rounds`].
+/// `Unread` where the column can't be read on, `Memory`, `WriteFailed`, or `Row` for the fault that
+/// ends the run.
 fn convert_records<T: Threads + Wait + Sync, R: Read + Drop, W: Write, G: Gate + Sync, L: FaultLog>(
     setting: &Setting<'_, T, G>,
     layout: &Layout,
@@ -151,36 +167,27 @@ fn convert_records<T: Threads + Wait + Sync, R: Read + Drop, W: Write, G: Gate +
     writer: &mut Counted<W>,
     log: &mut L,
 ) -> Result<u64, Halt>
-    ensures all { IfOk result (λ n. IfSome (R.remaining reader) (λ column.
-        WritesAllOf (header_in layout.now column)
-        (RowsOfColumn layout.now setting.now.files.now setting.now.plan.now.max_rows column) n
-        (W.contents writer.old.inner) (W.contents writer.new.inner))) }
+    ensures all { IfOk result (λ n. ConvertsRecords layout.now setting.now.plan.now.max_rows
+        (R.remaining reader) n (W.contents writer.old.inner) (W.contents writer.new.inner)
+        (L.noted log.old) (L.noted log.new) setting.now.files.now) }
     ensures flushed { IfOk result (λ _. writer.new.failures ≡ writer.old.failures) }
-    ensures halt { IfErr result (λ halt. IfSome (R.remaining reader) (λ column.
-        WritesAtHalt (header_in layout.now column)
-        (RowsOfColumn layout.now setting.now.files.now setting.now.plan.now.max_rows column) halt
-        (W.contents writer.old.inner) (W.contents writer.new.inner))) }
+    ensures halt { IfErr result (λ halt. HaltsInRecords layout.now setting.now.plan.now.max_rows
+        (R.remaining reader) halt (W.contents writer.old.inner) (W.contents writer.new.inner)
+        (L.noted log.old) (L.noted log.new) setting.now.files.now) }
     ensures cause { IfErr result (IsCauseOfHalt writer.old writer.new) }
-    ensures noted { IfOk result (λ _. IfSome (R.remaining reader) (λ column.
-        Notes (L.noted log.old) (L.noted log.new) (faults_of_column layout.now
-        setting.now.files.now setting.now.plan.now.max_rows column))) }
-    ensures noted_until { IfErr result (λ halt. IfSome (R.remaining reader) (λ column.
-        NotesAtHalt halt (L.noted log.old) (L.noted log.new) (faults_of_column layout.now
-        setting.now.files.now setting.now.plan.now.max_rows column))) }
 {
     prove!(setting.files.len() <= usize::MAX);
     files_answer_once();
-    let Begun { column, header } = begin_column(setting.alloc, setting.plan, layout, reader)?;
-    let line = header_line(layout, header)?;
-    write_all(writer, &line)?;
-    convert_rounds(setting, layout, column, writer, log)
+    let files = RowFiles::new(setting.alloc, setting.files)?;
+    let mut column = begin_rows(setting.alloc, setting.plan, layout, reader, writer)?;
+    convert_rounds(setting, layout, &files, &mut column, writer, log)
 }
 
 /// Converts a whole column. Returns the number of rows.
 ///
 /// # Errors
 ///
-/// As [`convert_rounds`].
+/// As [`convert_records`].
 fn convert_column<T: Threads + Wait + Sync, R: Read + Drop, W: Write, G: Gate + Sync>(
     setting: &Setting<'_, T, G>,
     reader: R,
@@ -203,7 +210,7 @@ fn convert_column<T: Threads + Wait + Sync, R: Read + Drop, W: Write, G: Gate + 
 ///
 /// # Errors
 ///
-/// As [`convert_rounds`].
+/// As [`convert_records`].
 fn convert_body<T: Threads + Wait + Sync, R: Read + Drop, W: Write, G: Gate + Sync>(
     setting: &Setting<'_, T, G>,
     reader: R,
@@ -226,7 +233,7 @@ fn convert_body<T: Threads + Wait + Sync, R: Read + Drop, W: Write, G: Gate + Sy
 ///
 /// # Errors
 ///
-/// As [`convert_rounds`].
+/// As [`convert_records`].
 fn convert_delimited<
     T: Threads + Wait + Sync,
     R: Read + Drop,
@@ -240,22 +247,22 @@ fn convert_delimited<
     writer: &mut Counted<W>,
     log: &mut L,
 ) -> Result<u64, Halt>
-    ensures all { IfOk result (λ n. IfSome (R.remaining reader) (λ column.
-        WritesAllOf (header_text layout.now column)
-        (ConvertsBy setting.now.files.now layout.now setting.now.plan.now.max_rows column) n
-        (W.contents writer.old.inner) (W.contents writer.new.inner))) }
+    ensures all { IfOk result (λ n. ConvertsAllBy layout.now setting.now.plan.now.max_rows n (record {
+      column = R.remaining reader;
+      held = W.contents writer.old.inner;
+      held' = W.contents writer.new.inner;
+      log = L.noted log.old;
+      log' = L.noted log.new;
+    }) setting.now.files.now) }
     ensures flushed { IfOk result (λ _. writer.new.failures ≡ writer.old.failures) }
-    ensures halt { IfErr result (λ halt. IfSome (R.remaining reader) (λ column.
-        WritesAtHalt (header_text layout.now column)
-        (ConvertsBy setting.now.files.now layout.now setting.now.plan.now.max_rows column) halt
-        (W.contents writer.old.inner) (W.contents writer.new.inner))) }
+    ensures halt { IfErr result (λ halt. EndsAtHalt layout.now setting.now.plan.now.max_rows halt (record {
+      column = R.remaining reader;
+      held = W.contents writer.old.inner;
+      held' = W.contents writer.new.inner;
+      log = L.noted log.old;
+      log' = L.noted log.new;
+    }) setting.now.files.now) }
     ensures cause { IfErr result (IsCauseOfHalt writer.old writer.new) }
-    ensures noted { IfOk result (λ _. IfSome (R.remaining reader) (λ column.
-        NotesAll setting.now.files.now layout.now setting.now.plan.now.max_rows column
-        (L.noted log.old) (L.noted log.new))) }
-    ensures noted_until { IfErr result (λ halt. IfSome (R.remaining reader) (λ column.
-        NotesUntilHalt setting.now.files.now layout.now setting.now.plan.now.max_rows column halt
-        (L.noted log.old) (L.noted log.new))) }
 {
     records_are_exchanged();
     texts_are_exchanged();

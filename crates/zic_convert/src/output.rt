@@ -6,6 +6,7 @@ ghost use Rattle.zic_counted.specs.Written.{FailsWithin};
 ghost use Rattle.zic_plan.specs.declared.layout.RowStart.TheVariants as start;
 ghost use Rattle.zic_convert.specs.Column.{header_of};
 ghost use Rattle.zic_convert.specs.code.Pieces.{joined};
+ghost use Rattle.zic_convert.specs.code.Rest.{EndsAtHead};
 ghost use Rattle.zic_convert.specs.code.Written.{Wrote, WritesRows, EndsAtRow};
 
 use crate::faulty::put_back;
@@ -42,7 +43,7 @@ fn add_names(line: &mut Vec<u8>, delimiter: u8) -> Result<(), AllocError>
 /// # Errors
 ///
 /// Fails where memory is refused.
-pub(crate) fn header_line(layout: &Layout, own: Vec<u8>) -> Result<Vec<u8>, AllocError>
+fn header_line(layout: &Layout, own: Vec<u8>) -> Result<Vec<u8>, AllocError>
     ensures { IfOk result (λ line. line.items ≡ header_of layout.now.start layout.now.delimiter
         (exchanged layout.now.delimiter own.items)) }
 {
@@ -60,7 +61,7 @@ pub(crate) fn header_line(layout: &Layout, own: Vec<u8>) -> Result<Vec<u8>, Allo
 }
 
 /// Writes all of the bytes, as `zic_counted` does.
-pub(crate) fn write_all<W: Write>(writer: &mut Counted<W>, bytes: &[u8]) -> Result<(), RunStop>
+fn write_all<W: Write>(writer: &mut Counted<W>, bytes: &[u8]) -> Result<(), RunStop>
     ensures ok { OnOk result (Wrote W.contents writer.old writer.new bytes.now) }
     ensures err { IfErr result (λ stop. (stop ≡ RunStop.WriteFailed)
         × FailsWithin W.contents writer.old writer.new bytes.now) }
@@ -72,7 +73,7 @@ pub(crate) fn write_all<W: Write>(writer: &mut Counted<W>, bytes: &[u8]) -> Resu
 }
 
 /// Has the writer pass on what it holds back.
-pub(crate) fn flush<W: Write>(writer: &mut Counted<W>) -> Result<(), RunStop>
+fn flush<W: Write>(writer: &mut Counted<W>) -> Result<(), RunStop>
     ensures ok { OnOk result (Wrote W.contents writer.old writer.new []) }
     ensures err { IfErr result (λ stop. (stop ≡ RunStop.WriteFailed)
         × FailsWithin W.contents writer.old writer.new []) }
@@ -81,6 +82,32 @@ pub(crate) fn flush<W: Write>(writer: &mut Counted<W>) -> Result<(), RunStop>
         Ok(()) => Ok(()),
         Err(WriteFailed) => Err(RunStop::WriteFailed),
     }
+}
+
+/// Writes the header before rows, by the own bytes of the column's header as [`header_line`] has them,
+/// and has the writer pass it on. Writes nothing where there is none.
+///
+/// # Errors
+///
+/// `Memory`, before anything is written, or `WriteFailed`.
+pub(crate) fn write_header<W: Write>(
+    writer: &mut Counted<W>,
+    layout: &Layout,
+    own: Vec<u8>,
+) -> Result<(), RunStop>
+    ensures ok { OnOk result (Wrote W.contents writer.old writer.new (header_of layout.now.start
+        layout.now.delimiter (exchanged layout.now.delimiter own.items))) }
+    ensures err { IfErr result (EndsAtHead W.contents writer.old writer.new (header_of
+        layout.now.start layout.now.delimiter (exchanged layout.now.delimiter own.items))) }
+{
+    let Ok(line) = header_line(layout, own) else {
+        return Err(RunStop::Memory);
+    };
+    if line.is_empty() {
+        return Ok(());
+    }
+    write_all(writer, &line)?;
+    flush(writer)
 }
 
 /// Writes the rows of pieces, one piece after another, up to the first that ends the run, notes

@@ -1,24 +1,23 @@
 //! Converts columns by the files of a tree.
 
-ghost use Rattle.std.specs.Prelude.{◌≡◌, ◌≤◌, ◌+◌, [], ◌++◌, List, length, IfOk, IfErr, IfSome};
+ghost use Rattle.std.specs.Prelude.{◌≡◌, ◌≤◌, ◌+◌, List, length, map, IfOk, IfErr};
 ghost use Rattle.zic_counted.specs.Counts.{HasFailedSince};
-ghost use Rattle.zic_columns.specs.Round.{ArePiecesOf, unread};
+ghost use Rattle.zic_columns.specs.Round.{ArePiecesOf, records_of, unread};
 ghost use Rattle.zic_columns.specs.declared.pieces.TheConstants.{MAX_ROUND_PIECES};
 ghost use Rattle.zic_files.specs.Tree.{IsLearntFrom, Reply};
 ghost use Rattle.zic_plan.specs.declared.plan.TheConstants.{MAX_ROWS};
-ghost use Rattle.zic_convert.specs.Convert.{IsCauseOf, WritesAllOf};
-ghost use Rattle.zic_convert.specs.LayoutRows.{faults_by};
-ghost use Rattle.zic_convert.specs.Log.{Notes};
+ghost use Rattle.zic_convert.specs.Convert.{IsCauseOf};
+ghost use Rattle.zic_convert.specs.LayoutRows.{zone_in};
 ghost use Rattle.zic_convert.specs.Tree.{ConvertsAllBy, EndsBy, EndsByTree, HoldsByLearnt};
-ghost use Rattle.zic_convert.specs.code.Halt.{EndsAtHalt, HaltsByTree, IsCauseOfHalt, NotesAtHalt, WritesAtHalt};
-ghost use Rattle.zic_convert.specs.code.Progress.{RowsOfColumn, RowsOfRecords, faults_of_column, header_in};
-ghost use Rattle.zic_convert.specs.code.Row.{wholes_in};
-ghost use Rattle.zic_convert.specs.code.Written.{HaltsInRound, WritesRound, pieces_by};
+ghost use Rattle.zic_convert.specs.code.Halt.{EndsAtHalt, HaltsByTree, IsCauseOfHalt};
+ghost use Rattle.zic_convert.specs.code.Learn.{HaltsAtTurn, Learns, Turns};
+ghost use Rattle.zic_convert.specs.code.Rest.{ConvertsRecords, ConvertsRest};
+ghost use Rattle.zic_convert.specs.code.Rest.{HaltsInRecords, HaltsInRest};
+ghost use Rattle.zic_convert.specs.code.Written.{EndsInRound, WritesRound, pieces_by};
 
-use crate::conversion::{Begun, begin_column, ended, round_len};
+use crate::conversion::{begin_rows, ended, round_len};
 use crate::halt::Halt;
 use crate::learning::learn_round;
-use crate::output::{flush, header_line, write_all};
 use crate::pieces::RowPieces;
 use crate::round::convert_round;
 use crate::row_files::RowFiles;
@@ -59,18 +58,20 @@ fn convert_learnt<T: Threads + Wait + Sync, W: Write, L: FaultLog>(
     first: u64,
     writer: &mut Counted<W>,
     log: &mut L,
-) -> Result<u64, Halt>
+) -> Result<u64, RunStop>
     requires first { first ≤ MAX_ROWS + 1 }
     requires few { length round ≤ MAX_ROUND_PIECES }
     requires cut { ArePiecesOf setting.now.plan.now.row_piece round }
     ensures ok { IfOk result (WritesRound
         (pieces_by setting.now.layout.now files.now setting.now.plan.now round.entry first)
         W.contents writer.old writer.new (L.noted log.old) (L.noted log.new)) }
-    ensures stop { IfErr result (HaltsInRound
+    ensures stop { IfErr result (EndsInRound
         (pieces_by setting.now.layout.now files.now setting.now.plan.now round.entry first)
         W.contents writer.old writer.new (L.noted log.old) (L.noted log.new)) }
 {
-    let ready = RowFiles::new(setting.alloc, files)?;
+    let Ok(ready) = RowFiles::new(setting.alloc, files) else {
+        return Err(RunStop::Memory);
+    };
     let pieces = RowPieces::new(setting.layout, &ready, round, first, setting.plan);
     let setting = Setting {
         rt: setting.rt,
@@ -79,7 +80,33 @@ fn convert_learnt<T: Threads + Wait + Sync, W: Write, L: FaultLog>(
         plan: setting.plan,
         gate: &Open,
     };
-    Ok(convert_round(&setting, &pieces, writer, log)?)
+    convert_round(&setting, &pieces, writer, log)
+}
+
+/// Turns a column to its next round, and asks the tree for the zones of its records. Returns `false`
+/// at the end of the column.
+///
+/// # Errors
+///
+/// `Unread` where the column can't be read on, before the tree is asked, or `Memory`.
+fn turn_learnt<T, Z: ZoneTree, R: Read>(
+    setting: &ColumnSetting<'_, T>,
+    tree: &mut Z,
+    files: &mut TreeFiles,
+    column: &mut Column<R>,
+) -> Result<bool, Halt>
+    ensures turns { IfOk result
+        (Turns R.remaining setting.now.plan.now.row_piece column.old column.new) }
+    ensures learns { IfOk result (λ _. Learns (Z.replied tree.old) (Z.replied tree.new) files.old
+        files.new (map (zone_in setting.now.layout.now.zone) (records_of column.new.round))) }
+    ensures halt { IfErr result
+        (HaltsAtTurn (Z.replied tree.old) (Z.replied tree.new) files.old files.new) }
+{
+    let plan = setting.plan;
+    let some = column.turn(setting.alloc, round_len(plan), plan.row_piece() as usize)?;
+    let zone = &setting.layout.zone;
+    learn_round(setting.alloc, files, tree, zone, &column.round())?;
+    Ok(some)
 }
 
 /// Converts what is left of a column, round by round, as `convert_rounds` does: before a round is
@@ -88,37 +115,24 @@ fn convert_learnt<T: Threads + Wait + Sync, W: Write, L: FaultLog>(
 /// # Errors
 ///
 /// As `convert_rounds`.
-fn convert_tree_rounds<
-    T: Threads + Wait + Sync,
-    Z: ZoneTree,
-    R: Read + Drop,
-    W: Write,
-    L: FaultLog,
->(
+fn convert_tree_rounds<T: Threads + Wait + Sync, Z: ZoneTree, R: Read, W: Write, L: FaultLog>(
     setting: &ColumnSetting<'_, T>,
     tree: &mut Z,
     files: &mut TreeFiles,
-    mut column: Column<R>,
+    column: &mut Column<R>,
     writer: &mut Counted<W>,
     log: &mut L,
 ) -> Result<u64, Halt>
     ensures all { (replies : List Reply) → IsLearntFrom replies files.old → IfOk result (λ n.
-        HoldsByLearnt replies (Z.replied tree.old) (Z.replied tree.new) files.new (λ files.
-        IfSome (unread R.remaining column) (λ bytes.
-        WritesAllOf [] (RowsOfRecords setting.now.layout.now files setting.now.plan.now.max_rows
-        (wholes_in setting.now.layout.now.delimiter bytes)) n
+        HoldsByLearnt replies (Z.replied tree.old) (Z.replied tree.new) files.new (ConvertsRest
+        setting.now.layout.now setting.now.plan.now.max_rows (unread R.remaining column.old) n
         (W.contents writer.old.inner) (W.contents writer.new.inner)
-        × Notes (L.noted log.old) (L.noted log.new) (faults_by setting.now.layout.now files
-        setting.now.plan.now.max_rows 1 (wholes_in setting.now.layout.now.delimiter bytes))))) }
+        (L.noted log.old) (L.noted log.new))) }
     ensures halt { (replies : List Reply) → IsLearntFrom replies files.old → IfErr result (λ halt.
-        HaltsByTree halt replies (Z.replied tree.old) (Z.replied tree.new) files.new (λ files.
-        IfSome (unread R.remaining column) (λ bytes.
-        WritesAtHalt [] (RowsOfRecords setting.now.layout.now files setting.now.plan.now.max_rows
-        (wholes_in setting.now.layout.now.delimiter bytes)) halt
+        HaltsByTree halt replies (Z.replied tree.old) (Z.replied tree.new) files.new (HaltsInRest
+        setting.now.layout.now setting.now.plan.now.max_rows (unread R.remaining column.old) halt
         (W.contents writer.old.inner) (W.contents writer.new.inner)
-        × NotesAtHalt halt (L.noted log.old) (L.noted log.new) (faults_by setting.now.layout.now
-        files setting.now.plan.now.max_rows 1
-        (wholes_in setting.now.layout.now.delimiter bytes))))) }
+        (L.noted log.old) (L.noted log.new))) }
     ensures flushed { IfOk result (λ _. writer.new.failures ≡ writer.old.failures) }
     ensures cause { IfErr result (IsCauseOfHalt writer.old writer.new) }
 {
@@ -126,16 +140,13 @@ fn convert_tree_rounds<
     files_stay();
     // Names of zones have no byte that can stand between fields.
     prove!(setting.layout.delimiter.byte() <= u8::MAX);
-    let wanted = round_len(setting.plan);
-    let size = setting.plan.row_piece() as usize;
+    // The plan limits the number of rows.
+    prove!(setting.plan.max_rows() <= u64::MAX);
     let mut count = 0;
-    while column.turn(setting.alloc, wanted, size)? {
-        let zone = &setting.layout.zone;
-        learn_round(setting.alloc, files, tree, zone, &column.round())?;
+    while turn_learnt(setting, tree, files, column)? {
         let learnt = files.files();
         count += convert_learnt(setting, learnt, column.round(), count + 1, writer, log)?;
     }
-    flush(writer)?;
     Ok(count)
 }
 
@@ -160,29 +171,23 @@ fn convert_tree_records<
     log: &mut L,
 ) -> Result<u64, Halt>
     ensures all { (replies : List Reply) → IsLearntFrom replies files.old → IfOk result (λ n.
-        HoldsByLearnt replies (Z.replied tree.old) (Z.replied tree.new) files.new (λ files.
-        IfSome (R.remaining reader) (λ column. WritesAllOf (header_in setting.now.layout.now column)
-        (RowsOfColumn setting.now.layout.now files setting.now.plan.now.max_rows column) n
+        HoldsByLearnt replies (Z.replied tree.old) (Z.replied tree.new) files.new (ConvertsRecords
+        setting.now.layout.now setting.now.plan.now.max_rows (R.remaining reader) n
         (W.contents writer.old.inner) (W.contents writer.new.inner)
-        × Notes (L.noted log.old) (L.noted log.new) (faults_of_column setting.now.layout.now files
-        setting.now.plan.now.max_rows column)))) }
+        (L.noted log.old) (L.noted log.new))) }
     ensures halt { (replies : List Reply) → IsLearntFrom replies files.old → IfErr result (λ halt.
-        HaltsByTree halt replies (Z.replied tree.old) (Z.replied tree.new) files.new (λ files.
-        IfSome (R.remaining reader) (λ column. WritesAtHalt (header_in setting.now.layout.now column)
-        (RowsOfColumn setting.now.layout.now files setting.now.plan.now.max_rows column) halt
+        HaltsByTree halt replies (Z.replied tree.old) (Z.replied tree.new) files.new (HaltsInRecords
+        setting.now.layout.now setting.now.plan.now.max_rows (R.remaining reader) halt
         (W.contents writer.old.inner) (W.contents writer.new.inner)
-        × NotesAtHalt halt (L.noted log.old) (L.noted log.new) (faults_of_column
-        setting.now.layout.now files setting.now.plan.now.max_rows column)))) }
+        (L.noted log.old) (L.noted log.new))) }
     ensures flushed { IfOk result (λ _. writer.new.failures ≡ writer.old.failures) }
     ensures cause { IfErr result (IsCauseOfHalt writer.old writer.new) }
 {
     // The rest of a column that can't be read on has rows too: each file answers every instant.
     files_answer_once();
     let layout = setting.layout;
-    let Begun { column, header } = begin_column(setting.alloc, setting.plan, layout, reader)?;
-    let line = header_line(layout, header)?;
-    write_all(writer, &line)?;
-    convert_tree_rounds(setting, tree, files, column, writer, log)
+    let mut column = begin_rows(setting.alloc, setting.plan, layout, reader, writer)?;
+    convert_tree_rounds(setting, tree, files, &mut column, writer, log)
 }
 
 /// Converts a column by a layout. Returns the number of rows.

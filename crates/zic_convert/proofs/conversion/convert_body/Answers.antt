@@ -15,7 +15,7 @@ returns-clause-all g c =
     let now = g.W.Write.contents c.convert_records.new.writer.inner in
     if_ok_known (g.R.Read.remaining c.args.reader) _ _
     (λ n text w. all_as [] _ _ (as_body layout files most plain.rows plain.header text) _ _ n
-    (subst (λ (head : List ℕ). WritesAllOf head (RowsOfColumn layout files most text) n held now) (no_head layout plain.rows text) w))
+    (subst (λ (head : List ℕ). WritesAllOf head (RowsOfColumn layout files most text) n held now) (no_head layout plain.rows text) w.0))
     c.convert_records.result c.convert_records.ensures.all
 
 pub returns-clause-halt : goal.returns-clause-halt
@@ -28,5 +28,5 @@ returns-clause-halt g c =
     let now = g.W.Write.contents c.convert_records.new.writer.inner in
     if_err_known (g.R.Read.remaining c.args.reader) _ _
     (λ why text w. halt_as [] _ _ (as_body layout files most plain.rows plain.header text) _ _ why
-    (subst (λ (head : List ℕ). WritesAtHalt head (RowsOfColumn layout files most text) why held now) (no_head layout plain.rows text) w))
+    (subst (λ (head : List ℕ). WritesAtHalt head (RowsOfColumn layout files most text) why held now) (no_head layout plain.rows text) w.0))
     c.convert_records.result c.convert_records.ensures.halt

@@ -1,131 +1,41 @@
-use Rattle.std.proofs.Common.{◌∙◌, ℕ, List, [], ap, drop, subst}
-use Rattle.std.specs.Io.KnownBytes.{Appends}
+use Rattle.std.proofs.Common.{refl}
 use Rattle.std.proofs.lemmas.Result.{err_from_is_err_and}
-use Rattle.csv.specs.Reading.{strip_bom}
-use Rattle.zic_columns.specs.Exchange.{exchanged}
-use Rattle.zic_columns.specs.Own.{Whole}
 use Rattle.zic_columns.specs.Round.{unread}
-use Rattle.zic_plan.specs.Layout.{records_before}
-use Rattle.zic_plan.specs.declared.layout.Layout.{Layout}
-use Rattle.zic_convert.specs.Column.{header_of}
-use Rattle.zic_convert.specs.Convert.{WritesAllOf}
-use Rattle.zic_convert.specs.LayoutRows.{faults_by}
-use Rattle.zic_convert.specs.Log.{Notes}
-use Rattle.zic_convert.specs.code.Halt.{NotesAtHalt, WritesAtHalt}
-use Rattle.zic_convert.specs.code.Progress.{RowsOfColumn, RowsOfRecords, faults_of_column, header_in}
-use Rattle.zic_convert.specs.code.Row.{wholes_in}
-use Rattle.zic_convert.proofs.Logs.{part_none}
-use Rattle.zic_convert.proofs.Options.{for_some, if_some}
-use Rattle.zic_convert.proofs.Progress.{all_below, halt_below, head_failed, if_err_begun, if_ok_begun, unread_from}
+use Rattle.zic_plan.specs.declared.stop.RunStop.TheVariants as stop
+use Rattle.zic_convert.specs.declared.halt.Halt.TheVariants as halt
+use Rattle.zic_convert.proofs.Heads.{cause_at_head, converts_records, halts_at_head, halts_in_records}
+use Rattle.zic_convert.proofs.Options.{if_err_as, if_ok_as}
 use Rattle.zic_convert.proofs.Sounds.{all_known}
 use Rattle.zic_convert.proofs.conversion.convert_records.Goals as goal
 
--- the records that make rows
-abbrev wholes_after : Layout → List ℕ → List Whole
-wholes_after layout text = drop (records_before layout.header) (wholes_in layout.delimiter (strip_bom text))
+pub returns-in_err-files-clause-halt : goal.returns-in_err-files-clause-halt
+returns-in_err-files-clause-halt g c =
+    let p = err_from_is_err_and c.from_residual.result c.from_residual.ensures.1 in
+    rw (p.1, p.2) (halts_at_head g.W.Write.contents c.args.writer.now c.args.writer.now c.args.layout.now (g.R.Read.remaining c.args.reader) c.args.setting.now.files.now c.args.setting.now.plan.now.max_rows
+    (all_known c.args.setting.now.files.now c.len.ensures.sound c.files_answer_once.ensures) (g.L.FaultLog.noted c.args.log.now) (halt.Stop stop.Memory) refl)
 
 pub returns-in_err-column-clause-halt : goal.returns-in_err-column-clause-halt
 returns-in_err-column-clause-halt g c =
-    let layout = c.args.layout.now in
-    let files = c.args.setting.now.files.now in
-    let most = c.args.setting.now.plan.now.max_rows in
-    let held = g.W.Write.contents c.args.writer.now.inner in
-    let p = err_from_is_err_and c.from_residual.result c.from_residual.ensures.1 in
-    rw (p.1, p.2) (if_some (g.R.Read.remaining c.args.reader) _ (λ text e.
-    unread_from layout files most (wholes_after layout text) (header_in layout text) held (all_known files c.len.ensures.sound c.files_answer_once.ensures)))
+    let p = err_from_is_err_and c.from_residual-in_err-column.result c.from_residual-in_err-column.ensures.1 in
+    rw (p.1, p.2) (halts_at_head g.W.Write.contents c.args.writer.now c.begin_rows.new.writer c.args.layout.now (g.R.Read.remaining c.args.reader) c.args.setting.now.files.now
+    c.args.setting.now.plan.now.max_rows (all_known c.args.setting.now.files.now c.len.ensures.sound c.files_answer_once.ensures) (g.L.FaultLog.noted c.args.log.now) c.in_err-column.field-0.0
+    c.in_err-column.ensures.halt)
 
-pub returns-in_err-line-clause-halt : goal.returns-in_err-line-clause-halt
-returns-in_err-line-clause-halt g c =
-    let layout = c.args.layout.now in
-    let files = c.args.setting.now.files.now in
-    let most = c.args.setting.now.plan.now.max_rows in
-    let held = g.W.Write.contents c.args.writer.now.inner in
-    let p = err_from_is_err_and c.from_residual-in_err-line.result c.from_residual-in_err-line.ensures.1 in
-    rw (p.1, p.2) (if_some (g.R.Read.remaining c.args.reader) _ (λ text e.
-    unread_from layout files most (wholes_after layout text) (header_in layout text) held (all_known files c.len.ensures.sound c.files_answer_once.ensures)))
-
-pub returns-in_err-write_all-clause-halt : goal.returns-in_err-write_all-clause-halt
-returns-in_err-write_all-clause-halt g c =
-    let layout = c.args.layout.now in
-    let files = c.args.setting.now.files.now in
-    let most = c.args.setting.now.plan.now.max_rows in
-    let known = g.R.Read.remaining c.args.reader in
-    let err = c.in_err-write_all.ensures.err in
-    let p = err_from_is_err_and c.from_residual-in_err-write_all.result c.from_residual-in_err-write_all.ensures.1 in
-    rw (p.1, p.2, err.0) (if_some known _ (λ text e.
-    let own = for_some known _ text c.in_ok-column.ensures.header e in
-    let is = c.deref.ensures.value ∙ c.in_ok-line.ensures ∙ ap (λ (l : List ℕ). header_of layout.start layout.delimiter (exchanged layout.delimiter l)) own in
-    head_failed g.W.Write.contents layout files most (wholes_after layout text) (header_in layout text) _ c.args.writer.now c.write_all.new.writer
-    (all_known files c.len.ensures.sound c.files_answer_once.ensures) is err.1))
+pub returns-in_err-column-clause-cause : goal.returns-in_err-column-clause-cause
+returns-in_err-column-clause-cause g c =
+    let p = err_from_is_err_and c.from_residual-in_err-column.result c.from_residual-in_err-column.ensures.1 in
+    rw (p.1, p.2) (cause_at_head g.W.Write.contents c.args.writer.now c.begin_rows.new.writer c.args.layout.now (g.R.Read.remaining c.args.reader) c.in_err-column.field-0.0 c.in_err-column.ensures.halt)
 
 pub returns-clause-all : goal.returns-clause-all
 returns-clause-all g c =
-    let layout = c.args.layout.now in
-    let files = c.args.setting.now.files.now in
-    let most = c.args.setting.now.plan.now.max_rows in
-    let known = g.R.Read.remaining c.args.reader in
-    let old = g.W.Write.contents c.args.writer.now.inner in
-    let mid = g.W.Write.contents c.write_all.new.writer.inner in
-    let new = g.W.Write.contents c.convert_rounds.new.writer.inner in
-    if_ok_begun layout.delimiter known (unread g.R.Read.remaining c.in_ok-column.field-0.column) (λ n wholes. WritesAllOf [] (RowsOfRecords layout files most wholes) n mid new)
-    (λ n text. WritesAllOf (header_in layout text) (RowsOfColumn layout files most text) n old new) layout.header c.in_ok-column.ensures.begins
-    (λ n text e w.
-    let own = for_some known _ text c.in_ok-column.ensures.header e in
-    let is = c.deref.ensures.value ∙ c.in_ok-line.ensures ∙ ap (λ (l : List ℕ). header_of layout.start layout.delimiter (exchanged layout.delimiter l)) own in
-    all_below (header_in layout text) (RowsOfColumn layout files most text) old mid new (subst (λ (l : List ℕ). Appends old mid l) is c.in_ok-write_all.ensures.ok.0) n w)
-    c.convert_rounds.result c.convert_rounds.ensures.all
+    if_ok_as _ _ (converts_records c.args.layout.now c.args.setting.now.plan.now.max_rows c.args.setting.now.files.now (g.R.Read.remaining c.args.reader)
+    (unread g.R.Read.remaining c.in_ok-column.column) (g.W.Write.contents c.args.writer.now.inner) (g.W.Write.contents c.begin_rows.new.writer.inner)
+    (g.W.Write.contents c.convert_rounds.new.writer.inner) (g.L.FaultLog.noted c.args.log.now) (g.L.FaultLog.noted c.convert_rounds.new.log) c.in_ok-column.ensures.begins c.in_ok-column.ensures.head)
+    c.convert_rounds.result (rw c.in_ok-files.ensures at c.convert_rounds.ensures.all)
 
 pub returns-clause-halt : goal.returns-clause-halt
 returns-clause-halt g c =
-    let layout = c.args.layout.now in
-    let files = c.args.setting.now.files.now in
-    let most = c.args.setting.now.plan.now.max_rows in
-    let known = g.R.Read.remaining c.args.reader in
-    let old = g.W.Write.contents c.args.writer.now.inner in
-    let mid = g.W.Write.contents c.write_all.new.writer.inner in
-    let new = g.W.Write.contents c.convert_rounds.new.writer.inner in
-    if_err_begun layout.delimiter known (unread g.R.Read.remaining c.in_ok-column.field-0.column) (λ why wholes. WritesAtHalt [] (RowsOfRecords layout files most wholes) why mid new)
-    (λ why text. WritesAtHalt (header_in layout text) (RowsOfColumn layout files most text) why old new) layout.header c.in_ok-column.ensures.begins
-    (λ why text e w.
-    let own = for_some known _ text c.in_ok-column.ensures.header e in
-    let is = c.deref.ensures.value ∙ c.in_ok-line.ensures ∙ ap (λ (l : List ℕ). header_of layout.start layout.delimiter (exchanged layout.delimiter l)) own in
-    halt_below (header_in layout text) (RowsOfColumn layout files most text) old mid new (subst (λ (l : List ℕ). Appends old mid l) is c.in_ok-write_all.ensures.ok.0) why w)
-    c.convert_rounds.result c.convert_rounds.ensures.halt
-
-pub returns-in_err-column-clause-noted_until : goal.returns-in_err-column-clause-noted_until
-returns-in_err-column-clause-noted_until g c =
-    let p = err_from_is_err_and c.from_residual.result c.from_residual.ensures.1 in
-    rw (p.1, p.2) (if_some (g.R.Read.remaining c.args.reader) _ (λ text e. part_none (g.L.FaultLog.noted c.args.log.now) _))
-
-pub returns-in_err-line-clause-noted_until : goal.returns-in_err-line-clause-noted_until
-returns-in_err-line-clause-noted_until g c =
-    let p = err_from_is_err_and c.from_residual-in_err-line.result c.from_residual-in_err-line.ensures.1 in
-    rw (p.1, p.2) (if_some (g.R.Read.remaining c.args.reader) _ (λ text e. part_none (g.L.FaultLog.noted c.args.log.now) _))
-
-pub returns-in_err-write_all-clause-noted_until : goal.returns-in_err-write_all-clause-noted_until
-returns-in_err-write_all-clause-noted_until g c =
-    let p = err_from_is_err_and c.from_residual-in_err-write_all.result c.from_residual-in_err-write_all.ensures.1 in
-    rw (p.1, p.2, c.in_err-write_all.ensures.err.0) (if_some (g.R.Read.remaining c.args.reader) _ (λ text e. part_none (g.L.FaultLog.noted c.args.log.now) _))
-
-pub returns-clause-noted : goal.returns-clause-noted
-returns-clause-noted g c =
-    let layout = c.args.layout.now in
-    let files = c.args.setting.now.files.now in
-    let most = c.args.setting.now.plan.now.max_rows in
-    let known = g.R.Read.remaining c.args.reader in
-    let log = g.L.FaultLog.noted c.args.log.now in
-    let now = g.L.FaultLog.noted c.convert_rounds.new.log in
-    if_ok_begun layout.delimiter known (unread g.R.Read.remaining c.in_ok-column.field-0.column) (λ n wholes. Notes log now (faults_by layout files most 1 wholes))
-    (λ n text. Notes log now (faults_of_column layout files most text)) layout.header c.in_ok-column.ensures.begins (λ n text e w. w) c.convert_rounds.result c.convert_rounds.ensures.noted
-
-pub returns-clause-noted_until : goal.returns-clause-noted_until
-returns-clause-noted_until g c =
-    let layout = c.args.layout.now in
-    let files = c.args.setting.now.files.now in
-    let most = c.args.setting.now.plan.now.max_rows in
-    let known = g.R.Read.remaining c.args.reader in
-    let log = g.L.FaultLog.noted c.args.log.now in
-    let now = g.L.FaultLog.noted c.convert_rounds.new.log in
-    if_err_begun layout.delimiter known (unread g.R.Read.remaining c.in_ok-column.field-0.column) (λ why wholes. NotesAtHalt why log now (faults_by layout files most 1 wholes))
-    (λ why text. NotesAtHalt why log now (faults_of_column layout files most text)) layout.header c.in_ok-column.ensures.begins (λ why text e w. w)
-    c.convert_rounds.result c.convert_rounds.ensures.noted_until
+    if_err_as _ _ (halts_in_records c.args.layout.now c.args.setting.now.plan.now.max_rows c.args.setting.now.files.now (g.R.Read.remaining c.args.reader)
+    (unread g.R.Read.remaining c.in_ok-column.column) (g.W.Write.contents c.args.writer.now.inner) (g.W.Write.contents c.begin_rows.new.writer.inner)
+    (g.W.Write.contents c.convert_rounds.new.writer.inner) (g.L.FaultLog.noted c.args.log.now) (g.L.FaultLog.noted c.convert_rounds.new.log) c.in_ok-column.ensures.begins c.in_ok-column.ensures.head)
+    c.convert_rounds.result (rw c.in_ok-files.ensures at c.convert_rounds.ensures.halt)

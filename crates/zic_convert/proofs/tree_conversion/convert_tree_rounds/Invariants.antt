@@ -5,8 +5,8 @@ use Rattle.zic_convert.specs.Tree.{HoldsByLearnt}
 use Rattle.zic_convert.proofs.TreeEnds.{IsFarBy}
 use Rattle.zic_convert.proofs.tree_conversion.convert_tree_rounds.Given as goal
 
-abbrev pub invariant-loop-column : goal.invariant-loop-column
-invariant-loop-column g l = record {
+abbrev pub invariant-loop-files : goal.invariant-loop-files
+invariant-loop-files g l = record {
   within : l.count ≤ l.fn.setting.plan.now.max_rows;
   failures : l.writer.failures ≡ l.fn.writer.failures;
   far : (replies : List Reply) → IsLearntFrom replies l.fn.files → HoldsByLearnt replies (g.Z.ZoneTree.replied l.fn.tree) (g.Z.ZoneTree.replied l.tree) l.files
@@ -14,5 +14,5 @@ invariant-loop-column g l = record {
       (g.L.FaultLog.noted l.fn.log) (g.L.FaultLog.noted l.log));
 }
 
-abbrev pub decreases-loop-column : goal.decreases-loop-column
-decreases-loop-column g l = l.fn.setting.plan.now.max_rows + 1 - l.count
+abbrev pub decreases-loop-files : goal.decreases-loop-files
+decreases-loop-files g l = l.fn.setting.plan.now.max_rows + 1 - l.count
