@@ -7,7 +7,7 @@ ghost use Rattle.zic_plan.specs.declared.layout.RowStart.TheVariants as start;
 ghost use Rattle.zic_convert.specs.Column.{header_of};
 ghost use Rattle.zic_convert.specs.code.Pieces.{joined};
 ghost use Rattle.zic_convert.specs.code.Rest.{EndsAtHead};
-ghost use Rattle.zic_convert.specs.code.Written.{Wrote, WritesRows, EndsAtRow};
+ghost use Rattle.zic_convert.specs.code.Written.{Wrote, WritesRows, EndsAtRow, IsStopAt};
 
 use crate::faulty::put_back;
 use crate::log::note_all;
@@ -15,7 +15,7 @@ use crate::row::Rows;
 use std::alloc::AllocError;
 use std::io::Write;
 use zic_counted::{Counted, WriteFailed};
-use zic_plan::{FaultLog, Layout, RowStart, RunStop};
+use zic_plan::{FaultLog, Layout, RowKind, RowStart, RunStop};
 
 /// The names of the fields that a row adds to its record.
 const ADDED_NAMES: &[u8; 35] = b",local,offset,daylight,abbreviation";
@@ -110,6 +110,17 @@ pub(crate) fn write_header<W: Write>(
     flush(writer)
 }
 
+/// Has the writer pass on what it holds back, and returns the stop at a row that ends the run, or
+/// `WriteFailed`.
+fn stop_at<W: Write>(writer: &mut Counted<W>, row: u64, kind: RowKind) -> RunStop
+    ensures { IsStopAt W.contents writer.old writer.new row kind result }
+{
+    match flush(writer) {
+        Ok(()) => RunStop::Row { row, kind },
+        Err(stop) => stop,
+    }
+}
+
 /// Writes the rows of pieces, one piece after another, up to the first that ends the run, notes
 /// their faults, flushes, and returns the number of rows. The first is the row of this number.
 ///
@@ -135,11 +146,7 @@ pub(crate) fn write_rows<W: Write, L: FaultLog>(
         note_all(log, &rows.faults);
         count += rows.count;
         if let Some(kind) = rows.fault {
-            flush(writer)?;
-            return Err(RunStop::Row {
-                row: first + count,
-                kind,
-            });
+            return Err(stop_at(writer, first + count, kind));
         }
     }
     flush(writer)?;

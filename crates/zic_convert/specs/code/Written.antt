@@ -1,5 +1,5 @@
 -- Rows that were written.
-use Rattle.std.specs.Prelude.{◌≡◌, ℕ, ◌+◌, ◌⊎◌, true, List, Option, Some, None}
+use Rattle.std.specs.Prelude.{◌≡◌, ℕ, ◌+◌, ◌⊎◌, true, List, [], Option, Some, None}
 use Rattle.std.specs.Io.KnownBytes.{Appends}
 use Rattle.zic_counted.specs.Counts.{Counts}
 use Rattle.zic_counted.specs.Written.{FailsWithin}
@@ -7,6 +7,7 @@ use Rattle.zic_files.specs.File.{File}
 use Rattle.zic_plan.specs.Plan.{Limits}
 use Rattle.zic_plan.specs.declared.layout.Layout.{Layout}
 use Rattle.zic_plan.specs.declared.stop.RowFault.{RowFault}
+use Rattle.zic_plan.specs.declared.stop.RowKind.{RowKind}
 use Rattle.zic_plan.specs.declared.stop.RunStop.{RunStop}
 use Rattle.zic_plan.specs.declared.stop.RunStop.TheVariants as stop
 use Rattle.zic_convert.specs.Log.{Notes, NotesPart}
@@ -29,6 +30,12 @@ EndsAtRow contents old new log log' first rows (stop.Row row kind) =
     (rows.fault ≡ Some kind) × (row ≡ first + rows.count) × Wrote contents old new rows.text × Notes log log' rows.faults
 EndsAtRow contents old new log log' first rows stop.WriteFailed = FailsWithin contents old new rows.text × NotesPart log log' rows.faults
 EndsAtRow contents old new log log' first rows _ = ⊥
+
+-- the stop at a row that ends the run, once what a writer held back was passed on, or the writer failed
+abbrev pub IsStopAt : {W : Type 0} → (W → Option (List ℕ)) → Counts W → Counts W → ℕ → RowKind → RunStop → Type 0
+IsStopAt contents old new row kind (stop.Row at fault) = (at ≡ row) × (fault ≡ kind) × Wrote contents old new []
+IsStopAt contents old new row kind stop.WriteFailed = FailsWithin contents old new []
+IsStopAt contents old new row kind _ = ⊥
 
 -- the rows of a round were all written, and this is their count
 abbrev pub WritesRound : {W : Type 0} → Pieces → (W → Option (List ℕ)) → Counts W → Counts W → Option (List RowFault) → Option (List RowFault) → ℕ → Type 0
