@@ -69,6 +69,11 @@ module _ (layout : Layout) (files : List File) (most first : ℕ) (all left : Li
       counted = omega (arith, far.counted, length-append far.done (whole ∷ []));
     }
 
+-- so many records have rows
+pub made_so_far : (layout : Layout) (files : List File) (most first : ℕ) (all left : List Whole) (text : List ℕ) (count : ℕ) (faults : List RowFault)
+    → AreRowsSoFar layout files most first all left text count faults → count + length left ≡ length all
+made_so_far layout files most first all left text count faults far = omega (arith, far.counted, ap length far.parts, length-append far.done left)
+
 -- the next record, as it was added
 module _ (layout : Layout) (files : List File) (most first : ℕ) (all left : List Whole) (old new : RowsOf) (far : AreRowsSoFar layout files most first all left old.text old.count old.faults)
     (none : old.fault ≡ None) (whole : Whole) (others : List Whole) (next : left ≡ whole ∷ others) (are : AreNext layout files most (first + old.count) whole old new) where

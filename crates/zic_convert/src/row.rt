@@ -4,7 +4,7 @@ ghost use Rattle.std.specs.Prelude.{◌≡◌, ◌+◌, ◌^◌, ◌<◌, IfOk, 
 ghost use Rattle.zic_columns.specs.Own.{Whole, whole_of};
 ghost use Rattle.zic_plan.specs.Layout.{HasPlainRows};
 ghost use Rattle.zic_plan.specs.declared.layout.Layout.{Layout};
-ghost use Rattle.zic_convert.specs.code.Row.{AreNext, AreRowsOf, fields_of_all, put_back};
+ghost use Rattle.zic_convert.specs.code.Row.{AreNext, AreRowsOf, fields_of_all, empty_rows, put_back};
 
 use crate::faulty::{ends_run, push_faulty};
 use crate::row_files::RowFiles;
@@ -118,6 +118,30 @@ impl Rows {
         self.count += 1;
         Ok(())
     }
+    /// Adds the rows of records to none, up to the first that ends the run. The records have the
+    /// delimiter and the comma in each other's place.
+    fn add_all<'a>(
+        &mut self,
+        alloc: Global,
+        cache: &mut ZoneCache<'a, '_>,
+        order: &RowOrder<'a, '_>,
+        entries: Entries<'a>,
+    ) -> Result<(), AllocError>
+        requires none { self.old ≡ empty_rows }
+        requires files { cache.old.files ≡ order.now.files.now }
+        requires fits { order.now.first + length entries < 2 ^ 64 }
+        ensures { OnOk result (AreRowsOf order.now.layout.now order.now.files.now order.now.most
+            order.now.first (map (put_back order.now.layout.now.delimiter) entries.entry)
+            self.new) }
+    {
+        for entry in entries {
+            self.add(alloc, cache, order, entry)?;
+            if self.fault.is_some() {
+                return Ok(());
+            }
+        }
+        Ok(())
+    }
 }
 
 /// Returns the rows of records, which have the delimiter and the comma in each other's place.
@@ -139,11 +163,6 @@ pub(crate) fn rows_by<'a, 's>(
         faults: Vec::new(alloc),
     };
     let mut cache = ZoneCache::new(order.files);
-    for entry in entries {
-        rows.add(alloc, &mut cache, order, entry)?;
-        if rows.fault.is_some() {
-            return Ok(rows);
-        }
-    }
+    rows.add_all(alloc, &mut cache, order, entries)?;
     Ok(rows)
 }

@@ -1,5 +1,5 @@
 -- Rows as the code has them.
-use Rattle.std.specs.Prelude.{◌≡◌, ◌+◌, ℕ, ℤ, List, ◌∷◌, ◌++◌, length, map, Option, Some, MatchOption}
+use Rattle.std.specs.Prelude.{◌≡◌, ◌+◌, ℕ, ℤ, List, [], ◌∷◌, ◌++◌, length, map, Option, Some, None, MatchOption}
 use Rattle.std.specs.Fmt.{signed_decimal}
 use Rattle.std.specs.List.{concat, flat_map}
 use Rattle.zic_columns.specs.Exchange.{exchanged}
@@ -39,6 +39,10 @@ pub record RowsOf : Type 0 where
   pub count : ℕ
   pub fault : Option RowKind
   pub faults : List RowFault
+
+-- none
+abbrev pub empty_rows : RowsOf
+empty_rows = record { text = []; count = 0; fault = None; faults = [] }
 
 -- the outcome of these records, by a layout, the first of which is the row of this number
 pub record AreRowsOf (layout : Layout) (files : List File) (most first : ℕ) (wholes : List Whole) (rows : RowsOf) : Type 0 where
