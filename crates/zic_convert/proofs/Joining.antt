@@ -206,13 +206,6 @@ module _ (p : Pieces) (i : ℕ) (found : RowsOf) (sound : ArePieces p) (lt : i <
     again_err why (inl memory) = inl memory
     again_err why (inr ends) = inr (ends.0, by_fault ends.0 ends.0.fault refl ends.1, ends.2)
 
--- the rows of a round that was taken
-pub rows_of_round : (p : Pieces) (layout : Layout) (files : List File) (most first size : ℕ) (given taken : List (List ℕ)) → p ≡ record { layout = layout; files = files; pieces = given; first = first; most = most; size = size; stops = true }
-    → given ≡ taken → (rows : RowsOf) → AreRowsOf p.layout p.files p.most p.first (wholes_of_all p.layout.delimiter p.pieces) rows → AreRowsOf layout files most first (wholes_of_all layout.delimiter taken) rows
-rows_of_round p layout files most first size given taken is same rows are =
-    let all = is ∙ ap (λ (l : List (List ℕ)). record { layout = layout; files = files; pieces = l; first = first; most = most; size = size; stops = true }) same in
-    subst (λ (q : Pieces). AreRowsOf q.layout q.files q.most q.first (wholes_of_all q.layout.delimiter q.pieces) rows) all are
-
 -- what holds of a value where more does
 pub on_ok : {X E : Type 0} (r : Result X E) (P Q : X → Type 0) → ((x : X) → P x → Q x) → IfOk r P → IfOk r Q
 on_ok (Ok x) P Q f is = f x is

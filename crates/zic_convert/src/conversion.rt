@@ -93,9 +93,9 @@ fn convert_rounds<T: Threads + Wait + Sync, R: Read, W: Write, G: Gate + Sync, L
 
 /// A column after its header, and the header's own bytes, which are none where it has no header.
 #[derive(Drop)]
-pub(crate) struct Begun<R: Read> {
-    pub(crate) column: Column<R>,
-    pub(crate) header: Vec<u8>,
+struct Begun<R: Read> {
+    column: Column<R>,
+    header: Vec<u8>,
 }
 
 /// Begins a column after its header, if it has one.
@@ -103,7 +103,7 @@ pub(crate) struct Begun<R: Read> {
 /// # Errors
 ///
 /// `Unread` where the column can't be read on.
-pub(crate) fn begin_column<R: Read + Drop>(
+fn begin_column<R: Read + Drop>(
     alloc: Global,
     plan: &Plan,
     layout: &Layout,
@@ -273,7 +273,7 @@ fn convert_delimited<
 
 /// Returns why reading the column ended. The reader had counted `failures` failures and `taken`
 /// bytes before, and may have taken `most` bytes since.
-pub(crate) fn reading_stop<R>(reader: &Counted<R>, failures: u64, taken: u64, most: u64) -> RunStop
+fn reading_stop<R>(reader: &Counted<R>, failures: u64, taken: u64, most: u64) -> RunStop
     ensures { IsReadingStop reader.now failures taken most result }
 {
     if reader.has_failed_since(failures) {

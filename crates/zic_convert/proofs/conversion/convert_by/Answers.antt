@@ -1,14 +1,15 @@
 use Rattle.zic_convert.proofs.Ends.{cause_end, ends_by, ok_end}
-use Rattle.zic_convert.proofs.Options.{if_err_as, if_ok_as, some_first, some_second}
+use Rattle.zic_convert.proofs.Joining.{on_err, on_ok}
+use Rattle.zic_convert.proofs.Options.{some_first, some_second}
 use Rattle.zic_convert.proofs.conversion.convert_by.Goals as goal
 
 pub returns-clause-ok : goal.returns-clause-ok
 returns-clause-ok g c =
-    if_ok_as _ _ (λ n all. some_first (g.R.Read.remaining c.args.reader.now.inner) _ _ all) c.ended.result (ok_end _ _ _ _ c.convert_delimited-outcome.result c.ended.result _ c.ended.ensures c.convert_delimited-outcome.ensures.all)
+    on_ok c.ended.result _ _ (λ n all. some_first (g.R.Read.remaining c.args.reader.now.inner) _ _ all) (ok_end _ _ _ _ c.convert_delimited-outcome.result c.ended.result _ c.ended.ensures c.convert_delimited-outcome.ensures.all)
 
 pub returns-clause-noted : goal.returns-clause-noted
 returns-clause-noted g c =
-    if_ok_as _ _ (λ n all. some_second (g.R.Read.remaining c.args.reader.now.inner) _ _ all) c.ended.result (ok_end _ _ _ _ c.convert_delimited-outcome.result c.ended.result _ c.ended.ensures c.convert_delimited-outcome.ensures.all)
+    on_ok c.ended.result _ _ (λ n all. some_second (g.R.Read.remaining c.args.reader.now.inner) _ _ all) (ok_end _ _ _ _ c.convert_delimited-outcome.result c.ended.result _ c.ended.ensures c.convert_delimited-outcome.ensures.all)
 
 pub returns-clause-within : goal.returns-clause-within
 returns-clause-within g c = rw (c.taken-taken.ensures, c.max_bytes.ensures.bytes) at c.ended.ensures.within
@@ -22,7 +23,7 @@ returns-clause-flushed g c = ok_end _ _ _ _ c.convert_delimited-outcome.result c
 pub returns-clause-err : goal.returns-clause-err
 returns-clause-err g c =
     let order = c.args.order.now in
-    if_err_as _ _ (λ why ends. some_first (g.R.Read.remaining c.args.reader.now.inner) _ _ ends) c.ended.result (ends_by order.layout.now order.plan.now.max_rows (record {
+    on_err c.ended.result _ _ (λ why ends. some_first (g.R.Read.remaining c.args.reader.now.inner) _ _ ends) (ends_by order.layout.now order.plan.now.max_rows (record {
       column = g.R.Read.remaining c.args.reader.now.inner;
       held = g.W.Write.contents c.args.writer.now.inner;
       held' = g.W.Write.contents c.convert_delimited-outcome.new.writer.inner;
@@ -34,7 +35,7 @@ returns-clause-err g c =
 pub returns-clause-noted_until : goal.returns-clause-noted_until
 returns-clause-noted_until g c =
     let order = c.args.order.now in
-    if_err_as _ _ (λ why ends. some_second (g.R.Read.remaining c.args.reader.now.inner) _ _ ends) c.ended.result (ends_by order.layout.now order.plan.now.max_rows (record {
+    on_err c.ended.result _ _ (λ why ends. some_second (g.R.Read.remaining c.args.reader.now.inner) _ _ ends) (ends_by order.layout.now order.plan.now.max_rows (record {
       column = g.R.Read.remaining c.args.reader.now.inner;
       held = g.W.Write.contents c.args.writer.now.inner;
       held' = g.W.Write.contents c.convert_delimited-outcome.new.writer.inner;

@@ -4,7 +4,7 @@ use Rattle.zic_columns.specs.Round.{unread}
 use Rattle.zic_plan.specs.declared.stop.RunStop.TheVariants as stop
 use Rattle.zic_convert.specs.declared.halt.Halt.TheVariants as halt
 use Rattle.zic_convert.proofs.Heads.{cause_at_head, converts_records, halts_at_head, halts_in_records}
-use Rattle.zic_convert.proofs.Options.{if_err_as, if_ok_as}
+use Rattle.zic_convert.proofs.Joining.{on_err, on_ok}
 use Rattle.zic_convert.proofs.Sounds.{all_known}
 use Rattle.zic_convert.proofs.conversion.convert_records.Goals as goal
 
@@ -28,14 +28,14 @@ returns-in_err-column-clause-cause g c =
 
 pub returns-clause-all : goal.returns-clause-all
 returns-clause-all g c =
-    if_ok_as _ _ (converts_records c.args.layout.now c.args.setting.now.plan.now.max_rows c.args.setting.now.files.now (g.R.Read.remaining c.args.reader)
+    on_ok c.convert_rounds.result _ _ (converts_records c.args.layout.now c.args.setting.now.plan.now.max_rows c.args.setting.now.files.now (g.R.Read.remaining c.args.reader)
     (unread g.R.Read.remaining c.in_ok-column.column) (g.W.Write.contents c.args.writer.now.inner) (g.W.Write.contents c.begin_rows.new.writer.inner)
     (g.W.Write.contents c.convert_rounds.new.writer.inner) (g.L.FaultLog.noted c.args.log.now) (g.L.FaultLog.noted c.convert_rounds.new.log) c.in_ok-column.ensures.begins c.in_ok-column.ensures.head)
-    c.convert_rounds.result (rw c.in_ok-files.ensures at c.convert_rounds.ensures.all)
+    (rw c.in_ok-files.ensures at c.convert_rounds.ensures.all)
 
 pub returns-clause-halt : goal.returns-clause-halt
 returns-clause-halt g c =
-    if_err_as _ _ (halts_in_records c.args.layout.now c.args.setting.now.plan.now.max_rows c.args.setting.now.files.now (g.R.Read.remaining c.args.reader)
+    on_err c.convert_rounds.result _ _ (halts_in_records c.args.layout.now c.args.setting.now.plan.now.max_rows c.args.setting.now.files.now (g.R.Read.remaining c.args.reader)
     (unread g.R.Read.remaining c.in_ok-column.column) (g.W.Write.contents c.args.writer.now.inner) (g.W.Write.contents c.begin_rows.new.writer.inner)
     (g.W.Write.contents c.convert_rounds.new.writer.inner) (g.L.FaultLog.noted c.args.log.now) (g.L.FaultLog.noted c.convert_rounds.new.log) c.in_ok-column.ensures.begins c.in_ok-column.ensures.head)
-    c.convert_rounds.result (rw c.in_ok-files.ensures at c.convert_rounds.ensures.halt)
+    (rw c.in_ok-files.ensures at c.convert_rounds.ensures.halt)
