@@ -1,5 +1,5 @@
 -- Pieces of one width, read one after the other as a loop does.
-use Rattle.std.proofs.Common.{◌≡◌, ℕ, zero, suc, ◌+◌, ◌-◌, ◌*◌, ◌<◌, ◌≤◌, Bool, true, false, List, [], ◌∷◌, ◌++◌, length, take, drop, map, Some, refl, sym, ap, ◌∙◌, append_assoc, arith, slice_get}
+use Rattle.std.proofs.Common.{◌≡◌, ℕ, zero, suc, ◌+◌, ◌-◌, ◌*◌, ◌<◌, ◌≤◌, Bool, true, false, List, [], ◌∷◌, ◌++◌, length, take, drop, map, Some, refl, sym, ap, ◌∙◌, append_assoc, append-nil, arith, slice_get}
 use Rattle.std.specs.List.{list_all}
 use Rattle.std.proofs.lemmas.List.{length-drop, drop-drop, drop-take, take-take}
 use Rattle.zic_tzif.specs.Block.{pieces}
@@ -62,3 +62,10 @@ piece_at w (suc n) zero xs lt = let none : 0 * w ≡ 0 = omega arith in ap (λ m
 piece_at w (suc n) (suc k) xs lt =
     let there : drop (k * w) (drop w xs) ≡ drop (suc k * w) xs = drop-drop (k * w) w xs ∙ ap (λ m. drop m xs) (sym (width_more w k)) in
     piece_at w n k (drop w xs) (omega arith) ∙ ap (λ (ys : List ℕ). Some (take w ys)) there
+
+-- once no pieces are left all are made
+pub all_made : {A : Type 0} (f : List ℕ → A) (made : List A) (width count passed : ℕ) (rest : List ℕ) (total : List A) → count ≤ passed
+    → made ++ map f (pieces width (count - passed) rest) ≡ total → made ≡ total
+all_made f made width count passed rest total past left =
+    let none : count - passed ≡ 0 = omega (arith, past) in
+    sym (append-nil made) ∙ rw none at left

@@ -2,12 +2,14 @@
 use Rattle.std.proofs.Common.{◌≡◌, ℕ, zero, suc, ◌+◌, ◌<◌, ◌≤◌, ℤ, ◌<ℤ◌, ◌≤ℤ◌, inl, inr, List, [], ◌∷◌, ◌++◌, length, get_or, take, drop, Option, Some, None, All, AllPairs, refl, ap, sym, subst, arith, length-drop, get_or-drop}
 use Rattle.std.specs.Prelude.{IsSomeAnd, slice_get, MatchOption}
 use Rattle.std.proofs.lemmas.Int.{ints}
+use Rattle.std.proofs.lemmas.List.{nil_from_length}
+use Rattle.std.proofs.lemmas.List.Elements.{All-nil}
 use Rattle.std.proofs.lemmas.Option.{same_Some, slice_get_within, get_or_from_slice_get}
 use Rattle.zic_base.specs.State.{Shown}
 use Rattle.zic_posix.specs.Footer.{TzString}
 use Rattle.zic_posix.specs.Meaning.{Means}
 use Rattle.zic_tzif.specs.declared.content.Change.{Change}
-use Rattle.zic_tzif.specs.Content.{Content, IsFooter}
+use Rattle.zic_tzif.specs.Content.{Content, IsFooter, IsStateOfType}
 use Rattle.zic_tzif.specs.Answer.{IsLastChange, IsBeforeLast, IsTypeAt, Gives, IsUnspecified}
 use Rattle.zic_tzif.specs.Block.{changes_at}
 use Rattle.zic_tzif.specs.code.After.{IsNumberAfter, IsStateAfter}
@@ -148,3 +150,10 @@ number_has_type content (suc k) number have some is =
     let below : c.0.number < length content.types = subst (λ (d : Change). d.number < length content.types) (get_or_from_slice_get content.changes k c.0 c.0 c.1) (have k c.0 within) in
     let same = c.2 in
     omega (arith, below, same)
+
+-- with neither a transition nor a footer local time is that of the first type
+pub gives_first : (content : Content) (t : ℤ) (state : Shown) → length content.changes ≡ 0 → content.text ≡ [] → IsStateOfType content 0 state → Gives content t state
+gives_first content t state no_changes no_text is =
+    let none = nil_from_length content.changes no_changes in
+    let before = subst (All (λ (c : Change). t <ℤ c.instant)) (sym none) (All-nil (λ (c : Change). t <ℤ c.instant)) in
+    inl (inr (none, no_text), (0, inl (before, refl), is))

@@ -120,3 +120,11 @@ found times t base window =
       not_after = window.not_after;
       after = λ k behind last d. window.after k (omega (arith, behind)) last d;
     }
+
+-- ---- times that were read
+
+pub rises : (read times : List ℤ) → read ≡ times → AllPairs (λ (a b : ℤ). a <ℤ b) times → AllPairs (λ (a b : ℤ). a <ℤ b) read
+rises read times same rising = subst (λ (xs : List ℤ). AllPairs (λ (a b : ℤ). a <ℤ b) xs) (sym same) rising
+
+pub split_of : (read times : List ℤ) (u t : ℤ) (count : ℕ) → read ≡ times → u ≡ t → IsSplit read u count → IsSplit times t count
+split_of read times u t count same at split = subst (λ (xs : List ℤ). IsSplit xs t count) same (subst (λ (z : ℤ). IsSplit read z count) at split)

@@ -52,6 +52,9 @@ pub fn written_is_file()
 /// The first data block: one type of zeros, and one empty designation.
 const FIRST_BLOCK: [u8; 7] = [0; 7];
 
+/// The reserved bytes of a header.
+const RESERVED: [u8; 15] = [0; 15];
+
 /// Returns the length in bytes of a table's file.
 fn file_length(t: &Table) -> usize
     requires { IsWritable t.now }
@@ -74,23 +77,12 @@ fn put_header(
     ensures { OnOk result
         (out.new.items ≡ out.old.items ++ header version transitions types characters) }
 {
-    out.extend_from_slice(b"TZif")?;
-    out.push(b'0' + version)?;
-    // 15 reserved bytes, then no UT indicators, standard indicators and leap seconds
-    out.extend_from_slice(&[0; 15 + 4 + 4 + 4])?;
-    put_u32(out, transitions)?;
-    put_u32(out, types)?;
-    put_u32(out, characters)?;
-    Ok(())
-}
-
-/// Appends a number in four bytes, the highest first.
-fn put_u32(out: &mut Vec<u8>, n: u32) -> Result<(), AllocError>
-    ensures { OnOk result (out.new.items ≡ out.old.items ++ big_bytes 4 n) }
-{
-    let mut bytes = [0; 4];
-    BigEndian::write_u32(&mut bytes, n);
-    out.extend_from_slice(&bytes)
+    let mut counts = [0; 24];
+    // no UT indicators, standard indicators and leap seconds
+    BigEndian::write_u32_into(&[0, 0, 0, transitions, types, characters], &mut counts);
+    out.extend_from_slice(&[b'T', b'Z', b'i', b'f', b'0' + version])?;
+    out.extend_from_slice(&RESERVED)?;
+    out.extend_from_slice(&counts)
 }
 
 /// Appends the transition times.

@@ -1,5 +1,5 @@
 use Rattle.std.proofs.Common.{◌≡◌, ◌+◌, ◌<◌, ◌≤◌, inl, inr, true, false, length, refl, rules, sym, ap, subst, ◌∙◌}
-use Rattle.std.specs.Prelude.{◌==◌, slice_index}
+use Rattle.std.specs.Prelude.{◌==◌, ◌||◌, slice_index}
 use Rattle.std.proofs.lemmas.Bool.{eq-eqb, ne_eqb, le-leb, lt-leb, not-true, not-false}
 use Rattle.zic_tzif.specs.Header.{Counts, counts_at, block_length}
 use Rattle.zic_tzif.proofs.ReadChecks.{first_outcome, is_version}
@@ -41,3 +41,16 @@ returns c =
         inside = c.if-octets-second_header.false;
       },
     )
+
+pub returns-then-octets-gt-LONGEST_FILE : goal.returns-then-octets-gt-LONGEST_FILE
+returns-then-octets-gt-LONGEST_FILE c = first_outcome c.args.octets.now false _ _ _ _ _ (lt-leb _ _ c.if-octets-gt-LONGEST_FILE.true) refl refl refl refl refl
+
+pub returns-then-octets-lt-HEADER_LENGTH : goal.returns-then-octets-lt-HEADER_LENGTH
+returns-then-octets-lt-HEADER_LENGTH c =
+    first_outcome c.args.octets.now true false _ _ _ _ (le-leb _ _ c.if-octets-gt-LONGEST_FILE.false) (lt-leb _ _ c.if-octets-lt-HEADER_LENGTH.true) refl refl refl refl
+
+pub returns-in_default : goal.returns-in_default
+returns-in_default c =
+    let o = c.args.octets.now in
+    let other : ((slice_index o 4 == 50) || (slice_index o 4 == 51)) ≡ false = search rules in
+    first_outcome o true true true false _ _ (le-leb _ _ c.if-octets-gt-LONGEST_FILE.false) (le-leb _ _ c.if-octets-lt-HEADER_LENGTH.false) (not-false _ (sym c.ne.ensures ∙ c.if-ne.false)) other refl refl

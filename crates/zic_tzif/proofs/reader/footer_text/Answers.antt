@@ -1,10 +1,21 @@
-use Rattle.std.proofs.Common.{◌≡◌, ◌+◌, ◌≤◌, true, false, take, drop, length, refl, sym, ap, ◌∙◌, Some, None, arith}
+use Rattle.std.proofs.Common.{◌≡◌, ℕ, ◌+◌, ◌<◌, ◌≤◌, List, true, false, take, drop, length, refl, sym, ap, ◌∙◌, Some, None, arith}
 use Rattle.std.specs.Prelude.{◌==◌}
 use Rattle.std.specs.List.{position, before_first}
 use Rattle.std.proofs.lemmas.Bool.{lt-ltb, le-ltb, eq-eqb, ne_eqb}
 use Rattle.std.proofs.lemmas.List.{take_rest, length-take, length-drop}
 use Rattle.zic_tzif.proofs.ReadChecks.{footer_outcome, not_there, is_there}
 use Rattle.zic_tzif.proofs.reader.footer_text.Goals as goal
+
+taken : (n : ℕ) (xs : List ℕ) → n < length xs → n ≡ length (take n xs)
+taken n xs within = let size = length-take n xs in omega (arith, within, size)
+
+pub slice_bounds-result-end : goal.slice_bounds-result-end
+slice_bounds-result-end c =
+    let o = c.args.octets.now in
+    let behind = drop (c.args.place + 1) o in
+    let same = take_rest o (c.args.place + 1) in
+    let some : position (λ b. b == 10) behind ≡ Some c.in-Some.end = ap (position (λ b. b == 10)) (sym same) ∙ sym c.place_of.ensures ∙ c.in-Some.is in
+    taken c.in-Some.end behind (is_there (λ b. b == 10) behind c.in-Some.end some).2 ∙ ap (λ (xs : List ℕ). length (take c.in-Some.end xs)) (sym same)
 
 pub returns-then-octets-place : goal.returns-then-octets-place
 returns-then-octets-place c =

@@ -32,3 +32,12 @@ returns c =
       all_pass c.args.octets.now c.in_ok-first.ensures.0 c.in_ok-block.ensures.0 (sym (ap first_failed same) ∙ c.in_ok-check.ensures.0) c.in_ok-text.ensures.0,
       record { version = c.in_ok-first.ensures.1.version; known = c.in_ok-first.ensures.1.known; block = c.in_ok-block.ensures.1; passes = c.in_ok-check.ensures.0; text = c.in_ok-text.ensures.1 },
     )
+
+pub second_part-requires-clause-place : goal.second_part-requires-clause-place
+second_part-requires-clause-place c = c.in_ok-first.ensures.1.second_header
+
+pub second_part-requires-clause-inside : goal.second_part-requires-clause-inside
+second_part-requires-clause-inside c = c.in_ok-first.ensures.1.inside
+
+pub footer_text-requires : goal.footer_text-requires
+footer_text-requires c = c.in_ok-block.ensures.1.0.end

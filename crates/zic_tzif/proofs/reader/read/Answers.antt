@@ -37,3 +37,9 @@ pub returns-clause-ok : goal.returns-clause-ok
 returns-clause-ok c =
     let file = is_file c.args.octets.now c.in_ok-parts.parts c.in_ok-footer.footer c.in_ok-parts.ensures.0 c.in_ok-parts.ensures.1 c.in_ok-footer.ensures.ok c.if-octets-end.false in
     subst (IsFile c.args.octets.now) (sym c.in_ok-zone_of.ensures) file
+
+pub footer_of-requires-clause-version : goal.footer_of-requires-clause-version
+footer_of-requires-clause-version c = c.in_ok-parts.ensures.1.known
+
+pub footer_of-requires-clause-passes : goal.footer_of-requires-clause-passes
+footer_of-requires-clause-passes c = c.in_ok-parts.ensures.1.passes

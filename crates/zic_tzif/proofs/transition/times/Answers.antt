@@ -1,7 +1,7 @@
 use Rattle.std.proofs.Common.{◌≡◌, ℕ, ℤ, List, [], ◌∷◌, ◌++◌, map, take, drop, sym, ap, subst, ◌∙◌, ◌-◌, ◌+◌, ◌*◌, ◌≤◌, length, w64, rules}
 use Rattle.std.proofs.lemmas.Int.{to_z-of_z}
 use Rattle.zic_tzif.specs.Block.{pieces, time_in}
-use Rattle.zic_tzif.proofs.ReadPieces.{enough_left, made_more}
+use Rattle.zic_tzif.proofs.ReadPieces.{enough_left, made_more, all_made}
 use Rattle.zic_tzif.proofs.transition.times.Goals as goal
 
 pub loop-preserved : goal.loop-preserved
@@ -17,3 +17,6 @@ loop-preserved c =
       left = subst (λ (xs : List ℕ). c.push.new.self.items ++ map time_in (pieces 8 left xs) ≡ total) (sym c.split_at.ensures.back)
           (ap (λ (ts : List ℤ). ts ++ map time_in (pieces 8 left (drop 8 c.loop.rest.now))) one ∙ so_far);
     }
+
+pub returns : goal.returns
+returns c = all_made time_in c.loop.times.items 8 c.args.count c.loop.counter c.loop.rest.now (map time_in (pieces 8 c.args.count c.args.octets.now)) c.loop-test.false c.loop.invariant.left

@@ -1,5 +1,5 @@
 use Rattle.std.proofs.Common.{List, ◌++◌, pos, w64, SFits, to_z-of_z, rules, get_or, take, ap, sym, ◌∙◌}
-use Rattle.std.proofs.lemmas.List.{flat_map_more, take_more}
+use Rattle.std.proofs.lemmas.List.{flat_map_more, take_more, take_all}
 use Rattle.std.specs.List.{flat_map}
 use Rattle.zic_tzif.specs.declared.content.Change.{Change}
 use Rattle.zic_tzif.specs.Writing.{time_octets}
@@ -16,3 +16,8 @@ loop-change-preserved c =
     flat_map_more time_octets front (take i c.args.changes.now) change
     ∙ ap (λ (changes : List Change). front ++ flat_map time_octets changes) (sym (take_more c.args.changes.now i none c.loop-change-test.true))
     )
+
+pub returns : goal.returns
+returns c =
+    c.loop-change.invariant
+    ∙ ap (λ (changes : List Change). c.args.out.now.items ++ flat_map time_octets changes) (take_all c.loop-change.change-index c.args.changes.now c.loop-change-test.false)

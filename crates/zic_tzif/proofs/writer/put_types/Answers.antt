@@ -1,5 +1,5 @@
 use Rattle.std.proofs.Common.{List, ◌++◌, pos, false, get_or, take, ap, sym, ◌∙◌}
-use Rattle.std.proofs.lemmas.List.{flat_map_more, take_more}
+use Rattle.std.proofs.lemmas.List.{flat_map_more, take_more, take_all}
 use Rattle.std.specs.List.{flat_map}
 use Rattle.zic_tzif.specs.declared.content.LocalType.{LocalType}
 use Rattle.zic_tzif.specs.Writing.{type_octets}
@@ -14,3 +14,8 @@ loop-local_type-preserved c =
     flat_map_more type_octets front (take i c.args.types.now) (get_or c.args.types.now i none)
     ∙ ap (λ (types : List LocalType). front ++ flat_map type_octets types) (sym (take_more c.args.types.now i none c.loop-local_type-test.true))
     )
+
+pub returns : goal.returns
+returns c =
+    c.loop-local_type.invariant
+    ∙ ap (λ (types : List LocalType). c.args.out.now.items ++ flat_map type_octets types) (take_all c.loop-local_type.local_type-index c.args.types.now c.loop-local_type-test.false)

@@ -1,5 +1,5 @@
-use Rattle.std.proofs.Common.{ℕ, pos, false, List, [], ◌∷◌, ◌++◌, length, get_or, ap, sym, ◌∙◌, arith}
-use Rattle.std.proofs.lemmas.List.{map_more}
+use Rattle.std.proofs.Common.{ℕ, pos, false, List, [], ◌∷◌, ◌++◌, length, map, get_or, ap, sym, ◌∙◌, arith}
+use Rattle.std.proofs.lemmas.List.{map_more, take_all}
 use Rattle.std.proofs.lemmas.List.Elements.{All-get_or}
 use Rattle.zic_tzif.specs.declared.content.LocalType.{LocalType}
 use Rattle.zic_tzif.specs.Content.{IsLocalType}
@@ -27,3 +27,8 @@ loop-local_type-preserved c =
     ∙ ap (λ (text : List ℕ). c.loop-local_type.lengths.items ++ length text ∷ []) c.designation.ensures
     ∙ ap (λ (lengths : List ℕ). lengths ++ name_length names t ∷ []) c.loop-local_type.invariant
     ∙ sym (map_more (name_length names) c.args.types.now i none c.loop-local_type-test.true)
+
+pub returns : goal.returns
+returns c =
+    c.loop-local_type.invariant
+    ∙ ap (map (name_length c.args.names.now)) (take_all c.loop-local_type.local_type-index c.args.types.now c.loop-local_type-test.false)

@@ -1,11 +1,11 @@
-use Rattle.std.proofs.Common.{ℤ, List, length, FitsSigned, w64, to_z-of_z, ap, subst, arith, rules}
+use Rattle.std.proofs.Common.{◌≡◌, ℕ, ℤ, List, length, FitsSigned, w64, to_z-of_z, ap, subst, arith, rules}
 use Rattle.zic_base.specs.State.{shown}
 use Rattle.zic_posix.specs.Meaning.{Means}
 use Rattle.zic_tzif.specs.declared.content.Change.{Change}
-use Rattle.zic_tzif.specs.Content.{Content}
+use Rattle.zic_tzif.specs.Content.{Content, IsStateOfType}
 use Rattle.zic_tzif.specs.code.Kept.{IsKept}
 use Rattle.zic_tzif.specs.code.Window.{IsSplit}
-use Rattle.zic_tzif.proofs.Search.{IsFound, found, times_rise, gives_type, gives_footer, leaves_open, kept_footer, kept_none}
+use Rattle.zic_tzif.proofs.Search.{IsFound, found, times_rise, gives_type, gives_footer, leaves_open, kept_footer, kept_none, gives_first}
 use Rattle.zic_tzif.proofs.Transitions.{changes_length}
 use Rattle.zic_tzif.proofs.zone.Zone.at.Goals as goal
 
@@ -80,3 +80,18 @@ returns-in-None-2 c =
     let bound = split.inside in
     leaves_open content t n point (λ none. some (omega (arith, none, bound, size, number)))
     (omega (arith, past, c.len.ensures, number, as_many, size)) (kept_none content footer kept.footer_is c.in-None.is)
+
+pub returns-in-None : goal.returns-in-None
+returns-in-None c =
+    let content = c.args.self.now in
+    let footer = c.self.inside.footer in
+    let kept = subst (λ (content : Content). IsKept content footer) c.self.view_is c.self.invariant.kept in
+    let numbers = changes_length c.self.inside.times.times.items c.self.inside.numbers.items c.self.invariant.as_many in
+    let as_many = c.self.invariant.as_many in
+    let size = ap (λ (content : Content). length content.changes) c.self.view_is in
+    let past = c.if-count-len.false in
+    let none = c.if-count-eq0.true in
+    let empty : length content.changes ≡ 0 = omega (arith, past, none, c.len.ensures, numbers, as_many, size) in
+    let after = c.state_after-in-None.ensures in
+    gives_first content c.args.t (shown c.state_after-in-None.result) empty (kept_none content footer kept.footer_is c.in-None.is)
+    (subst (λ (number : ℕ). IsStateOfType content number (shown c.state_after-in-None.result)) after.1 after.2)

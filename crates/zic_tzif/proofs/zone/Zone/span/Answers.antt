@@ -1,4 +1,4 @@
-use Rattle.std.proofs.Common.{◌≡◌, ℕ, ◌+◌, ◌≤◌, ◌⊎◌, inl, inr, true, false, ℤ, List, length, FitsSigned, w64, to_z-of_z, refl, ap, subst, arith, rules}
+use Rattle.std.proofs.Common.{◌≡◌, ℕ, ◌+◌, ◌<◌, ◌≤◌, ◌⊎◌, inl, inr, true, false, ℤ, List, length, FitsSigned, w64, to_z-of_z, refl, ap, subst, arith, rules}
 use Rattle.zic_base.specs.State.{shown}
 use Rattle.zic_posix.specs.declared.instants.Instants.{Instants}
 use Rattle.zic_posix.specs.Instants.{Includes}
@@ -7,7 +7,7 @@ use Rattle.zic_tzif.specs.Content.{Content}
 use Rattle.zic_tzif.specs.Block.{changes_at}
 use Rattle.zic_tzif.specs.code.Kept.{IsKept}
 use Rattle.zic_tzif.specs.code.Window.{IsSplit}
-use Rattle.zic_tzif.proofs.Search.{times_rise, kept_footer, kept_none}
+use Rattle.zic_tzif.proofs.Search.{times_rise, kept_footer, kept_none, gives_first}
 use Rattle.zic_tzif.proofs.Spans.{IsPlaced, placed, type_throughout, changes_before_last, open_throughout, changes_without_footer, asked_of_both, footer_throughout, changes_with_footer}
 use Rattle.zic_tzif.proofs.States.{footer_numbered}
 use Rattle.zic_tzif.proofs.Transitions.{changes_length}
@@ -166,3 +166,33 @@ returns-in-None-2-clause-changes c =
     let here = subst (λ (z : ℤ). Includes gap z) (to_z-of_z c.ranges.t) c.gap_at-gap.ensures.asked in
     let p : IsPlaced content t n gap = placed content times numbers t n gap as_many same split here c.gap_at-gap.ensures.between in
     changes_without_footer content t n gap p (kept_none content footer kept.footer_is c.in-None.is)
+
+pub returns-then-gap-len-clause-asked : goal.returns-then-gap-len-clause-asked
+returns-then-gap-len-clause-asked c = subst (λ (z : ℤ). Includes c.gap_at-gap.result.instants z) (to_z-of_z c.ranges.t) c.gap_at-gap.ensures.asked
+
+pub returns-in-None-clause-asked : goal.returns-in-None-clause-asked
+returns-in-None-clause-asked c = subst (λ (z : ℤ). Includes c.gap_at-gap.result.instants z) (to_z-of_z c.ranges.t) c.gap_at-gap.ensures.asked
+
+pub returns-in-None-2-clause-asked : goal.returns-in-None-2-clause-asked
+returns-in-None-2-clause-asked c = subst (λ (z : ℤ). Includes c.gap_at-gap.result.instants z) (to_z-of_z c.ranges.t) c.gap_at-gap.ensures.asked
+
+pub returns-then-gap-len-clause-number : goal.returns-then-gap-len-clause-number
+returns-then-gap-len-clause-number c = inl c.state_of.ensures
+
+pub returns-in-None-clause-number : goal.returns-in-None-clause-number
+returns-in-None-clause-number c = inl c.state_of-in-None.ensures
+
+pub state_of-requires-in-None : goal.state_of-requires-in-None
+state_of-requires-in-None c = subst (λ (content : Content). 0 < length content.types) c.self.view_is c.self.invariant.kept.some_type
+
+pub returns-in-None-clause-answers : goal.returns-in-None-clause-answers
+returns-in-None-clause-answers c =
+    let content = c.args.self.now in
+    let footer = c.self.inside.footer in
+    let kept = subst (λ (content : Content). IsKept content footer) c.self.view_is c.self.invariant.kept in
+    let same = ap (λ (content : Content). content.changes) c.self.view_is in
+    let long = as_long c.self.inside.times.times.items c.self.inside.numbers.items content.changes c.self.invariant.as_many same in
+    let past = c.if-gap-len.false in
+    let none = c.if-gap-eq0.true in
+    let empty : length content.changes ≡ 0 = omega (arith, past, none, c.len.ensures, long) in
+    λ u there. gives_first content u (shown c.state_of-in-None.result) empty (kept_none content footer kept.footer_is c.in-None.is) c.state_of-in-None.ensures

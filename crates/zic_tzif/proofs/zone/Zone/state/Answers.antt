@@ -1,10 +1,10 @@
 use Rattle.std.proofs.Common.{◌≡◌, ◌≤◌, ◌⊎◌, inl, inr, length, None, ap, subst, arith}
 use Rattle.zic_tzif.specs.Content.{Content}
 use Rattle.zic_tzif.specs.code.Kept.{IsKept}
-use Rattle.zic_tzif.proofs.Search.{kept_footer}
-use Rattle.zic_tzif.proofs.States.{standard_numbered, daylight_numbered}
+use Rattle.zic_tzif.proofs.Search.{kept_footer, kept_none}
+use Rattle.zic_tzif.proofs.States.{within_types, standard_numbered, daylight_numbered}
 use Rattle.zic_tzif.proofs.zone.Zone.state.Goals as goal
-use Rattle.zic_tzif.proofs.zone.Zone.state.Goals.{in_default-daylight_state-via-in-Some-daylight_state+else-number-types-2, in_default-daylight_state-via-in_default-daylight_state}
+use Rattle.zic_tzif.proofs.zone.Zone.state.Goals.{in_default-via-in-Some+else-number-types, in_default-via-in_default, in_default-daylight_state-via-in-Some-daylight_state+else-number-types-2, in_default-daylight_state-via-in_default-daylight_state}
 
 pub returns-in-Some-daylight_state : goal.returns-in-Some-daylight_state
 returns-in-Some-daylight_state c =
@@ -32,3 +32,15 @@ returns-in_default-daylight_state c =
       | in_default-daylight_state-via-in_default-daylight_state w ↦ inr w.in_default-daylight_state.is
     ] in
     standard_numbered content f c.args.number spells c.requires c.daylight_state.result c.daylight_state.ensures _ (omega (arith, from, c.len-types.ensures, types)) to c.standard_state.ensures
+
+pub state_of-requires : goal.state_of-requires
+state_of-requires c =
+    let content = c.args.self.now in
+    let footer = c.self.inside.footer in
+    let types = ap (λ (content : Content). length content.types) c.self.view_is in
+    elim c.in_default.branch [
+      | in_default-via-in-Some+else-number-types w ↦ let below = w.if-number-types.false in omega (arith, below, c.len-types.ensures, types)
+      | in_default-via-in_default w ↦
+          let kept = subst (λ (content : Content). IsKept content footer) c.self.view_is c.self.invariant.kept in
+          within_types content c.args.number (kept_none content footer kept.footer_is w.in_default.is) c.requires
+    ]
