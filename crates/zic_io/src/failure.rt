@@ -4,6 +4,7 @@ ghost use Rattle.std.specs.Prelude.{◌≡◌, ◌⊎◌};
 ghost use Rattle.zic_io.specs.declared.failure.Failure.TheVariants.{CannotWriteOutput, Memory};
 ghost use Rattle.zic_io.specs.Failing.{fault_failure, run_failure, IsCannotRead, IsUnknownZone};
 ghost use Rattle.zic_io.specs.Words.{status_of};
+ghost use Rattle.zic_io.specs.code.Message.{first_words, name_in};
 
 use std::alloc::{AllocError, AllocFailed, Global};
 use std::{error, fmt};
@@ -64,6 +65,44 @@ impl Failure {
             Failure::Memory | Failure::NoThread => 4,
         }
     }
+
+    /// Returns the words with which the text begins.
+    fn words(&self) -> &'static str
+        ensures { result.now ≡ first_words self.now }
+    {
+        match self {
+            Failure::Line { .. } => "line ",
+            Failure::TextLine { .. } => "text ",
+            Failure::Row { .. } | Failure::Rows { .. } => "row ",
+            Failure::ColumnTooLong => "column: ",
+            Failure::File(_) => "file: ",
+            Failure::CannotRead(_) | Failure::CannotReadColumn => "cannot read ",
+            Failure::CannotWrite(_) => "cannot write ",
+            Failure::CannotWriteRows | Failure::CannotWriteOutput => "cannot write ",
+            Failure::UnknownZone(_) => "unknown zone ",
+            Failure::Memory => "out of ",
+            Failure::NoThread => "no ",
+        }
+    }
+
+    /// Returns the name in the text: of a fault, a reason, a path, a zone, or what is wanting.
+    fn name(&self) -> &str
+        ensures { result.now ≡ name_in self.now }
+    {
+        match self {
+            Failure::Line { kind, .. } | Failure::TextLine { kind, .. } => kind_name(*kind),
+            Failure::Row { kind, .. } | Failure::Rows { kind, .. } => row_kind_name(*kind),
+            Failure::ColumnTooLong => "ColumnTooLong",
+            Failure::File(reason) => reason_name(*reason),
+            Failure::CannotRead(name) | Failure::CannotWrite(name) => name,
+            Failure::UnknownZone(name) => name,
+            Failure::CannotReadColumn => "column",
+            Failure::CannotWriteRows => "rows",
+            Failure::CannotWriteOutput => "output",
+            Failure::Memory => "memory",
+            Failure::NoThread => "thread",
+        }
+    }
 }
 
 impl fmt::Display for Failure {
@@ -73,27 +112,15 @@ impl fmt::Display for Failure {
     ghost output = { λ f. Some (failure_text f) };
 
     fn fmt<W: fmt::Write>(&self, f: &mut fmt::Formatter<W>) -> fmt::Result {
+        let (words, name) = (self.words(), self.name());
         match self {
-            Failure::Line { line, kind } => write!(f, "line {line}: {}", kind_name(*kind)),
-            Failure::TextLine { text, line, kind } => {
-                write!(f, "text {text} line {line}: {}", kind_name(*kind))
+            Failure::Line { line, .. } => write!(f, "{words}{line}: {name}"),
+            Failure::TextLine { text, line, .. } => write!(f, "{words}{text} line {line}: {name}"),
+            Failure::Row { row, .. } => write!(f, "{words}{row}: {name}"),
+            Failure::Rows { row, count, .. } => {
+                write!(f, "{words}{row}: {name}\n{count} rows with faults")
             }
-            Failure::Row { row, kind } => write!(f, "row {row}: {}", row_kind_name(*kind)),
-            Failure::Rows { row, kind, count } => write!(
-                f,
-                "row {row}: {}\n{count} rows with faults",
-                row_kind_name(*kind)
-            ),
-            Failure::ColumnTooLong => write!(f, "column: ColumnTooLong"),
-            Failure::File(reason) => write!(f, "file: {}", reason_name(*reason)),
-            Failure::CannotRead(path) => write!(f, "cannot read {path}"),
-            Failure::CannotReadColumn => write!(f, "cannot read column"),
-            Failure::CannotWrite(path) => write!(f, "cannot write {path}"),
-            Failure::CannotWriteRows => write!(f, "cannot write rows"),
-            Failure::CannotWriteOutput => write!(f, "cannot write output"),
-            Failure::UnknownZone(name) => write!(f, "unknown zone {name}"),
-            Failure::Memory => write!(f, "out of memory"),
-            Failure::NoThread => write!(f, "no thread"),
+            _ => write!(f, "{words}{name}"),
         }
     }
 }

@@ -8,7 +8,7 @@ ghost use Rattle.zic_io.specs.declared.input.TheConstants.{MAX_SOURCE};
 
 use crate::failure::{Failure, cannot_read};
 use crate::input::{read_file_bytes, read_source_text};
-use std::alloc::Global;
+use std::alloc::{AllocError, Global};
 use std::fs::{File, Files as FileSystem};
 use std::io::Read;
 use zic_counted::Counted;
@@ -91,4 +91,9 @@ pub fn read_file<F: FileSystem>(alloc: Global, system: &F, path: &str) -> Result
 {
     let file = open(alloc, system, path)?;
     read_file_bytes(alloc, path, &mut Counted::new(file))
+}
+
+/// Returns the path of a name in a folder.
+pub(crate) fn path_in(alloc: Global, folder: &str, name: &str) -> Result<String, AllocError> {
+    format!(in alloc; "{folder}/{name}")
 }

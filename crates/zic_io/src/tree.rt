@@ -4,6 +4,7 @@ ghost use Rattle.std.specs.Prelude.{◌≡◌, [], ◌∷◌, OnOk, OnErr, Err};
 ghost use Rattle.zic_io.specs.Tree.{Gains};
 
 use crate::link_kind::LinkKind;
+use crate::sources::path_in;
 use std::alloc::{AllocError, AllocFailed, Global};
 use std::collections::HashSet;
 use std::fs::{self, File, Files as FileSystem};
@@ -147,7 +148,7 @@ impl<'a, F: FileSystem> Disk<'a, F> {
             return Ok(());
         }
         // With the slash a link to a folder is followed.
-        let slashed = format!(in self.alloc; "{folder}/")?;
+        let slashed = path_in(self.alloc, folder, "")?;
         match self.system.open_dir(slashed.as_str()) {
             Ok(names) => self.clear(folder, names)?,
             Err(_) => fs::create_dir_all(self.system, folder)?,
@@ -172,7 +173,7 @@ impl<'a, F: FileSystem> Disk<'a, F> {
     fn remove(&self, folder: &str, names: &[u8]) -> Result<(), AllocError> {
         for name in names.split(|byte| *byte == 0) {
             if let Some(name) = temporary_name(name) {
-                let path = format!(in self.alloc; "{folder}/{name}")?;
+                let path = path_in(self.alloc, folder, name)?;
                 // One that can't be removed is left.
                 let _ = fs::remove_file(self.system, path.as_str());
             }
@@ -186,13 +187,12 @@ impl<'a, F: FileSystem> Disk<'a, F> {
         self.enter(folder)?;
         for _ in 0..TRIES {
             let temporary = format!(in self.alloc; "{folder}/{TEMPORARY}{}", self.number)?;
+            let temporary = temporary.as_str();
             let written = match content {
-                Content::Bytes(bytes) => self.write(temporary.as_str(), path, bytes)?,
-                Content::Link(kind, target) => {
-                    self.write_link(temporary.as_str(), path, kind, target)?
-                }
+                Content::Bytes(bytes) => self.write(temporary, path, bytes),
+                Content::Link(kind, target) => self.write_link(temporary, path, kind, target),
             };
-            match written {
+            match written? {
                 Written::Placed => return Ok(()),
                 Written::Taken => self.number = self.number.wrapping_add(1),
                 Written::Removed => {}
@@ -205,8 +205,7 @@ impl<'a, F: FileSystem> Disk<'a, F> {
     fn write(&self, temporary: &str, path: &str, bytes: &[u8]) -> io::Result<Written> {
         let file = match File::create_new(self.system, temporary) {
             Ok(file) => file,
-            Err(e) if e.kind() == ErrorKind::AlreadyExists => return Ok(Written::Taken),
-            Err(e) => return Err(e),
+            Err(e) => return unmade(e),
         };
         let placed = match write_and_close(file, bytes) {
             Ok(()) => fs::rename(self.system, temporary, path),
@@ -229,19 +228,18 @@ impl<'a, F: FileSystem> Disk<'a, F> {
         };
         match made {
             Ok(()) => {}
-            Err(e) if e.kind() == ErrorKind::AlreadyExists => return Ok(Written::Taken),
             // Another run gave the path of the zone's file to a file of its own at that moment.
             Err(e) if kind == LinkKind::Hard && e.kind() == ErrorKind::NotFound => {
                 return Ok(Written::Removed);
             }
-            Err(e) => return Err(e),
+            Err(e) => return unmade(e),
         }
-        let written = self.finish(temporary, fs::rename(self.system, temporary, path))?;
-        if kind == LinkKind::Hard {
+        let written = self.finish(temporary, fs::rename(self.system, temporary, path));
+        if kind == LinkKind::Hard && written.is_ok() {
             // Where the path was a name of the same file before, both names are left.
             let _ = fs::remove_file(self.system, temporary);
         }
-        Ok(written)
+        written
     }
 
     /// Returns what came of a file or a link that was renamed. Removes the temporary name where that
@@ -265,6 +263,15 @@ impl<'a, F: FileSystem> Tree for Disk<'a, F> {
 
     fn link(&mut self, kind: LinkKind, target: &str, path: &str) -> Result<(), Unplaced> {
         self.make(path, Content::Link(kind, target))
+    }
+}
+
+/// Returns what came of a file or a link that can't be made for this reason.
+fn unmade(e: io::Error) -> io::Result<Written> {
+    if e.kind() == ErrorKind::AlreadyExists {
+        Ok(Written::Taken)
+    } else {
+        Err(e)
     }
 }
 

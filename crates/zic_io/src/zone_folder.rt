@@ -1,7 +1,7 @@
 //! A folder of TZif files, each below it at the name of its zone.
 
 use crate::failure::Failure;
-use crate::sources::read_file;
+use crate::sources::{path_in, read_file};
 use std::alloc::{AllocError, Global};
 use std::fs::Files as FileSystem;
 use std::str;
@@ -34,11 +34,16 @@ impl<F: FileSystem> ZoneTree for ZoneFolder<'_, F> {
         if self.path.is_empty() {
             return Ok(None);
         }
-        let path = format!(in alloc; "{}/{name}", self.path)?;
-        match read_file(alloc, self.system, path.as_str()) {
-            Ok(bytes) => Ok(Some(bytes)),
-            Err(Failure::Memory) => Err(AllocError),
-            Err(_) => Ok(None),
-        }
+        let path = path_in(alloc, self.path, name)?;
+        found(read_file(alloc, self.system, path.as_str()))
+    }
+}
+
+/// Returns the bytes of a file, or none where it wasn't read, but not for want of memory.
+fn found(read: Result<Vec<u8>, Failure>) -> Result<Option<Vec<u8>>, AllocError> {
+    match read {
+        Ok(bytes) => Ok(Some(bytes)),
+        Err(Failure::Memory) => Err(AllocError),
+        Err(_) => Ok(None),
     }
 }
