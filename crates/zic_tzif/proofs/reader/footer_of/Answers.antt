@@ -26,3 +26,6 @@ returns-in-Err-BadFooter-clause-err c = (
     | inr some ↦ rw c.in-Err-BadFooter.field-0-is at c.in-Err-BadFooter.ensures.only some.0 some.1.spells
   ],
 )
+
+pub returns-then-does_agree-clause-ok : goal.returns-then-does_agree-clause-ok
+returns-then-does_agree-clause-ok c = record { spells = c.in-Ok.ensures.ok; agrees = c.does_agree.ensures.0 c.if-does_agree.true }
