@@ -46,11 +46,12 @@ impl Names {
         self.index.number(&self.entries, name).is_some()
     }
 
-    /// Adds a name. The names stay as they are where memory is refused.
-    pub(crate) fn add(&mut self, alloc: Global, name: Name) -> Result<(), AllocError>
-        ensures ok { IfOk result (λ _. self.new ≡ self.old ++ name ∷ []) }
+    /// Adds a copy of a name. The names stay as they are where memory is refused.
+    pub(crate) fn add(&mut self, alloc: Global, name: &Name) -> Result<(), AllocError>
+        ensures ok { IfOk result (λ _. self.new ≡ self.old ++ name.now ∷ []) }
         ensures err { IfErr result (λ _. self.new ≡ self.old) }
     {
+        let name = name.clone()?;
         let number = self.entries.len();
         self.entries.push(Entry { name, zone: 0 })?;
         match self.index.add(alloc, &self.entries, number) {

@@ -136,7 +136,7 @@ impl TreeFiles {
             (λ _. self.new.files ≡ self.old.files ++ files_named name image) }
         ensures sound { IfOk result (λ _. AreSoundFiles self.new.files) }
     {
-        self.asked.add(alloc, name.clone()?)?;
+        self.asked.add(alloc, &name)?;
         self.keep_file(alloc, name, image)
     }
 

@@ -1,7 +1,8 @@
 use Rattle.std.proofs.Common.{◌≡◌, ◌≢◌, ◌+◌, ◌∙◌, List, [], ◌∷◌, ◌++◌, length, vec_len, ap, sym, subst, arith}
 use Rattle.std.specs.Prelude.{All}
 use Rattle.zic_files.specs.declared.entry.Entry.{Entry}
-use Rattle.zic_files.specs.File.{File}
+use Rattle.zic_files.specs.File.{File, FileImage}
+use Rattle.zic_files.specs.code.Kept.{AreKept}
 use Rattle.zic_files.specs.code.NameIndex.{AreNumbersUpTo}
 use Rattle.zic_files.proofs.Added.{files_added, kept_added, files_refused, kept_refused, if_err}
 use Rattle.zic_files.proofs.Numbers.{numbers_before, numbers_after, popped}
@@ -57,3 +58,8 @@ returns-in-Err-clause-err c =
     let gone = popped i.entries.items _ c.push-2.new.self.items c.pop.new.self.items (vec_len c.push-2.new.self) c.in_ok-push-2.ensures.items (omega arith) c.pop.ensures.rest in
     files_refused i.images.items i.entries.items i.names c.args.name c.args.image c.len-zone.result c.self.invariant last _ c.in_ok-push.ensures.items
     _ gone ∙ c.self.view_is
+
+pub invariant_of-self : goal.invariant_of-self
+invariant_of-self c =
+    let i = c.self.inside in
+    subst (λ (images : List FileImage). AreKept images i.entries.items i.names) (sym c.in_err-push.ensures.items) c.self.invariant

@@ -20,3 +20,7 @@ returns-clause-known c =
     let image = if_at (slice_get c.args.self.now c.args.i) (λ (f : File). c.image.result.now ≡ f.image) file c.image.ensures at in
     let same = c.zone.ensures.zone ∙ ap (λ (i : FileImage). i.content) image in
     subst IsAlwaysKnown (sym same) sound.known
+
+pub returns-clause-zone : goal.returns-clause-zone
+returns-clause-zone c =
+    IfSome_then (slice_get c.args.self.now c.args.i) c.image.ensures (λ file is. c.zone.ensures.zone ∙ ap (λ (i : FileImage). i.content) is)

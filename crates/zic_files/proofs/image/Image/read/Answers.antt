@@ -22,3 +22,9 @@ returns-in_err-check_fit-clause-err c =
 
 pub returns-clause-known : goal.returns-clause-known
 returns-clause-known c = answer_within c.states_have_numbers.ensures c.footers_leave_nothing_open.ensures c.in_ok-zone.zone c.in_ok-check_fit.ensures
+
+pub invariant_of-result : goal.invariant_of-result
+invariant_of-result c = subst (λ (octets : List ℕ). IsFile octets c.in_ok-zone.zone) c.deref.ensures.value c.in_ok-zone.ensures.ok
+
+pub returns-clause-read : goal.returns-clause-read
+returns-clause-read c = subst (λ (octets : List ℕ). IsFile octets c.in_ok-zone.zone) c.deref.ensures.value c.in_ok-zone.ensures.ok
