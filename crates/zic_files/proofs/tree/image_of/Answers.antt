@@ -1,4 +1,4 @@
-use Rattle.std.proofs.Common.{◌≡◌, sym, ◌∙◌}
+use Rattle.std.proofs.Common.{◌≡◌, Some, refl, ap, sym, ◌∙◌}
 use Rattle.zic_tzif.specs.declared.reason.Reason.{Reason}
 use Rattle.zic_files.specs.declared.image.Unfit.TheVariants as unfit
 use Rattle.zic_files.proofs.Learning.{unfit_reply}
@@ -43,3 +43,9 @@ returns-in-Err-OutsideLimits g c =
           c.in-Some.octets.items c.in-Err-OutsideLimits.field-0 gains c.in-Err-OutsideLimits.ensures.err (λ e. outside_limits (sym is ∙ e));
       err = tt;
     }
+
+pub returns-in-Ok-clause-ok : goal.returns-in-Ok-clause-ok
+returns-in-Ok-clause-ok g c =
+    let gains = rw c.in-Some.is at c.in_ok-octets.ensures.ok in
+    let e = c.in-Ok.ensures in
+    (record { name = c.args.name.now; octets = Some c.in-Some.octets.items }, gains, refl, (ap Some (sym e.octets), e.read, e.fit))

@@ -1,4 +1,4 @@
-use Rattle.std.proofs.Common.{◌≡◌, ◌≢◌, ◌+◌, ◌∙◌, List, [], ◌∷◌, ◌++◌, length, vec_len, ap, sym, subst, arith}
+use Rattle.std.proofs.Common.{◌≡◌, ◌≢◌, ◌+◌, ◌∙◌, List, [], ◌∷◌, ◌++◌, length, vec_len, ap, sym, subst}
 use Rattle.std.specs.Prelude.{All}
 use Rattle.zic_files.specs.declared.entry.Entry.{Entry}
 use Rattle.zic_files.specs.File.{File, FileImage}
@@ -11,20 +11,20 @@ use Rattle.zic_files.proofs.files.Files.add.Goals as goal
 pub invariant_of-self-in_err-push-2 : goal.invariant_of-self-in_err-push-2
 invariant_of-self-in_err-push-2 c =
     let i = c.self.inside in
-    kept_refused i.images.items i.entries.items i.names c.args.name c.args.image c.len-zone.result c.self.invariant (omega arith) _ c.in_ok-push.ensures.items
+    kept_refused i.images.items i.entries.items i.names c.args.name c.args.image c.len-zone.result c.self.invariant (c.len-zone.ensures ∙ i.images.ok.0) _ c.in_ok-push.ensures.items
     _ i.names c.in_err-push-2.ensures.items c.self.invariant.numbers
 
 pub returns-in_err-push-2-clause-err : goal.returns-in_err-push-2-clause-err
 returns-in_err-push-2-clause-err c =
     let i = c.self.inside in
     if_err c.from_residual-in_err-push-2.result _
-    (files_refused i.images.items i.entries.items i.names c.args.name c.args.image c.len-zone.result c.self.invariant (omega arith) _ c.in_ok-push.ensures.items
+    (files_refused i.images.items i.entries.items i.names c.args.name c.args.image c.len-zone.result c.self.invariant (c.len-zone.ensures ∙ i.images.ok.0) _ c.in_ok-push.ensures.items
     _ c.in_err-push-2.ensures.items ∙ c.self.view_is)
 
 pub add-requires-clause-numbers : goal.add-requires-clause-numbers
 add-requires-clause-numbers c =
     let i = c.self.inside in
-    numbers_before i.entries.items _ c.deref.result.now c.len-number.result (c.deref.ensures.value ∙ c.in_ok-push-2.ensures.items) (omega arith) i.names c.self.invariant.numbers
+    numbers_before i.entries.items _ c.deref.result.now c.len-number.result (c.deref.ensures.value ∙ c.in_ok-push-2.ensures.items) (c.len-number.ensures ∙ i.entries.ok.0) i.names c.self.invariant.numbers
 
 pub invariant_of-self-in-Ok : goal.invariant_of-self-in-Ok
 invariant_of-self-in-Ok c =
@@ -32,30 +32,30 @@ invariant_of-self-in-Ok c =
     let name = c.args.name in
     let others = subst (λ (files : List File). All (λ file. file.name ≢ name) files) (sym c.self.view_is) c.requires.new in
     let numbers = subst (λ (entries : List Entry). AreNumbersUpTo entries (c.len-number.result + 1) c.add.new.self) c.deref.ensures.value c.in-Ok.ensures.ok in
-    kept_added i.images.items i.entries.items i.names name c.args.image c.len-zone.result c.self.invariant (omega arith) _ c.in_ok-push.ensures.items
-    _ c.add.new.self c.len-number.result c.in_ok-push-2.ensures.items c.file_is_sound.ensures others (omega arith) numbers
+    kept_added i.images.items i.entries.items i.names name c.args.image c.len-zone.result c.self.invariant (c.len-zone.ensures ∙ i.images.ok.0) _ c.in_ok-push.ensures.items
+    _ c.add.new.self c.len-number.result c.in_ok-push-2.ensures.items c.file_is_sound.ensures others (c.len-number.ensures ∙ i.entries.ok.0) numbers
 
 pub returns-in-Ok-clause-ok : goal.returns-in-Ok-clause-ok
 returns-in-Ok-clause-ok c =
     let i = c.self.inside in
-    files_added i.images.items i.entries.items i.names c.args.name c.args.image c.len-zone.result c.self.invariant (omega arith) _ c.in_ok-push.ensures.items
+    files_added i.images.items i.entries.items i.names c.args.name c.args.image c.len-zone.result c.self.invariant (c.len-zone.ensures ∙ i.images.ok.0) _ c.in_ok-push.ensures.items
     _ c.in_ok-push-2.ensures.items ∙ ap (λ (files : List File). files ++ (record { name = c.args.name; image = c.args.image }) ∷ []) c.self.view_is
 
 pub invariant_of-self-in-Err : goal.invariant_of-self-in-Err
 invariant_of-self-in-Err c =
     let i = c.self.inside in
     let entries = c.push-2.new.self.items in
-    let last : c.len-zone.result ≡ length i.images.items = omega arith in
-    let gone = popped i.entries.items _ entries c.pop.new.self.items (vec_len c.push-2.new.self) c.in_ok-push-2.ensures.items (omega arith) c.pop.ensures.rest in
-    let numbers = numbers_after i.entries.items _ c.deref.result.now c.len-number.result (c.deref.ensures.value ∙ c.in_ok-push-2.ensures.items) (omega arith) c.add.new.self c.in-Err.ensures.err in
+    let last : c.len-zone.result ≡ length i.images.items = c.len-zone.ensures ∙ i.images.ok.0 in
+    let gone = popped i.entries.items _ entries c.pop.new.self.items (vec_len c.push-2.new.self) c.in_ok-push-2.ensures.items c.push-2.new.self.ok.0 c.pop.ensures.rest in
+    let numbers = numbers_after i.entries.items _ c.deref.result.now c.len-number.result (c.deref.ensures.value ∙ c.in_ok-push-2.ensures.items) (c.len-number.ensures ∙ i.entries.ok.0) c.add.new.self c.in-Err.ensures.err in
     kept_refused i.images.items i.entries.items i.names c.args.name c.args.image c.len-zone.result c.self.invariant last _ c.in_ok-push.ensures.items
     _ c.add.new.self gone numbers
 
 pub returns-in-Err-clause-err : goal.returns-in-Err-clause-err
 returns-in-Err-clause-err c =
     let i = c.self.inside in
-    let last : c.len-zone.result ≡ length i.images.items = omega arith in
-    let gone = popped i.entries.items _ c.push-2.new.self.items c.pop.new.self.items (vec_len c.push-2.new.self) c.in_ok-push-2.ensures.items (omega arith) c.pop.ensures.rest in
+    let last : c.len-zone.result ≡ length i.images.items = c.len-zone.ensures ∙ i.images.ok.0 in
+    let gone = popped i.entries.items _ c.push-2.new.self.items c.pop.new.self.items (vec_len c.push-2.new.self) c.in_ok-push-2.ensures.items c.push-2.new.self.ok.0 c.pop.ensures.rest in
     files_refused i.images.items i.entries.items i.names c.args.name c.args.image c.len-zone.result c.self.invariant last _ c.in_ok-push.ensures.items
     _ gone ∙ c.self.view_is
 

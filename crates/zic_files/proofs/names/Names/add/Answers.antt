@@ -1,4 +1,4 @@
-use Rattle.std.proofs.Common.{◌≡◌, ℕ, List, [], ◌∷◌, ◌++◌, ◌∙◌, ap, map, vec_len, arith, rules}
+use Rattle.std.proofs.Common.{◌≡◌, ℕ, List, [], ◌∷◌, ◌++◌, ◌∙◌, ap, map, vec_len, rules}
 use Rattle.std.proofs.lemmas.List.{map-append}
 use Rattle.zic_files.specs.declared.entry.Entry.{Entry}
 use Rattle.zic_files.proofs.Numbers.{numbers_before, numbers_after, popped}
@@ -10,17 +10,17 @@ name entry = entry.name
 pub add-requires-clause-numbers : goal.add-requires-clause-numbers
 add-requires-clause-numbers c =
     let i = c.self.inside in
-    numbers_before i.entries.items _ c.deref.result.now c.len-number.result (c.deref.ensures.value ∙ c.in_ok-push.ensures.items) (omega arith) i.index c.self.invariant
+    numbers_before i.entries.items _ c.deref.result.now c.len-number.result (c.deref.ensures.value ∙ c.in_ok-push.ensures.items) (c.len-number.ensures ∙ c.self.inside.entries.ok.0) i.index c.self.invariant
 
 pub invariant_of-self-in-Err : goal.invariant_of-self-in-Err
 invariant_of-self-in-Err c =
     let i = c.self.inside in
-    let gone = popped i.entries.items _ c.push.new.self.items c.pop.new.self.items (vec_len c.push.new.self) c.in_ok-push.ensures.items (omega arith) c.pop.ensures.rest in
-    rw gone (numbers_after i.entries.items _ c.deref.result.now c.len-number.result (c.deref.ensures.value ∙ c.in_ok-push.ensures.items) (omega arith) c.add.new.self c.in-Err.ensures.err)
+    let gone = popped i.entries.items _ c.push.new.self.items c.pop.new.self.items (vec_len c.push.new.self) c.in_ok-push.ensures.items c.push.new.self.ok.0 c.pop.ensures.rest in
+    rw gone (numbers_after i.entries.items _ c.deref.result.now c.len-number.result (c.deref.ensures.value ∙ c.in_ok-push.ensures.items) (c.len-number.ensures ∙ c.self.inside.entries.ok.0) c.add.new.self c.in-Err.ensures.err)
 
 pub returns-in-Err-clause-err : goal.returns-in-Err-clause-err
 returns-in-Err-clause-err c =
-    let gone = popped c.self.inside.entries.items _ c.push.new.self.items c.pop.new.self.items (vec_len c.push.new.self) c.in_ok-push.ensures.items (omega arith) c.pop.ensures.rest in
+    let gone = popped c.self.inside.entries.items _ c.push.new.self.items c.pop.new.self.items (vec_len c.push.new.self) c.in_ok-push.ensures.items c.push.new.self.ok.0 c.pop.ensures.rest in
     ap (map name) gone ∙ c.self.view_is
 
 pub returns-in-Ok-clause-ok : goal.returns-in-Ok-clause-ok

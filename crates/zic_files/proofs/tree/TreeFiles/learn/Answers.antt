@@ -1,8 +1,9 @@
-use Rattle.std.proofs.Common.{◌≡◌, List, ℕ, [], ◌∷◌, ◌++◌, subst}
+use Rattle.std.proofs.Common.{◌≡◌, List, ℕ, [], ◌∷◌, ◌++◌, ◌∙◌, refl, sym, subst}
 use Rattle.std.specs.Prelude.{Contains, IfErr, IfOk}
 use Rattle.std.proofs.lemmas.Bool.{false≢true}
 use Rattle.zic_files.specs.Tree.{AreAsked, AreOfName, Gains, IsLearntFrom, Learnt, Reply}
-use Rattle.zic_files.proofs.Learning.{gains_none, nothing_more, settled_nothing_more, settled_before, settled_if_ok, none_of_name}
+use Rattle.zic_files.proofs.Added.{if_err}
+use Rattle.zic_files.proofs.Learning.{gains_none, nothing_more, asked_nothing_more, settled_nothing_more, settled_before, settled_if_ok, none_of_name}
 use Rattle.zic_files.proofs.tree.TreeFiles.learn.Goals as goal
 
 pub returns-then-has-clause-ok : goal.returns-then-has-clause-ok
@@ -39,3 +40,14 @@ returns-in-None-clause-ok g c = λ replies from. (
   λ proper. absurd (false≢true (c.in-None.ensures.just.1 proper)),
   none_of_name c.args.name.now,
 )
+
+pub returns-in_err-name-in-Some-clause-err : goal.returns-in_err-name-in-Some-clause-err
+returns-in_err-name-in-Some-clause-err g c = λ replies from.
+    if_err c.from_residual.result _ ([], gains_none (g.T.ZoneTree.replied c.args.tree.now), asked_nothing_more replies c.args.self.now from, none_of_name c.args.name.now)
+
+pub returns-in_ok-name-in-Some-clause-memory : goal.returns-in_ok-name-in-Some-clause-memory
+returns-in_ok-name-in-Some-clause-memory g c =
+    if_err c.ask.result _ (
+      c.in-Some.ensures.just.0 refl,
+      λ has. false≢true (sym c.if-has.false ∙ c.has.ensures.1 (subst (λ (learnt : Learnt). Contains learnt.asked c.args.name.now) (sym c.self.view_is) has)),
+    )
