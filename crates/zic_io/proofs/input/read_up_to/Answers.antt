@@ -1,7 +1,9 @@
-use Rattle.std.proofs.Common.{arith, ap, sym, subst, refl, ◌∙◌, length, length-take}
+use Rattle.std.proofs.Common.{ℕ, arith, ap, sym, subst, refl, ◌∙◌, length, length-take}
 use Rattle.std.proofs.KnownBytes.{Consumes-nil, Consumes-trans, starts_with_rest}
 use Rattle.std.specs.Io.{appended_bytes}
 use Rattle.std.specs.Io.KnownBytes.{Consumes}
+use Rattle.std.proofs.lemmas.Result.{err_from_is_err_and}
+use Rattle.zic_counted.specs.Counts.{HasFailedSince}
 use Rattle.zic_io.proofs.InputLemmas.{full, stopped}
 use Rattle.zic_io.proofs.input.read_up_to.Goals as goal
 
@@ -39,3 +41,8 @@ loop-preserved g c =
 pub returns-clause-bytes : goal.returns-clause-bytes
 returns-clause-bytes g c =
     full _ _ c.loop.bytes.items c.args.limit c.loop.invariant.3 (omega (arith, c.loop.invariant.0, c.loop.invariant.1, c.loop-test.false))
+
+pub returns-in_err-read_block-clause-err : goal.returns-in_err-read_block-clause-err
+returns-in_err-read_block-clause-err g c =
+    let p = err_from_is_err_and c.from_residual.result c.from_residual.ensures.1 in
+    rw (p.1, p.2) (λ is. subst (λ (failures : ℕ). HasFailedSince c.read_block.new.reader failures) c.loop.invariant.2.0 (c.in_err-read_block.ensures.err is))

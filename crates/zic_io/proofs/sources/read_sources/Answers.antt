@@ -1,11 +1,12 @@
-use Rattle.std.proofs.Common.{◌≡◌, ◌≢◌, ℕ, ◌+◌, List, [], ◌∷◌, ◌++◌, map, take, drop, string_bytes, arith, refl, Some, sym, ap, ◌∙◌, rules}
-use Rattle.std.proofs.lemmas.List.{map-append}
+use Rattle.std.proofs.Common.{◌≡◌, ◌≢◌, ℕ, ◌+◌, List, [], ◌∷◌, ◌++◌, map, take, drop, string_bytes, arith, refl, Some, sym, subst, ap, ◌∙◌, rules}
+use Rattle.std.proofs.lemmas.List.{map-append, take_all}
 use Rattle.std.proofs.lemmas.List.Elements.{All-pop}
 use Rattle.std.proofs.lemmas.Result.{err_from_is_err_and}
 use Rattle.zic_source.specs.Texts.{texts_of}
 use Rattle.zic_plan.specs.declared.word.TheConstants.{STANDARD_INPUT}
+use Rattle.zic_io.specs.Sources.{AreTextsOf}
 use Rattle.zic_io.proofs.ListLemmas.{taken, parts}
-use Rattle.zic_io.proofs.SourceLemmas.{files_parts, known_afters, known_more, known_on, source_stop, text_more, text_of}
+use Rattle.zic_io.proofs.SourceLemmas.{AreFiles, files_parts, known_afters, known_more, known_on, source_stop, text_more, text_of}
 use Rattle.zic_io.proofs.sources.read_sources.Goals as goal
 
 pub returns-in_err-source_text-clause-err : goal.returns-in_err-source_text-clause-err
@@ -14,7 +15,7 @@ returns-in_err-source_text-clause-err g c =
     let l = c.loop-word in
     let word = c.word-item.result in
     let words = c.args.words.now in
-    let whole = ap (map string_bytes) (parts words l.word-index word (omega arith) (sym c.word-item.is)) ∙ map-append string_bytes (take l.word-index words) (word ∷ drop (l.word-index + 1) words) in
+    let whole = ap (map string_bytes) (parts words l.word-index word c.loop-word-test.true (sym c.word-item.is)) ∙ map-append string_bytes (take l.word-index words) (word ∷ drop (l.word-index + 1) words) in
     let unread = rw c.as_str.ensures.value at c.in_err-source_text.ensures.err in
     rw (p.1, p.2) (source_stop (map string_bytes words) (map string_bytes (take l.word-index words)) (string_bytes word) (map string_bytes (drop (l.word-index + 1) words))
     (g.I.Read.remaining c.args.input.now.inner) (texts_of l.texts.items) c.args.input.now l.input c.source_text.new.input
@@ -25,7 +26,7 @@ returns-in_err-source_text-clause-unasked g c =
     let l = c.loop-word in
     let word = c.word-item.result in
     let words = c.args.words.now in
-    let whole = ap (map string_bytes) (parts words l.word-index word (omega arith) (sym c.word-item.is)) ∙ map-append string_bytes (take l.word-index words) (word ∷ drop (l.word-index + 1) words) in
+    let whole = ap (map string_bytes) (parts words l.word-index word c.loop-word-test.true (sym c.word-item.is)) ∙ map-append string_bytes (take l.word-index words) (word ∷ drop (l.word-index + 1) words) in
     let unasked = rw c.as_str.ensures.value at c.source_text.ensures.unasked in
     λ files.
     let split = files_parts (map string_bytes (take l.word-index words)) (string_bytes word) (map string_bytes (drop (l.word-index + 1) words)) (rw whole at files) in
@@ -36,7 +37,7 @@ returns-in_err-push-clause-unasked g c =
     let l = c.loop-word in
     let word = c.word-item.result in
     let words = c.args.words.now in
-    let whole = ap (map string_bytes) (parts words l.word-index word (omega arith) (sym c.word-item.is)) ∙ map-append string_bytes (take l.word-index words) (word ∷ drop (l.word-index + 1) words) in
+    let whole = ap (map string_bytes) (parts words l.word-index word c.loop-word-test.true (sym c.word-item.is)) ∙ map-append string_bytes (take l.word-index words) (word ∷ drop (l.word-index + 1) words) in
     let unasked = rw c.as_str.ensures.value at c.source_text.ensures.unasked in
     λ files.
     let split = files_parts (map string_bytes (take l.word-index words)) (string_bytes word) (map string_bytes (drop (l.word-index + 1) words)) (rw whole at files) in
@@ -53,7 +54,7 @@ loop-word-preserved g c =
     let left = g.I.Read.remaining l.input.inner in
     let text = c.in_ok-source_text.field-0 in
     let one_more : map string_bytes (take (l.word-index + 1) c.args.words.now) ≡ names ++ name ∷ [] =
-    ap (map string_bytes) (taken c.args.words.now l.word-index word (omega arith) (sym c.word-item.is)) ∙ map-append string_bytes before (word ∷ []) in
+    ap (map string_bytes) (taken c.args.words.now l.word-index word c.loop-word-test.true (sym c.word-item.is)) ∙ map-append string_bytes before (word ∷ []) in
     let pushed : texts_of c.push.new.self.items ≡ texts_of l.texts.items ++ text.items ∷ [] = ap texts_of c.in_ok-push.ensures.items ∙ map-append (λ t. t.items) l.texts.items (text ∷ []) in
     let whole = rw c.as_str.ensures.value at c.in_ok-source_text.ensures.whole in
     let unasked = rw c.as_str.ensures.value at c.in_ok-source_text.ensures.unasked in
@@ -67,3 +68,13 @@ loop-word-preserved g c =
 
 pub returns-clause-err : goal.returns-clause-err
 returns-clause-err c = search rules
+
+pub returns-clause-ok : goal.returns-clause-ok
+returns-clause-ok g c =
+    let all = ap (map string_bytes) (take_all c.loop-word.word-index c.args.words.now c.loop-word-test.false) in
+    subst (λ (names : List (List ℕ)). AreTextsOf names (g.I.Read.remaining c.args.input.now.inner) (texts_of c.loop-word.texts.items)) all c.loop-word.invariant.0
+
+pub returns-clause-unasked : goal.returns-clause-unasked
+returns-clause-unasked g c =
+    let all = ap (map string_bytes) (take_all c.loop-word.word-index c.args.words.now c.loop-word-test.false) in
+    λ files. c.loop-word.invariant.2 (subst AreFiles (sym all) files)
