@@ -50,6 +50,17 @@ none_is some false e = ap not e
 
 -- ---- one after another
 
+none_at : (k n : ℕ) → slice_get [] k ≡ Some n → ⊥
+none_at zero n e = absurd cc
+none_at (suc k) n e = absurd cc
+
+-- of no numbers there are no tail rules
+pub of_none : (rules : List Rule) (line : ZoneLine) (tails : List TailRule) → tails ≡ [] → AreTailRules rules line [] tails
+of_none rules line tails e = record {
+  as_many = ap (λ (ts : List TailRule). length ts) e;
+  each = λ k n rule tail at is_rule is_tail. absurd (none_at k n at);
+}
+
 pushed_cases : {A : Type 0} (xs : List A) (x : A) (k : ℕ) (y : A) → slice_get (xs ++ x ∷ []) k ≡ Some y
     → (slice_get xs k ≡ Some y) ⊎ ((k ≡ length xs) × (x ≡ y))
 pushed_cases [] x zero y e = inr (refl, same_Some x y e)

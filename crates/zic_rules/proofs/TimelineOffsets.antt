@@ -13,9 +13,18 @@ use Rattle.zic_source.specs.Source.{set_rules}
 use Rattle.zic_base.proofs.Elements.{get_contained}
 use Rattle.zic_occurrences.specs.Occurrence.{IsMember}
 use Rattle.zic_occurrences.proofs.Members.{IsMemberNumber, members, has_members}
-use Rattle.zic_states.specs.Fault.{IsSavingOf}
+use Rattle.zic_states.specs.Fault.{HasOffsetOutOfRange, IsSavingOf}
 use Rattle.zic_states.specs.Until.{set_of}
+use Rattle.zic_states.specs.Zone.{Zone, line_at}
 use Rattle.zic_rules.specs.code.Shown.{IsInRangeOn, IsOutOfRangeOn, AreAllInRange, IsOneOutOfRange}
+
+-- where no offset is out of range, each line's are within it
+pub all_in_range : (zone : Zone) (number : ℕ) (line : ZoneLine) → line_at zone number ≡ Some line → (HasOffsetOutOfRange zone → ⊥)
+    → IsInRangeOn zone.source.rules line
+all_in_range zone number line at none saving is = elim (cases_lt GREATEST_OFFSET (unsigned_abs (line.offset +ℤ saving))) [
+  | inl passes ↦ absurd (none record { number = number; line = line; is_line = at; saving = saving; is_saving = is; passes = passes })
+  | inr within ↦ within
+]
 
 pub set_in_range : (rules : List Rule) (line : ZoneLine) (offset : ℤ) (name numbers : List ℕ) → offset ≡ line.offset → line.rules ≡ Set name
     → numbers ≡ set_rules name rules → AreAllInRange rules offset numbers (length numbers) → IsInRangeOn rules line

@@ -16,7 +16,7 @@ use Rattle.zic_words.specs.Limits.{is_abbreviation}
 use Rattle.zic_rules.specs.declared.changes.DatedState.{DatedState}
 use Rattle.zic_rules.specs.declared.zone_state.ZoneState.{ZoneState}
 use Rattle.zic_states.specs.Change.{Change}
-use Rattle.zic_states.specs.Kept.{Kept, IsKeptBy}
+use Rattle.zic_states.specs.Kept.{Kept, IsKeptBy, IsRuleOf}
 use Rattle.zic_base.specs.State.{Shown}
 use Rattle.zic_states.specs.Zone.{Zone, line_at, ZoneKeeps}
 use Rattle.zic_rules.specs.declared.period.Period.{Period}
@@ -34,6 +34,13 @@ keeps_held zone t number rule line kept at h =
     let same = same_Some h.line line (sym h.governs.is_line ∙ at) in
     subst (λ (l : ZoneLine). IsKeptBy zone.source.rules l.rules rule kept → ZoneKeeps zone t l kept) same
     (λ is_kept. record { number = number; governs = h.governs; keeps = h.keeps kept is_kept })
+
+-- where a line holds by a rule, that is one of its set
+pub rule_held : (zone : Zone) (number : ℕ) (rule : Option ℕ) (line : ZoneLine) → line_at zone number ≡ Some line → IsHeld zone number rule
+    → IsRuleOf zone.source.rules line.rules rule
+rule_held zone number rule line at held =
+    let h = held.1 in
+    subst (λ (l : ZoneLine). IsRuleOf zone.source.rules l.rules rule) (same_Some h.line line (sym h.governs.is_line ∙ at)) h.of_line
 
 pub shows_held : (zone : Zone) (number : ℕ) (rule : Option ℕ) (line : ZoneLine) (state : Shown) → line_at zone number ≡ Some line
     → IsShownBy zone.source.rules line rule state → ShowsWhereHeld zone number rule state

@@ -16,7 +16,7 @@ use std::alloc::Global;
 use zic_base::{Kind, Stop};
 
 /// A state and the instant from which on a zone shows it.
-#[derive(Clone, Copy, Debug)]
+#[derive(Clone, Copy)]
 pub(crate) struct DatedState {
     pub(crate) instant: i64,
     pub(crate) state: ZoneState,

@@ -13,7 +13,7 @@ use zic_states::format::abbreviation;
 use zic_states::{Abbreviation, observance_by};
 
 /// The state that a zone shows at an instant.
-#[derive(Clone, Copy, Debug, PartialEq, Eq)]
+#[derive(Clone, Copy, PartialEq, Eq)]
 pub(crate) struct ZoneState {
     /// Total UT offset in seconds, positive east.
     pub(crate) offset: i32,

@@ -1,12 +1,41 @@
-use Rattle.std.proofs.Common.{◌≡◌, ◌∙◌, true, slice_index_or}
-use Rattle.std.specs.Prelude.{is_some, is_none}
+use Rattle.std.proofs.Common.{◌≡◌, ◌∙◌, ℕ, List, Option, Some, None, true, slice_index_or, subst}
+use Rattle.std.specs.Prelude.{is_some, is_none, IfNone}
+use Rattle.std.proofs.lemmas.List.{take_all}
 use Rattle.zic_base.specs.Fault.{fault_of}
 use Rattle.zic_base.proofs.MemoryLemmas.{on_want}
 use Rattle.zic_rules.specs.Period.{the_zone, IsFixed}
+use Rattle.zic_rules.specs.Tail.{AreTailRules}
+use Rattle.zic_rules.specs.code.Tail.{continuing}
 use Rattle.zic_rules.proofs.TailHeld.{offset_within, unnamed_for_ever}
-use Rattle.zic_rules.proofs.TailRules.{fixed_line, number_within, of_set, never_ends, none_is, kept_more, kept_same}
+use Rattle.zic_rules.proofs.TailRules.{fixed_line, number_within, of_set, never_ends, none_is, kept_more, kept_same, of_none}
 use Rattle.zic_rules.proofs.tail_rules.tail_rules.Goals as goal
 use Rattle.zic_rules.proofs.tail_rules.tail_rules.Goals.{then-is_none+in-Ok+in_ok-push-in-Ok, else-is_none}
+
+never : {F : Type 0} (o : Option F) (P : Type 0) → IfNone o ⊥ → IfNone o P
+never None P h = absurd h
+never (Some x) P h = tt
+
+pub loop-number-init : goal.loop-number-init
+loop-number-init c =
+    of_none c.args.zone.source.now.rules c.last_line-line.result.now c.new-rules.result.items c.new-rules.ensures.items
+
+pub returns-in-Err-clause-memory : goal.returns-in-Err-clause-memory
+returns-in-Err-clause-memory c =
+    never (fault_of c.refusal.result) (IsFixed (the_zone c.args.zone) → ⊥) c.refusal.ensures.fault
+
+pub returns-clause-ok : goal.returns-clause-ok
+returns-clause-ok c =
+    let known = c.args.zone.source.now.rules in
+    let numbers = c.rule_numbers-number-items.result.now in
+    let line = c.last_line-line.result.now in
+    let (number, last) = c.last_line-line.ensures.last in
+    record {
+      number = number;
+      line = line;
+      is_last = last;
+      rules = subst (λ (ns : List ℕ). AreTailRules known line (continuing known ns) c.loop-number.rules.items)
+          (take_all c.loop-number.number-index numbers c.loop-number-test.false ∙ c.rule_numbers-number-items.ensures) c.loop-number.invariant;
+    }
 
 pub rule-rule-requires : goal.rule-rule-requires
 rule-rule-requires c =

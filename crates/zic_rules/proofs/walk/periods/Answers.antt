@@ -1,12 +1,61 @@
-use Rattle.std.proofs.Common.{◌≡◌, suc, ◌-◌, Option, ℤ, arith, sym, subst, length}
-use Rattle.std.specs.Prelude.{IfSome}
+use Rattle.std.proofs.Common.{◌≡◌, ◌∙◌, ◌+◌, ◌<◌, ℕ, zero, suc, ◌-◌, List, [], Option, Some, None, ℤ, arith, sym, ap, subst, length}
+use Rattle.std.specs.Prelude.{IfSome, IsSomeAnd}
+use Rattle.zic_base.specs.Fault.{fault_of}
+use Rattle.zic_base.proofs.MemoryLemmas.{on_want}
+use Rattle.zic_lines.specs.declared.zone_line.ZoneLine.{ZoneLine}
 use Rattle.zic_source.specs.Source.{ZoneLines, lines_of_zone}
 use Rattle.zic_base.proofs.Elements.{got}
-use Rattle.zic_rules.specs.Period.{the_zone, ArePeriods}
+use Rattle.zic_states.specs.Tail.{HasNoSet}
+use Rattle.zic_states.specs.Zone.{Zone, lines_of}
+use Rattle.zic_rules.specs.declared.period.Period.{Period}
+use Rattle.zic_rules.specs.Period.{the_zone, ArePeriods, IsFixed}
+use Rattle.zic_rules.specs.code.Held.{AreSoFar}
 use Rattle.zic_rules.proofs.Years.{cast}
 use Rattle.zic_rules.proofs.Held.{all_periods}
 use Rattle.zic_rules.proofs.Walks.{all_in_order, untils_rise}
 use Rattle.zic_rules.proofs.walk.periods.Goals as goal
+
+-- a fixed zone has one line
+one_line : (zone : Zone) (lines : ZoneLines) → lines_of zone ≡ Some lines → IsFixed zone → length (lines_of_zone lines) ≡ 1
+one_line zone lines is fixed =
+    let none = subst (λ (o : Option ZoneLines). IsSomeAnd o (λ z. (z.continuations ≡ []) × HasNoSet z.first.rules)) is fixed in
+    ap (λ (ls : List ZoneLine). suc (length ls)) none.0
+
+-- the first line has no periods before it
+none_before : (zone : Zone) (number : ℕ) (start : Option ℤ) (xs : List Period) → number ≡ 0 → AreSoFar zone number start xs → xs ≡ []
+none_before zone zero None xs e so_far = so_far
+none_before zone zero (Some s) xs e so_far = absurd so_far
+none_before zone (suc n) start xs e so_far = absurd (omega arith)
+
+pub add_line-requires-clause-number : goal.add_line-requires-clause-number
+add_line-requires-clause-number c = λ lines is.
+    let count = subst (λ (o : Option ZoneLines). IfSome o (λ z. c.lines-last.result ≡ length (lines_of_zone z))) is c.lines-last.ensures in
+    omega (arith, count, c.loop-number-test.true)
+
+pub returns-in_err-add_line-clause-memory : goal.returns-in_err-add_line-clause-memory
+returns-in_err-add_line-clause-memory c =
+    let zone = the_zone c.args.zone in
+    let found = got c.args.zone.source.now.zones c.args.zone.number c.args.zone.is_zone in
+    let count : c.lines-last.result ≡ length (lines_of_zone found.0) =
+    subst (λ (o : Option ZoneLines). IfSome o (λ z. c.lines-last.result ≡ length (lines_of_zone z))) found.1 c.lines-last.ensures
+    in
+    on_want fault_of c.from_residual.result (IsFixed zone → ⊥)
+    (λ fixed. absurd (omega (arith, count, one_line zone found.0 found.1 fixed, c.loop-number-test.true)))
+
+pub add_last-requires-clause-number : goal.add_last-requires-clause-number
+add_last-requires-clause-number c = λ lines is.
+    let count = subst (λ (o : Option ZoneLines). IfSome o (λ z. c.lines-last.result ≡ length (lines_of_zone z))) is c.lines-last.ensures in
+    omega (arith, count)
+
+pub returns-clause-fixed : goal.returns-clause-fixed
+returns-clause-fixed c = λ fixed.
+    let zone = the_zone c.args.zone in
+    let found = got c.args.zone.source.now.zones c.args.zone.number c.args.zone.is_zone in
+    let count : c.lines-last.result ≡ length (lines_of_zone found.0) =
+    subst (λ (o : Option ZoneLines). IfSome o (λ z. c.lines-last.result ≡ length (lines_of_zone z))) found.1 c.lines-last.ensures
+    in
+    let first : c.loop-number.number ≡ 0 = omega (arith, count, one_line zone found.0 found.1 fixed, c.loop-number-test.false, c.loop-number.auto.number-end) in
+    c.in_ok-end.ensures.fixed fixed ∙ none_before zone c.loop-number.number c.loop-number.start c.loop-number.list.items first c.loop-number.invariant.so_far
 
 pub returns-clause-order : goal.returns-clause-order
 returns-clause-order c =

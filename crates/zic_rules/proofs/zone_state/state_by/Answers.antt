@@ -1,4 +1,4 @@
-use Rattle.std.proofs.Common.{rules}
+use Rattle.std.proofs.Common.{refl, rules}
 use Rattle.zic_states.specs.Observance.{kept}
 use Rattle.zic_rules.specs.code.Shown.{IsRefusedBy}
 use Rattle.zic_rules.proofs.zone_state.state_by.Goals as goal
@@ -13,3 +13,12 @@ returns-in_err-name-clause-err c =
       refused = c.in_err-name.ensures.err;
     } in
     search (rules, by, c.from_residual.ensures)
+
+pub returns-clause-ok : goal.returns-clause-ok
+returns-clause-ok c = record {
+  kept = kept c.observance_by-kept.result;
+  is_kept = c.observance_by-kept.ensures;
+  offset = search rules;
+  daylight = refl;
+  name = c.in_ok-name.ensures.ok;
+}
