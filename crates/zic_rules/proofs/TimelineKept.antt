@@ -14,6 +14,7 @@ use Rattle.zic_states.specs.Zone.{Zone, Shows}
 use Rattle.zic_states.proofs.Changes.{one_list_of_changes}
 use Rattle.zic_states.proofs.Ends.{one_end}
 use Rattle.zic_states.proofs.States.{one_state}
+use Rattle.zic_rules.specs.Timeline.{IsWholeZone}
 use Rattle.zic_rules.specs.code.Shown.{ShowsNamed, IsTimeline, shown_by, dated}
 use Rattle.zic_rules.proofs.TimelineChanges.{so_rising, so_each, so_all, so_first, so_nth}
 
@@ -172,3 +173,13 @@ without_changes zone end first (x ∷ xs) kept none =
     let some = got (x ∷ xs) (length (x ∷ xs) - 1) (omega arith) in
     let at = some.1 in
     absurd cc
+
+-- the zone of a timeline is whole
+pub whole_zone : (zone : Zone) (end : ℤ) (first : Shown) (cs : List Change) → IsTimeline zone end first cs → IsWholeZone zone
+whole_zone zone end first cs kept = record {
+  source = kept.orderly.sets.sound;
+  is_zone = kept.is_zone;
+  sound = kept.sound;
+  orderly = kept.orderly;
+  has_end = (end, kept.is_end);
+}

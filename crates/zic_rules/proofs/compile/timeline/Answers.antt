@@ -1,6 +1,8 @@
 use Rattle.std.proofs.Common.{refl, rules}
-use Rattle.zic_base.specs.Fault.{fault_at}
 use Rattle.zic_base.specs.declared.fault.Kind.TheVariants as kind
+use Rattle.zic_base.specs.Fault.{fault_at, fault_of}
+use Rattle.zic_base.proofs.MemoryLemmas.{on_want}
+use Rattle.zic_states.specs.Fault.{HasOffsetOutOfRange}
 use Rattle.zic_rules.specs.Period.{zone_of}
 use Rattle.zic_rules.proofs.TimelineFaults.{stop_tells, fault_of_range, from_periods}
 use Rattle.zic_rules.proofs.compile.timeline.Goals as goal
@@ -31,16 +33,17 @@ timeline_of-requires c = record {
 }
 
 pub returns-clause-ok : goal.returns-clause-ok
-returns-clause-ok c = search rules
+returns-clause-ok c = c.timeline_of.ensures.ok
 
 pub returns-clause-sound : goal.returns-clause-sound
-returns-clause-sound c = search rules
+returns-clause-sound c = c.timeline_of.ensures.sound
 
 pub returns-clause-err : goal.returns-clause-err
-returns-clause-err c = search rules
+returns-clause-err c = c.timeline_of.ensures.err
 
 pub returns-clause-memory : goal.returns-clause-memory
-returns-clause-memory c = search rules
+returns-clause-memory c =
+    on_want fault_of c.timeline_of.result (HasOffsetOutOfRange (zone_of c.args.source.now c.args.zone) → ⊥) (c.if-not-are_offsets_in_range.ensures.inside refl)
 
 pub returns-clause-fixed : goal.returns-clause-fixed
 returns-clause-fixed c = search rules

@@ -8,12 +8,14 @@ use Rattle.zic_states.specs.End.{IsEnd}
 use Rattle.zic_states.specs.Zone.{Zone, Shows}
 use Rattle.zic_rules.specs.Period.{the_zone}
 use Rattle.zic_rules.specs.Tail.{IsConstantTail, IsRulesTail}
+use Rattle.zic_rules.specs.Timeline.{IsWholeZone}
 use Rattle.zic_rules.specs.declared.tail.TailRule.{TailRule}
 use Rattle.zic_rules.specs.code.Shown.{shown_by}
 use Rattle.zic_rules.proofs.TailConstant.{constant_tail}
 use Rattle.zic_rules.proofs.TailHeld.{one_last}
 use Rattle.zic_rules.proofs.TailLines.{set_line}
 use Rattle.zic_rules.proofs.TailTurns.{rules_tail}
+use Rattle.zic_rules.proofs.TimelineKept.{whole_zone}
 use Rattle.zic_rules.proofs.TailYear.{begins_own, begun_in_years, named_in_range}
 use Rattle.zic_rules.proofs.timelines.Timeline.tail.Goals as goal
 
@@ -29,6 +31,12 @@ returns-then-len-lt-FEWEST_RULES-clause-tail c =
     subst (λ (z : Zone). IsConstantTail z (shown c.state_of.result)) c.self.view_is
     (subst (IsConstantTail zone) (sym c.state_of.ensures)
     (constant_tail zone kept.orderly t.end kept.is_end t.rules.items kept.is_zone (kept.sound kind.NoLetter) c.self.invariant.tail few state shows))
+
+pub returns-then-len-lt-FEWEST_RULES-clause-whole : goal.returns-then-len-lt-FEWEST_RULES-clause-whole
+returns-then-len-lt-FEWEST_RULES-clause-whole c = subst IsWholeZone c.self.view_is (whole_zone _ _ _ _ c.self.invariant.before_end)
+
+pub returns-clause-whole : goal.returns-clause-whole
+returns-clause-whole c = subst IsWholeZone c.self.view_is (whole_zone _ _ _ _ c.self.invariant.before_end)
 
 pub year_of-requires : goal.year_of-requires
 year_of-requires c =
