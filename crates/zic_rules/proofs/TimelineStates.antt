@@ -11,6 +11,8 @@ use Rattle.std.proofs.Math.Bool.{beq}
 use Rattle.std.proofs.lemmas.Bool.Decides.{Decides-int_eq}
 use Rattle.zic_source.proofs.SameBytes.{bytes_eq_means, bytes_eq_itself}
 use Rattle.zic_lines.specs.declared.zone_line.ZoneLine.{ZoneLine}
+use Rattle.zic_source.specs.Source.{ZoneLines, lines_of_zone}
+use Rattle.zic_states.proofs.Lines.{line_of}
 use Rattle.zic_states.specs.Abbreviation.{abbreviation}
 use Rattle.zic_words.specs.Limits.{is_abbreviation}
 use Rattle.zic_rules.specs.declared.changes.DatedState.{DatedState}
@@ -21,7 +23,7 @@ use Rattle.zic_base.specs.State.{Shown}
 use Rattle.zic_states.specs.Zone.{Zone, line_at, ZoneKeeps}
 use Rattle.zic_rules.specs.declared.period.Period.{Period}
 use Rattle.zic_rules.specs.declared.period.Periods.{Periods}
-use Rattle.zic_rules.specs.Period.{ArePeriods, Holds}
+use Rattle.zic_rules.specs.Period.{HasLine, ArePeriods, Holds}
 use Rattle.zic_rules.specs.code.Held.{IsFrom, ComesAfter}
 use Rattle.zic_rules.specs.code.Shown.{IsShownBy, IsRefusedBy, IsHeld, ShowsWhereHeld, IsUnnamed, IsUnnamedAt, AreSoFrom, from_of, IsUpTo, IsSoTo, ShowsSomeTo, ShowsSomeBefore, ShowsNamed, AreKeptTo, shown_by, dated}
 use Rattle.zic_rules.proofs.TimelineChanges.{so_earlier}
@@ -34,6 +36,14 @@ keeps_held zone t number rule line kept at h =
     let same = same_Some h.line line (sym h.governs.is_line ∙ at) in
     subst (λ (l : ZoneLine). IsKeptBy zone.source.rules l.rules rule kept → ZoneKeeps zone t l kept) same
     (λ is_kept. record { number = number; governs = h.governs; keeps = h.keeps kept is_kept })
+
+-- a line that holds is one of the zone
+pub line_held : (zone : Zone) (number : ℕ) (rule : Option ℕ) → IsHeld zone number rule → HasLine zone number
+line_held zone number rule held lines is =
+    let h = held.1 in
+    let found = line_of zone number h.line h.governs.is_line in
+    subst (λ (z : ZoneLines). number < length (lines_of_zone z)) (same_Some found.0 lines (sym found.1 ∙ is))
+    (slice_get_within (lines_of_zone found.0) number h.line found.2)
 
 -- where a line holds by a rule, that is one of its set
 pub rule_held : (zone : Zone) (number : ℕ) (rule : Option ℕ) (line : ZoneLine) → line_at zone number ≡ Some line → IsHeld zone number rule

@@ -1,11 +1,17 @@
-use Rattle.std.proofs.Common.{sym, ap, ◌∙◌}
+use Rattle.std.proofs.Common.{sym, ap, subst, ◌∙◌}
 use Rattle.std.proofs.lemmas.Result.{IfOk-weaker}
 use Rattle.zic_states.specs.Zone.{line_at}
-use Rattle.zic_rules.specs.Period.{the_zone}
+use Rattle.zic_rules.specs.Period.{the_zone, HasLine}
 use Rattle.zic_rules.specs.code.Shown.{shown_by}
 use Rattle.zic_rules.proofs.TimelineOffsets.{all_in_range}
-use Rattle.zic_rules.proofs.TimelineStates.{rule_held, shows_held, unnamed_by}
+use Rattle.zic_rules.proofs.TimelineStates.{line_held, rule_held, shows_held, unnamed_by}
 use Rattle.zic_rules.proofs.changes.state_at.Goals as goal
+
+pub line-line-requires : goal.line-line-requires
+line-line-requires c = subst (HasLine (the_zone c.args.zone)) (sym c.from.ensures) (line_held (the_zone c.args.zone) c.args.line c.args.rule c.requires.held)
+
+pub returns-clause-within : goal.returns-clause-within
+returns-clause-within c = c.state_by.ensures.within
 
 pub state_by-requires-clause-rule : goal.state_by-requires-clause-rule
 state_by-requires-clause-rule c =

@@ -1,5 +1,6 @@
 use Rattle.std.proofs.Common.{◌≡◌, ◌∙◌, ◌+◌, ◌<◌, ℕ, zero, suc, ◌-◌, List, [], Option, Some, None, ℤ, arith, sym, ap, subst, length}
 use Rattle.std.specs.Prelude.{IfSome, IsSomeAnd}
+use Rattle.std.proofs.lemmas.Result.{err_from_is_err_and}
 use Rattle.zic_base.specs.Fault.{fault_of}
 use Rattle.zic_base.proofs.MemoryLemmas.{on_want}
 use Rattle.zic_lines.specs.declared.zone_line.ZoneLine.{ZoneLine}
@@ -27,10 +28,32 @@ none_before zone zero None xs e so_far = so_far
 none_before zone zero (Some s) xs e so_far = absurd so_far
 none_before zone (suc n) start xs e so_far = absurd (omega arith)
 
+pub loop-number-init : goal.loop-number-init
+loop-number-init c = record {
+  ordered = λ i line lt at. absurd (omega (arith, lt));
+  rising = λ i t u lt first second. absurd (omega (arith, lt));
+  so_far = c.new-list.ensures.items;
+}
+
 pub add_line-requires-clause-number : goal.add_line-requires-clause-number
 add_line-requires-clause-number c = λ lines is.
     let count = subst (λ (o : Option ZoneLines). IfSome o (λ z. c.lines-last.result ≡ length (lines_of_zone z))) is c.lines-last.ensures in
     omega (arith, count, c.loop-number-test.true)
+
+pub returns-in_err-add_line-clause-err : goal.returns-in_err-add_line-clause-err
+returns-in_err-add_line-clause-err c =
+    let p = err_from_is_err_and c.from_residual.result c.from_residual.ensures.1 in
+    rw (p.1, p.2) c.in_err-add_line.ensures.err
+
+pub returns-in_err-end-clause-err : goal.returns-in_err-end-clause-err
+returns-in_err-end-clause-err c =
+    let p = err_from_is_err_and c.from_residual-in_err-end.result c.from_residual-in_err-end.ensures.1 in
+    rw (p.1, p.2) c.in_err-end.ensures.err
+
+pub returns-in_err-end-clause-memory : goal.returns-in_err-end-clause-memory
+returns-in_err-end-clause-memory c =
+    let p = err_from_is_err_and c.from_residual-in_err-end.result c.from_residual-in_err-end.ensures.1 in
+    rw (p.1, p.2) c.in_err-end.ensures.memory
 
 pub returns-in_err-add_line-clause-memory : goal.returns-in_err-add_line-clause-memory
 returns-in_err-add_line-clause-memory c =
