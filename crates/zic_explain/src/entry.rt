@@ -27,10 +27,8 @@ pub struct Entry {
 pub fn entries(alloc: Global) -> Result<Vec<Entry>, AllocError>
     ensures { IfOk result (λ entries. 0 < vec_len entries) }
 {
-    let texts = texts();
-    let (first, others) = texts.split_once('@').unwrap_or((texts, ""));
-    let mut entries = Vec::new(alloc);
-    entries.push(entry_of(first))?;
+    let (first, others) = cut(texts(), '@');
+    let mut entries = vec![in alloc; entry_of(first)]?;
     for other in others.split('@') {
         entries.push(entry_of(other))?;
     }
@@ -44,11 +42,11 @@ fn texts() -> &'static str {
 
 /// Returns what is told of one error, of whose texts each but the last ends with `?`.
 fn entry_of(texts: &'static str) -> Entry {
-    let (name, texts) = cut(texts);
-    let (meaning, texts) = cut(texts);
-    let (says, texts) = cut(texts);
-    let (expected, texts) = cut(texts);
-    let (examples, cause) = cut(texts);
+    let (name, texts) = cut(texts, '?');
+    let (meaning, texts) = cut(texts, '?');
+    let (says, texts) = cut(texts, '?');
+    let (expected, texts) = cut(texts, '?');
+    let (examples, cause) = cut(texts, '?');
     Entry {
         name,
         meaning,
@@ -59,7 +57,7 @@ fn entry_of(texts: &'static str) -> Entry {
     }
 }
 
-/// Returns the text before the first `?`, and what is after it.
-fn cut(texts: &'static str) -> (&'static str, &'static str) {
-    texts.split_once('?').unwrap_or((texts, ""))
+/// Returns the text before the first `mark`, and what is after it.
+fn cut(texts: &'static str, mark: char) -> (&'static str, &'static str) {
+    texts.split_once(mark).unwrap_or((texts, ""))
 }

@@ -109,9 +109,7 @@ fn text_of(alloc: Global, entry: &Entry) -> Result<String, AllocError>
     ensures { IfOk result (λ text. string_bytes text ≡ explanation_text entry.now) }
 {
     let mut text = String::new(alloc);
-    text.push_str(entry.name)?;
-    text.push_str("\n\n")?;
-    text.push_str(entry.says)?;
+    push_all(&mut text, &[entry.name, "\n\n", entry.says])?;
     push_section(&mut text, "Expected", entry.expected)?;
     text.push_str(entry.examples)?;
     push_section(&mut text, "Usual cause", entry.cause)?;
@@ -126,10 +124,7 @@ fn push_section(text: &mut String, title: &str, lines: &str) -> Result<(), Alloc
     if lines.is_empty() {
         return Ok(());
     }
-    text.push_str("\n")?;
-    text.push_str(title)?;
-    text.push_str(":\n")?;
-    text.push_str(lines)
+    push_all(text, &["\n", title, ":\n", lines])
 }
 
 /// Adds the line of an entry.
@@ -137,8 +132,16 @@ fn push_index_line(text: &mut String, entry: &Entry) -> Result<(), AllocError>
     ensures { OnOk result
         (string_bytes text.new ≡ string_bytes text.old ++ index_line entry.now) }
 {
-    text.push_str(entry.name)?;
-    text.push_str(": ")?;
-    text.push_str(entry.meaning)?;
-    text.push('\n')
+    push_all(text, &[entry.name, ": ", entry.meaning, "\n"])
+}
+
+/// Adds these texts, one after the other.
+fn push_all(text: &mut String, parts: &[&str]) -> Result<(), AllocError>
+    ensures { OnOk result
+        (string_bytes text.new ≡ string_bytes text.old ++ flat_map (λ part. part.now) parts.now) }
+{
+    for part in parts {
+        text.push_str(part)?;
+    }
+    Ok(())
 }

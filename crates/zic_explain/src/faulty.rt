@@ -66,21 +66,23 @@ fn all_fields(line: &[u8], fields: &[Field]) -> Span {
 fn wrong_bytes(kind: Kind, line: &[u8]) -> Option<Span> {
     let code = code_of(line);
     match kind {
-        Kind::NotAscii => {
-            let start = code.iter().position(|byte| !is_allowed(*byte))?;
-            let rest = code.get(start..)?;
-            let count = rest.iter().position(|byte| is_allowed(*byte));
-            Some(Span {
-                start,
-                end: start.saturating_add(count.unwrap_or(rest.len())),
-            })
-        }
+        Kind::NotAscii => refused_bytes(code),
         Kind::Quote => Some(Span {
             start: code.iter().rposition(|byte| *byte == b'"')?,
             end: code.len(),
         }),
         _ => None,
     }
+}
+
+/// Returns where the first bytes stand that may stand only in a comment.
+fn refused_bytes(code: &[u8]) -> Option<Span> {
+    let start = code.iter().position(|byte| !is_allowed(*byte))?;
+    let mut end = start;
+    while end < code.len() && !is_allowed(code[end]) {
+        end += 1;
+    }
+    Some(Span { start, end })
 }
 
 /// Returns whether the byte may stand outside a comment.

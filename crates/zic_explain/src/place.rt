@@ -6,9 +6,9 @@ ghost use Rattle.zic_explain.specs.code.Shown.{StaysShown};
 
 use crate::faulty::{Part, faulty_part};
 use crate::fields::{Span, fields_of};
-use crate::form::{awaits, form_of};
+use crate::form::{Form, awaits, form_of};
 use crate::record::faulty_field;
-use crate::shown::{push_bytes, push_line_end, push_shown};
+use crate::shown::{push_bytes, push_line_end, push_parts, push_shown};
 use std::alloc::{AllocError, Global};
 use zic_base::Kind;
 use zic_plan::RowKind;
@@ -31,9 +31,7 @@ pub fn line_place(
         (λ place. GoesOnShown (line_head path.now line) (string_bytes place)) }
 {
     let rest = line_rest(alloc, kind, text, line)?;
-    let mut place = format!(in alloc; "--> {path}:{line}")?;
-    place.push_str(rest.as_str())?;
-    Ok(place)
+    format!(in alloc; "--> {path}:{line}{rest}")
 }
 
 /// Returns what is told of a line after its number.
@@ -41,16 +39,50 @@ fn line_rest(alloc: Global, kind: Kind, text: &[u8], line: u64) -> Result<String
     ensures { IfOk result (λ rest. IsShownText (string_bytes rest)) }
 {
     let mut rest = String::new(alloc);
-    let Some(bytes) = line_at(text, line) else {
-        push_line_end(&mut rest)?;
-        return Ok(rest);
-    };
-    let fields = fields_of(alloc, bytes)?;
-    let form = form_of(awaits(alloc, text, line.saturating_sub(1))?, &fields);
-    let part = faulty_part(alloc, kind, bytes, form, &fields)?;
-    push_field(alloc, &mut rest, part.field, form.labels())?;
-    push_shown(&mut rest, bytes, part.span)?;
+    match line_at(text, line) {
+        Some(bytes) => {
+            let awaited = awaits(alloc, text, line.saturating_sub(1))?;
+            push_line_part(alloc, &mut rest, kind, bytes, awaited)?;
+        }
+        None => push_line_end(&mut rest)?,
+    }
     Ok(rest)
+}
+
+/// Adds what is told of a line, where a continuation is awaited or not.
+fn push_line_part(
+    alloc: Global,
+    rest: &mut String,
+    kind: Kind,
+    line: &[u8],
+    awaited: bool,
+) -> Result<(), AllocError>
+    ensures { OnOk result (StaysShown (string_bytes rest.old) (string_bytes rest.new)) }
+{
+    let faulty = faulty_line(alloc, kind, line, awaited)?;
+    push_field(alloc, rest, faulty.part.field, faulty.form.labels())?;
+    push_shown(rest, line, faulty.part.span)
+}
+
+/// What a line is, and the part of it that a fault is about.
+#[derive(Clone, Copy)]
+struct FaultyLine {
+    form: Form,
+    part: Part,
+}
+
+/// Returns what a line is, where a continuation is awaited or not, and the part of it that a fault
+/// of this kind is about.
+fn faulty_line(
+    alloc: Global,
+    kind: Kind,
+    line: &[u8],
+    awaited: bool,
+) -> Result<FaultyLine, AllocError> {
+    let fields = fields_of(alloc, line)?;
+    let form = form_of(awaited, &fields);
+    let part = faulty_part(alloc, kind, line, form, &fields)?;
+    Ok(FaultyLine { form, part })
 }
 
 /// Returns lines that say where a fault of a column stands: `--> standard input, row N, field F
@@ -94,39 +126,30 @@ fn push_field(
 ) -> Result<(), AllocError>
     ensures { OnOk result (StaysShown (string_bytes rest.old) (string_bytes rest.new)) }
 {
-    match field {
-        Some(index) => push_number(alloc, rest, index, labels),
-        None => push_line_end(rest),
-    }
+    let Some(index) = field else {
+        return push_line_end(rest);
+    };
+    push_number(alloc, rest, index)?;
+    push_label(rest, labels.get(index).copied().unwrap_or(""))?;
+    push_line_end(rest)
 }
 
-/// Adds the number of the field at this index, and what it is called, and ends the line.
-fn push_number(
-    alloc: Global,
-    rest: &mut String,
-    index: usize,
-    labels: &[&str],
-) -> Result<(), AllocError>
+/// Adds the number of the field at this index.
+fn push_number(alloc: Global, rest: &mut String, index: usize) -> Result<(), AllocError>
     ensures { OnOk result (StaysShown (string_bytes rest.old) (string_bytes rest.new)) }
 {
-    let number = index.saturating_add(1).to_string(alloc)?;
-    push_bytes(rest, b", field ")?;
-    push_bytes(rest, number.as_bytes())?;
-    push_label(rest, labels.get(index).copied().unwrap_or(""))?;
-    push_line_end(rest)?;
-    Ok(())
+    let number = format!(in alloc; ", field {}", index.saturating_add(1))?;
+    push_bytes(rest, number.as_bytes())
 }
 
 /// Adds what a field is called, if it has a name.
 fn push_label(rest: &mut String, label: &str) -> Result<(), AllocError>
     ensures { OnOk result (StaysShown (string_bytes rest.old) (string_bytes rest.new)) }
 {
-    if !label.is_empty() {
-        push_bytes(rest, b" (")?;
-        push_bytes(rest, label.as_bytes())?;
-        push_bytes(rest, b")")?;
+    if label.is_empty() {
+        return Ok(());
     }
-    Ok(())
+    push_parts(rest, &[b" (", label.as_bytes(), b")"])
 }
 
 /// Returns the line of this number, from 1 on.

@@ -31,15 +31,11 @@ pub(crate) fn push_shown(text: &mut String, line: &[u8], part: Span) -> Result<(
     } else {
         b""
     };
-    push_bytes(text, b"  ")?;
-    push_bytes(text, cut)?;
-    push_bytes(text, window)?;
-    push_bytes(text, cut_after)?;
+    push_parts(text, &[b"  ", cut, window, cut_after])?;
     push_line_end(text)?;
     push_repeated(text, b' ', cut.len().saturating_add(2))?;
     push_underline(text, window, start, part)?;
-    push_line_end(text)?;
-    Ok(())
+    push_line_end(text)
 }
 
 /// Ends a line.
@@ -92,6 +88,16 @@ fn width(byte: u8) -> usize {
     }
 }
 
+/// Adds what is shown of these parts, one after the other.
+pub(crate) fn push_parts(text: &mut String, parts: &[&[u8]]) -> Result<(), AllocError>
+    ensures { OnOk result (StaysShown (string_bytes text.old) (string_bytes text.new)) }
+{
+    for part in parts {
+        push_bytes(text, part)?;
+    }
+    Ok(())
+}
+
 /// Adds what is shown of bytes.
 pub(crate) fn push_bytes(text: &mut String, bytes: &[u8]) -> Result<(), AllocError>
     ensures { OnOk result (StaysShown (string_bytes text.old) (string_bytes text.new)) }
@@ -112,8 +118,7 @@ fn push_byte(text: &mut String, byte: u8) -> Result<(), AllocError>
     push_ascii(text, b'\\')?;
     push_ascii(text, b'x')?;
     push_ascii(text, digit(byte / 16))?;
-    push_ascii(text, digit(byte % 16))?;
-    Ok(())
+    push_ascii(text, digit(byte % 16))
 }
 
 /// Adds a byte that is shown.

@@ -5,10 +5,10 @@ ghost use Rattle.zic_explain.specs.Place.{IsShownText};
 ghost use Rattle.zic_explain.specs.code.Nearest.{IsNearestAt};
 ghost use Rattle.zic_explain.specs.code.Shown.{StaysShown};
 
-use crate::fields::fields_of;
+use crate::fields::{Field, fields_of};
 use crate::form::{Form, awaits, form_of};
 use crate::record::name_of;
-use crate::shown::{push_bytes, push_line_end};
+use crate::shown::{push_bytes, push_line_end, push_parts};
 use std::alloc::{AllocError, Global};
 use strsim::levenshtein;
 
@@ -25,15 +25,26 @@ const LONGEST: usize = 255;
 pub fn nearest_zone(alloc: Global, source: &[u8], record: &[u8]) -> Result<String, AllocError>
     ensures { IfOk result (λ text. IsShownText (string_bytes text)) }
 {
-    let mut text = String::new(alloc);
     let names = zone_names(alloc, source)?;
-    if names.is_empty() {
-        return Ok(text);
+    let mut text = String::new(alloc);
+    if !names.is_empty() {
+        let name = nearest_name(alloc, &names, record)?;
+        push_nearest(&mut text, name)?;
     }
-    let name = spelled(alloc, name_of(record))?;
-    let index = nearest_index(alloc, &names, name.as_str())?;
-    push_nearest(&mut text, names[index].as_str())?;
     Ok(text)
+}
+
+/// Returns the name that takes the fewest edits from that of a record.
+fn nearest_name<'a>(
+    alloc: Global,
+    names: &'a [String],
+    record: &[u8],
+) -> Result<&'a str, AllocError>
+    requires { 0 < length names.now }
+{
+    let name = spelled(alloc, name_of(record))?;
+    let index = nearest_index(alloc, names, name.as_str())?;
+    Ok(names[index].as_str())
 }
 
 /// Adds an empty line, a title and a name.
@@ -43,10 +54,8 @@ fn push_nearest(text: &mut String, name: &str) -> Result<(), AllocError>
     push_line_end(text)?;
     push_bytes(text, b"Nearest name:")?;
     push_line_end(text)?;
-    push_bytes(text, b"  ")?;
-    push_bytes(text, name.as_bytes())?;
-    push_line_end(text)?;
-    Ok(())
+    push_parts(text, &[b"  ", name.as_bytes()])?;
+    push_line_end(text)
 }
 
 /// Returns the index of a name that takes the fewest edits from this name.
@@ -70,18 +79,28 @@ fn nearest_index(alloc: Global, names: &[String], name: &str) -> Result<usize, A
 fn zone_names(alloc: Global, source: &[u8]) -> Result<Vec<String>, AllocError> {
     let mut names = Vec::new(alloc);
     for line in source.split(|byte| *byte == b'\n') {
-        let fields = fields_of(alloc, line)?;
-        // No STDOFF is a keyword, so a continuation is not taken for another line.
-        let index = match form_of(false, &fields) {
-            Form::Zone => 1,
-            Form::Link => 2,
-            _ => continue,
-        };
-        if let Some(field) = fields.get(index) {
-            names.push(spelled(alloc, &field.text)?)?;
-        }
+        push_name(alloc, &mut names, line)?;
     }
     Ok(names)
+}
+
+/// Adds the name that a line gives to a zone or a link, if it does.
+fn push_name(alloc: Global, names: &mut Vec<String>, line: &[u8]) -> Result<(), AllocError> {
+    let fields = fields_of(alloc, line)?;
+    if let Some(field) = name_field(&fields) {
+        names.push(spelled(alloc, &field.text)?)?;
+    }
+    Ok(())
+}
+
+/// Returns the field with the name that a line of these fields gives to a zone or a link.
+fn name_field(fields: &[Field]) -> Option<&Field> {
+    // No STDOFF is a keyword, so a continuation is not taken for another line.
+    match form_of(false, fields) {
+        Form::Zone => fields.get(1),
+        Form::Link => fields.get(2),
+        _ => None,
+    }
 }
 
 /// Returns the bytes of a name as text, a character for each.

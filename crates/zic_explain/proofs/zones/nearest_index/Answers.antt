@@ -1,4 +1,4 @@
-use Rattle.std.proofs.Common.{rules, ◌≡◌, ◌<◌, ◌≤◌, [], length, map, get_or, string_bytes, arith}
+use Rattle.std.proofs.Common.{rules, ◌≡◌, ◌<◌, [], length, map, get_or, string_bytes, arith}
 use Rattle.std.proofs.lemmas.List.{get_or-map, length-map}
 use Rattle.zic_explain.specs.Explanation.{edits}
 use Rattle.zic_explain.proofs.NearestNames.{nearer, no_nearer, nearest_at_all}
