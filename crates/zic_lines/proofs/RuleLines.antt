@@ -25,7 +25,9 @@ use Rattle.zic_words.specs.SetName.{is_set_name}
 use Rattle.zic_words.specs.declared.clock.ClockTime.{ClockTime}
 use Rattle.zic_words.specs.declared.saving.Saving.{Saving}
 use Rattle.zic_lines.specs.declared.rule_line.Years.{Years}
-use Rattle.zic_lines.specs.code.LineParts.{SayYears, year_checks, SayMoment, moment_checks, rule_with}
+use Rattle.zic_lines.specs.declared.rule_line.Times.{Times}
+use Rattle.zic_lines.specs.declared.rule_line.Effect.{Effect}
+use Rattle.zic_lines.specs.code.LineParts.{SayYears, year_checks, moment_checks, SayTimes, time_checks, SayEffect, effect_checks, rule_with}
 use Rattle.zic_lines.proofs.Parsed.{kept}
 use Rattle.zic_lines.proofs.Options.{there, bound}
 
@@ -108,7 +110,8 @@ rule_passes place fields rule is =
 -- ten fields say one rule
 rules_same : (p p' : Place) (n n' : List ℕ) (a a' : ℕ) (z z' : Option ℕ) (m m' : ℕ) (o o' : On) (t t' : ClockTime) (s s' : Saving) (l l' : List ℕ)
     → p ≡ p' → n ≡ n' → a ≡ a' → z ≡ z' → m ≡ m' → o ≡ o' → t ≡ t' → s ≡ s' → l ≡ l'
-    → rule_with p n (record { first = a; last = z }) (record { month = m; on = o; at = t }) s l ≡ rule_with p' n' (record { first = a'; last = z' }) (record { month = m'; on = o'; at = t' }) s' l'
+    → rule_with p n (record { years = record { first = a; last = z }; moment = record { month = m; on = o; at = t } }) (record { saving = s; letter = l })
+    ≡ rule_with p' n' (record { years = record { first = a'; last = z' }; moment = record { month = m'; on = o'; at = t' } }) (record { saving = s'; letter = l' })
 rules_same p p' n n' a a' z z' m m' o o' t t' s s' l l' e1 e2 e3 e4 e5 e6 e7 e8 e9 = rw (e1, e2, e3, e4, e5, e6, e7, e8, e9) refl
 
 pub rule_once : (place : Place) (texts : List (List ℕ)) (rule other : Rule) → IsRuleLine place texts rule → IsRuleLine place texts other → rule ≡ other
@@ -120,14 +123,13 @@ rule_once place texts rule other is also =
     rule.saving other.saving rule.letter other.letter (cc) (cc) first last month (cc) (cc) (cc) (cc)
 
 -- what the code makes of ten fields is what they say
-pub rule_made : {E : Type 0} (place : Place) {texts : List (List ℕ)} {keyword name from to reserved month day time save letter : List ℕ} (years : Years) (moment : Moment) (saving : Saving) (text : List ℕ) (made : Result Rule E) (made_name : Result (List ℕ) E)
+pub rule_made : {E : Type 0} (place : Place) {texts : List (List ℕ)} {keyword name from to reserved month day time save letter : List ℕ} (times : Times) (effect : Effect) (made : Result Rule E) (made_name : Result (List ℕ) E)
     → texts ≡ keyword ∷ name ∷ from ∷ to ∷ reserved ∷ month ∷ day ∷ time ∷ save ∷ letter ∷ []
-    → keyword_of keyword ≡ Some keywords.Rule → is_set_name name ≡ true → SayYears from to years → is_dash reserved ≡ true → SayMoment years month day time moment
-    → saving_of save ≡ Some saving → letter_of letter ≡ Some text
-    → IfOk made_name (λ n. n ≡ name) → IfOk made (λ rule. made_name ≡ Ok rule.name) → IfOk made (λ rule. rule ≡ rule_with place rule.name years moment saving text) → IfOk made (IsRuleLine place texts)
-rule_made place {texts} {keyword} {name} {from} {to} {reserved} {month} {day} {time} {save} {letter} years moment saving text (Ok rule) made_name are begins n say_years unused say_moment saves abbreviates kept_name named parts =
+    → keyword_of keyword ≡ Some keywords.Rule → is_set_name name ≡ true → SayTimes from to reserved month day time times → SayEffect save letter effect
+    → IfOk made_name (λ n. n ≡ name) → IfOk made (λ rule. made_name ≡ Ok rule.name) → IfOk made (λ rule. rule ≡ rule_with place rule.name times effect) → IfOk made (IsRuleLine place texts)
+rule_made place {texts} {keyword} {name} {from} {to} {reserved} {month} {day} {time} {save} {letter} times effect (Ok rule) made_name are begins n say_times say_effect kept_name named parts =
     let same : rule.name ≡ name = kept made_name name rule.name named kept_name in
-    let is : IsRuleLine place texts (rule_with place name years moment saving text) = record {
+    let is : IsRuleLine place texts (rule_with place name times effect) = record {
       keyword = keyword;
       from = from;
       to = to;
@@ -140,21 +142,37 @@ rule_made place {texts} {keyword} {name} {from} {to} {reserved} {month} {day} {t
       ten = are;
       is_rule = begins;
       named = n;
-      begins = say_years.begins;
-      ends = say_years.ends;
-      in_order = say_years.in_order;
-      unused = unused;
-      in_month = say_moment.in_month;
-      on_day = say_moment.on_day;
-      at_time = say_moment.at_time;
-      saves = saves;
-      abbreviates = abbreviates;
+      begins = say_times.years.begins;
+      ends = say_times.years.ends;
+      in_order = say_times.years.in_order;
+      unused = say_times.unused;
+      in_month = say_times.moment.in_month;
+      on_day = say_times.moment.on_day;
+      at_time = say_times.moment.at_time;
+      saves = say_effect.saves;
+      abbreviates = say_effect.abbreviates;
       stands = refl;
     } in
-    subst (IsRuleLine place texts) (sym (parts ∙ ap (λ (t : List ℕ). rule_with place t years moment saving text) same)) is
-rule_made place {texts} {keyword} {name} {from} {to} {reserved} {month} {day} {time} {save} {letter} years moment saving text (Err e) made_name are begins n say_years unused say_moment saves abbreviates kept_name named parts = tt
+    subst (IsRuleLine place texts) (sym (parts ∙ ap (λ (t : List ℕ). rule_with place t times effect) same)) is
+rule_made place {texts} {keyword} {name} {from} {to} {reserved} {month} {day} {time} {save} {letter} times effect (Err e) made_name are begins n say_times say_effect kept_name named parts = tt
 
 -- ---- the first that fails, step by step
+
+module _ (from to reserved month day time : List ℕ) where
+  pub years_fail : (kind : Kind) → first_failed (year_checks from to) ≡ Some kind → first_failed (time_checks from to reserved month day time) ≡ Some kind
+  years_fail kind e = first_failed-stops (year_checks from to)
+      (check (is_dash reserved) Reserved
+      ∷ check (is_some (month_of month)) Month
+      ∷ check (is_some (rule_day_of from to month day)) Day
+      ∷ check (is_some (clock_time_of time)) Time
+      ∷ []) kind e
+
+  module _ (years : Years) (say : SayYears from to years) where
+    pub not_reserved : is_dash reserved ≡ false → first_failed (time_checks from to reserved month day time) ≡ Some Reserved
+    not_reserved e = rw (say.begins, say.ends, say.in_order, e) refl
+
+    pub moment_fails : is_dash reserved ≡ true → (kind : Kind) → first_failed (moment_checks years month day time) ≡ Some kind → first_failed (time_checks from to reserved month day time) ≡ Some kind
+    moment_fails unused kind e = rw (say.begins, say.ends, say.in_order, unused) e
 
 module _ {texts : List (List ℕ)} {keyword name from to reserved month day time save letter : List ℕ} (are : texts ≡ keyword ∷ name ∷ from ∷ to ∷ reserved ∷ month ∷ day ∷ time ∷ save ∷ letter ∷ []) where
   checks_are : (o : Option Kind) → first_failed (rule_checks (keyword ∷ name ∷ from ∷ to ∷ reserved ∷ month ∷ day ∷ time ∷ save ∷ letter ∷ [])) ≡ o → first_failed (rule_checks texts) ≡ o
@@ -164,25 +182,13 @@ module _ {texts : List (List ℕ)} {keyword name from to reserved month day time
   no_name bad = checks_are (Some Name) (rw bad refl)
 
   module _ (named : is_set_name name ≡ true) where
-    pub years_fail : (kind : Kind) → first_failed (year_checks from to) ≡ Some kind → first_failed (rule_checks texts) ≡ Some kind
-    years_fail kind e = checks_are (Some kind) (rw named (first_failed-stops (year_checks from to)
-        (check (is_dash reserved) Reserved
-        ∷ check (is_some (month_of month)) Month
-        ∷ check (is_some (rule_day_of from to month day)) Day
-        ∷ check (is_some (clock_time_of time)) Time
-        ∷ check (is_some (saving_of save)) Save
-        ∷ check (is_some (letter_of letter)) Letter
-        ∷ []) kind e))
+    pub times_fail : (kind : Kind) → first_failed (time_checks from to reserved month day time) ≡ Some kind → first_failed (rule_checks texts) ≡ Some kind
+    times_fail kind e = checks_are (Some kind) (rw named (first_failed-stops (time_checks from to reserved month day time) (effect_checks save letter) kind e))
 
-    module _ (years : Years) (say_years : SayYears from to years) where
-      pub not_reserved : is_dash reserved ≡ false → first_failed (rule_checks texts) ≡ Some Reserved
-      not_reserved e = checks_are (Some Reserved) (rw (named, say_years.begins, say_years.ends, say_years.in_order, e) refl)
+    -- the checks of SAVE and LETTER decide
+    pub effect_decides : (times : Times) → SayTimes from to reserved month day time times → first_failed (rule_checks texts) ≡ first_failed (effect_checks save letter)
+    effect_decides times say = checks_are _ (rw (named, say.years.begins, say.years.ends, say.years.in_order, say.unused, say.moment.in_month, say.moment.on_day, say.moment.at_time) refl)
 
-      module _ (unused : is_dash reserved ≡ true) where
-        pub moment_fails : (kind : Kind) → first_failed (moment_checks years month day time) ≡ Some kind → first_failed (rule_checks texts) ≡ Some kind
-        moment_fails kind e = checks_are (Some kind) (rw (named, say_years.begins, say_years.ends, say_years.in_order, unused)
-            (first_failed-stops (moment_checks years month day time) (check (is_some (saving_of save)) Save ∷ check (is_some (letter_of letter)) Letter ∷ []) kind e))
-
-        -- the checks after those of IN, ON and AT decide
-        pub last_checks : (moment : Moment) → SayMoment years month day time moment → first_failed (rule_checks texts) ≡ first_failed (check (is_some (saving_of save)) Save ∷ check (is_some (letter_of letter)) Letter ∷ [])
-        last_checks moment say = checks_are _ (rw (named, say_years.begins, say_years.ends, say_years.in_order, unused, say.in_month, say.on_day, say.at_time) refl)
+-- what SAVE and LETTER say passes their checks
+pub effect_passes : (save letter : List ℕ) (effect : Effect) → SayEffect save letter effect → first_failed (effect_checks save letter) ≡ None
+effect_passes save letter effect say = rw (say.saves, say.abbreviates) refl

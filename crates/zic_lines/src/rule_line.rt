@@ -5,7 +5,7 @@ ghost use Rattle.zic_base.specs.Check.{first_failed};
 ghost use Rattle.zic_words.specs.declared.keyword.Keyword.TheVariants as keywords;
 ghost use Rattle.zic_lines.specs.Checks.{rule_checks};
 ghost use Rattle.zic_lines.specs.code.Entries.{IsOtherLine};
-ghost use Rattle.zic_lines.specs.code.LineParts.{year_checks, SayYears, moment_checks, SayMoment, rule_with};
+ghost use Rattle.zic_lines.specs.code.LineParts.{year_checks, SayYears, moment_checks, SayMoment, time_checks, SayTimes, effect_checks, SayEffect, rule_with};
 ghost use Rattle.zic_lines.specs.code.Texts.{texts_of, BeginsWith};
 
 use crate::entry::Entry;
@@ -62,27 +62,78 @@ fn rule_moment(years: Years, month: &[u8], day: &[u8], time: &[u8]) -> Result<Mo
     Ok(Moment { month, on, at })
 }
 
+/// When a rule occurs.
+#[derive(Clone, Copy)]
+struct Times {
+    years: Years,
+    moment: Moment,
+}
+
+/// Returns the years and the moment of FROM, TO, the reserved field, IN, ON and AT, or the kind of
+/// their first fault.
+fn rule_times(
+    from: &[u8],
+    to: &[u8],
+    reserved: &[u8],
+    month: &[u8],
+    day: &[u8],
+    time: &[u8],
+) -> Result<Times, Kind>
+    ensures says { IfOk result
+        (SayTimes from.now to.now reserved.now month.now day.now time.now) }
+    ensures fault { IfErr result
+        (λ kind. first_failed (time_checks from.now to.now reserved.now month.now day.now time.now)
+        ≡ Some kind) }
+{
+    let years = rule_years(from, to)?;
+    if !is_dash(reserved) {
+        return Err(Kind::Reserved);
+    }
+    let moment = rule_moment(years, month, day, time)?;
+    Ok(Times { years, moment })
+}
+
+/// What a rule does.
+#[derive(Drop)]
+struct Effect {
+    saving: Saving,
+    letter: Letter,
+}
+
+/// Returns what SAVE and LETTER say, or the kind of their first fault.
+fn rule_effect(alloc: Global, saved: &[u8], letter: &[u8]) -> Result<Effect, Kind>
+    ensures says { IfOk result (SayEffect saved.now letter.now) }
+    ensures fault { IfErr result
+        (λ kind. first_failed (effect_checks saved.now letter.now) ≡ Some kind) }
+{
+    let Some(saving) = save(saved) else {
+        return Err(Kind::Save);
+    };
+    let Some(letter) = Letter::parse(alloc, letter) else {
+        return Err(Kind::Letter);
+    };
+    Ok(Effect { saving, letter })
+}
+
 /// Returns the rule of these parts, or out of memory where its name is.
 fn rule_of(
     place: Place,
     name: Result<SetName, AllocError>,
-    years: Years,
-    moment: Moment,
-    saving: Saving,
-    letter: Letter,
+    times: Times,
+    effect: Effect,
 ) -> Result<Rule, AllocError>
     ensures name { IfOk result (λ rule. name ≡ Ok rule.name) }
     ensures parts { IfOk result
-        (λ rule. rule ≡ rule_with place rule.name years moment saving letter) }
+        (λ rule. rule ≡ rule_with place rule.name times effect) }
 {
     Ok(Rule {
         place,
         name: name?,
-        first: years.first,
-        last: years.last,
-        moment,
-        saving,
-        letter,
+        first: times.years.first,
+        last: times.years.last,
+        moment: times.moment,
+        saving: effect.saving,
+        letter: effect.letter,
     })
 }
 
@@ -104,16 +155,14 @@ pub(crate) fn rule_line(
     let Some(name) = SetName::parse(alloc, name.as_slice()) else {
         return Err(Kind::Name);
     };
-    let years = rule_years(from.as_slice(), to.as_slice())?;
-    if !is_dash(reserved.as_slice()) {
-        return Err(Kind::Reserved);
-    }
-    let moment = rule_moment(years, month.as_slice(), day.as_slice(), time.as_slice())?;
-    let Some(saving) = save(saved.as_slice()) else {
-        return Err(Kind::Save);
-    };
-    let Some(letter) = Letter::parse(alloc, letter.as_slice()) else {
-        return Err(Kind::Letter);
-    };
-    Ok(rule_of(place, name, years, moment, saving, letter).map(Entry::Rule))
+    let times = rule_times(
+        from.as_slice(),
+        to.as_slice(),
+        reserved.as_slice(),
+        month.as_slice(),
+        day.as_slice(),
+        time.as_slice(),
+    )?;
+    let effect = rule_effect(alloc, saved.as_slice(), letter.as_slice())?;
+    Ok(rule_of(place, name, times, effect).map(Entry::Rule))
 }

@@ -4,17 +4,21 @@ use Rattle.zic_base.specs.Check.{Check, check}
 use Rattle.zic_base.specs.Option.{◌>>=◌, some_and}
 use Rattle.zic_base.specs.declared.place.Place.{Place}
 use Rattle.zic_base.specs.declared.fault.Kind.{Kind}
-use Rattle.zic_base.specs.declared.fault.Kind.TheVariants.{Year, YearOrder, Month, Day, Time}
+use Rattle.zic_base.specs.declared.fault.Kind.TheVariants.{Year, YearOrder, Reserved, Month, Day, Time, Save, Letter}
 use Rattle.zic_calendar.specs.declared.day_form.On.{On}
 use Rattle.zic_words.specs.Year.{year_of, last_year_of, ends_before, is_one_leap_year}
 use Rattle.zic_words.specs.Month.{month_of}
 use Rattle.zic_words.specs.DayForm.{day_form_of}
 use Rattle.zic_words.specs.Clock.{clock_time_of}
-use Rattle.zic_words.specs.declared.saving.Saving.{Saving}
+use Rattle.zic_words.specs.Dash.{is_dash}
+use Rattle.zic_words.specs.Saving.{saving_of}
+use Rattle.zic_words.specs.Letter.{letter_of}
 use Rattle.zic_lines.specs.declared.moment.Moment.{Moment}
 use Rattle.zic_lines.specs.declared.rule_line.Years.{Years}
+use Rattle.zic_lines.specs.declared.rule_line.Times.{Times}
+use Rattle.zic_lines.specs.declared.rule_line.Effect.{Effect}
 use Rattle.zic_lines.specs.declared.rule.Rule.{Rule}
-use Rattle.zic_lines.specs.Checks.{years_of}
+use Rattle.zic_lines.specs.Checks.{years_of, rule_day_of}
 
 -- the checks of FROM and TO
 abbrev pub year_checks : List ℕ → List ℕ → List (Check Kind)
@@ -50,14 +54,41 @@ pub record SayMoment (years : Years) (month day time : List ℕ) (moment : Momen
   pub on_day : day_form_of (is_one_leap_year years.first years.last) moment.month day ≡ Some moment.on
   pub at_time : clock_time_of time ≡ Some moment.at
 
+-- the checks of FROM, TO, the reserved field, IN, ON and AT
+abbrev pub time_checks : List ℕ → List ℕ → List ℕ → List ℕ → List ℕ → List ℕ → List (Check Kind)
+time_checks from to reserved month day time =
+    check (is_some (year_of from)) Year
+    ∷ check (is_some (years_of from to)) Year
+    ∷ check (some_and (years_of from to) (λ years. not (ends_before years.1 years.0))) YearOrder
+    ∷ check (is_dash reserved) Reserved
+    ∷ check (is_some (month_of month)) Month
+    ∷ check (is_some (rule_day_of from to month day)) Day
+    ∷ check (is_some (clock_time_of time)) Time
+    ∷ []
+
+-- these fields say these years and this moment
+pub record SayTimes (from to reserved month day time : List ℕ) (times : Times) : Type 0 where
+  pub years : SayYears from to times.years
+  pub unused : IsTrue (is_dash reserved)
+  pub moment : SayMoment times.years month day time times.moment
+
+-- the checks of SAVE and LETTER
+abbrev pub effect_checks : List ℕ → List ℕ → List (Check Kind)
+effect_checks save letter = check (is_some (saving_of save)) Save ∷ check (is_some (letter_of letter)) Letter ∷ []
+
+-- SAVE and LETTER say this
+pub record SayEffect (save letter : List ℕ) (effect : Effect) : Type 0 where
+  pub saves : saving_of save ≡ Some effect.saving
+  pub abbreviates : letter_of letter ≡ Some effect.letter
+
 -- a rule of these parts
-abbrev pub rule_with : Place → List ℕ → Years → Moment → Saving → List ℕ → Rule
-rule_with place name years moment saving letter = record {
+abbrev pub rule_with : Place → List ℕ → Times → Effect → Rule
+rule_with place name times effect = record {
   place = place;
   name = name;
-  first = years.first;
-  last = years.last;
-  moment = moment;
-  saving = saving;
-  letter = letter;
+  first = times.years.first;
+  last = times.years.last;
+  moment = times.moment;
+  saving = effect.saving;
+  letter = effect.letter;
 }
