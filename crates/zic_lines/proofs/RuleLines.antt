@@ -3,13 +3,12 @@ use Rattle.std.proofs.Common.{◌≡◌, ℕ, true, false, List, [], ◌∷◌, 
 use Rattle.std.specs.Prelude.{not, is_some, IfOk}
 use Rattle.zic_base.specs.Check.{check, first_failed}
 use Rattle.zic_base.specs.declared.fault.Kind.{Kind}
-use Rattle.zic_base.specs.declared.fault.Kind.TheVariants.{Name, Reserved, Month, Day, Time, Save, Letter}
+use Rattle.zic_base.specs.declared.fault.Kind.TheVariants.{Name, Reserved, Month, Day, Time}
 use Rattle.zic_base.specs.Option.{some_and}
 use Rattle.zic_calendar.specs.declared.day_form.On.{On}
 use Rattle.zic_base.specs.declared.place.Place.{Place}
 use Rattle.zic_base.proofs.Checks.{each_passes, first_failed-stops}
 use Rattle.zic_lines.specs.declared.rule.Rule.{Rule}
-use Rattle.zic_lines.specs.declared.moment.Moment.{Moment}
 use Rattle.zic_words.specs.declared.keyword.Keyword.TheVariants as keywords
 use Rattle.zic_words.specs.Keyword.{keyword_of}
 use Rattle.zic_words.specs.Year.{year_of, last_year_of, ends_before, is_one_leap_year}

@@ -1,11 +1,14 @@
 //! Zone lines and continuation lines.
 
-ghost use Rattle.std.specs.Prelude.{◌≡◌, ◌≤◌, ◌∷◌, OnOk, IfOk, IfErr, Some, None, length};
+ghost use Rattle.std.specs.Prelude.{◌≡◌, ◌≤◌, ◌∷◌, OnOk, IfOk, IfErr, Some, None, true, is_some, length};
 ghost use Rattle.zic_base.specs.Check.{first_failed};
 ghost use Rattle.zic_words.specs.declared.keyword.Keyword.TheVariants as keywords;
 ghost use Rattle.zic_lines.specs.Checks.{zone_part_checks, zone_checks, continuation_checks};
 ghost use Rattle.zic_lines.specs.ZoneLine.{IsContinuationLine};
+ghost use Rattle.zic_lines.specs.Format.{format_of};
+ghost use Rattle.zic_lines.specs.Until.{until_of};
 ghost use Rattle.zic_lines.specs.code.Entries.{IsOtherLine, IsZoneOf};
+ghost use Rattle.zic_lines.specs.code.LineParts.{shown_checks};
 ghost use Rattle.zic_lines.specs.code.Texts.{texts_of, BeginsWith};
 
 use crate::entry::Entry;
@@ -58,13 +61,34 @@ fn zone_part(
         return Err(Kind::Offset);
     };
     let rules = parse_rules(alloc, rules)?;
+    let shown = shown_until(alloc, format, until)?;
+    Ok(zone_line_of(place, offset, rules, shown))
+}
+
+/// What a line shows, and until when.
+#[derive(Drop)]
+struct ShownUntil {
+    format: Result<Format, AllocError>,
+    until: Option<Until>,
+}
+
+/// Returns what FORMAT and the fields of an UNTIL say, or the kind of their first fault.
+fn shown_until(alloc: Global, format: &[u8], until: &[CowSlice<'_, u8>]) -> Result<ShownUntil, Kind>
+    requires { length until.now ≤ 4 }
+    ensures format { IfOk result
+        (λ shown. IfOk shown.format (λ made. format_of format.now ≡ Some made)) }
+    ensures just { OnOk result (is_some (format_of format.now) ≡ true) }
+    ensures until { IfOk result (λ shown. until_of (texts_of until.now) ≡ Some shown.until) }
+    ensures fault { IfErr result
+        (λ kind. first_failed (shown_checks format.now (texts_of until.now)) ≡ Some kind) }
+{
     let Some(format) = parse_format(alloc, format) else {
         return Err(Kind::Format);
     };
     let Some(until) = parse_until(until) else {
         return Err(Kind::Until);
     };
-    Ok(zone_line_of(place, offset, rules, format, until))
+    Ok(ShownUntil { format, until })
 }
 
 /// Returns the line of these parts, or out of memory where one of them is.
@@ -72,21 +96,20 @@ fn zone_line_of(
     place: Place,
     offset: i32,
     rules: Result<Rules, AllocError>,
-    format: Result<Format, AllocError>,
-    until: Option<Until>,
+    shown: ShownUntil,
 ) -> Result<ZoneLine, AllocError>
     ensures place { IfOk result (λ line. line.place ≡ place) }
     ensures offset { IfOk result (λ line. line.offset ≡ offset) }
     ensures rules { IfOk result (λ line. rules ≡ Ok line.rules) }
-    ensures format { IfOk result (λ line. format ≡ Ok line.format) }
-    ensures until { IfOk result (λ line. line.until ≡ until) }
+    ensures format { IfOk result (λ line. shown.format ≡ Ok line.format) }
+    ensures until { IfOk result (λ line. line.until ≡ shown.until) }
 {
     Ok(ZoneLine {
         place,
         offset,
         rules: rules?,
-        format: format?,
-        until,
+        format: shown.format?,
+        until: shown.until,
     })
 }
 
@@ -157,8 +180,6 @@ fn named(
 ) -> Result<Entry, AllocError>
     ensures { IfOk result (IsZoneOf name line) }
 {
-    match (name, line) {
-        (Ok(name), Ok(line)) => Ok(Entry::Zone(name, line)),
-        _ => Err(AllocError),
-    }
+    let line = line?;
+    Ok(Entry::Zone(name?, line))
 }

@@ -4,7 +4,7 @@ use Rattle.zic_base.specs.Check.{Check, check}
 use Rattle.zic_base.specs.Option.{◌>>=◌, some_and}
 use Rattle.zic_base.specs.declared.place.Place.{Place}
 use Rattle.zic_base.specs.declared.fault.Kind.{Kind}
-use Rattle.zic_base.specs.declared.fault.Kind.TheVariants.{Year, YearOrder, Reserved, Month, Day, Time, Save, Letter}
+use Rattle.zic_base.specs.declared.fault.Kind.TheVariants.{Year, YearOrder, Reserved, Month, Day, Time, Save, Letter, Format, Until}
 use Rattle.zic_calendar.specs.declared.day_form.On.{On}
 use Rattle.zic_words.specs.Year.{year_of, last_year_of, ends_before, is_one_leap_year}
 use Rattle.zic_words.specs.Month.{month_of}
@@ -18,6 +18,8 @@ use Rattle.zic_lines.specs.declared.rule_line.Years.{Years}
 use Rattle.zic_lines.specs.declared.rule_line.Times.{Times}
 use Rattle.zic_lines.specs.declared.rule_line.Effect.{Effect}
 use Rattle.zic_lines.specs.declared.rule.Rule.{Rule}
+use Rattle.zic_lines.specs.Format.{format_of}
+use Rattle.zic_lines.specs.Until.{until_of}
 use Rattle.zic_lines.specs.Checks.{years_of, rule_day_of}
 
 -- the checks of FROM and TO
@@ -92,3 +94,7 @@ rule_with place name times effect = record {
   saving = effect.saving;
   letter = effect.letter;
 }
+
+-- the checks of FORMAT and the fields of an UNTIL
+abbrev pub shown_checks : List ℕ → List (List ℕ) → List (Check Kind)
+shown_checks format until = check (is_some (format_of format)) Format ∷ check (is_some (until_of until)) Until ∷ []
