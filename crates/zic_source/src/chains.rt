@@ -10,7 +10,7 @@ use crate::owners::{Owner, Owners};
 use std::alloc::{AllocError, Global};
 
 /// The end of a link's chain.
-#[derive(Clone, Copy, Debug, PartialEq, Eq)]
+#[derive(Clone, Copy)]
 pub(crate) enum End {
     /// The zone of this number.
     Zone(usize),

@@ -13,7 +13,7 @@ use zic_lines::{Kind, Place, Stop};
 use zic_words::Name;
 
 /// The owner of a name: the zone or link of this number, from 0.
-#[derive(Clone, Copy, Debug, PartialEq, Eq)]
+#[derive(Clone, Copy)]
 pub(crate) enum Owner {
     Zone(usize),
     Link(usize),

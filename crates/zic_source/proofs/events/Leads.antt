@@ -1,12 +1,10 @@
 -- Reading on from what was read.
-use Rattle.std.proofs.Common.{◌≡◌, ◌≤◌, true, false, cond, ◌⊎◌, inl, inr, List, [], ◌∷◌, ◌++◌, length, Option, Some, None, Result, Ok, Err, refl, sym, ap, subst, ◌∙◌, append_assoc}
+use Rattle.std.proofs.Common.{◌≡◌, ◌≤◌, false, List, [], ◌∷◌, ◌++◌, length, Option, Some, None, Result, Ok, Err, refl, sym, ap, subst, ◌∙◌, append_assoc}
 use Rattle.std.specs.Prelude.{is_some, IsSomeAnd, OnOk}
 use Rattle.std.specs.Option.{option_map, IfSome, IfNone}
 use Rattle.std.proofs.lemmas.List.{append-nil}
-use Rattle.zic_base.specs.Check.{Check, first_failed}
 use Rattle.zic_base.specs.declared.place.Place.{Place}
 use Rattle.zic_base.specs.declared.fault.Fault.{Fault}
-use Rattle.zic_base.specs.declared.fault.Kind.{Kind}
 use Rattle.zic_base.specs.declared.fault.Kind.TheVariants.{NoContinuation}
 use Rattle.zic_base.specs.declared.fault.Stop.{Stop}
 use Rattle.zic_base.specs.Fault.{fault_at, fault_of}
@@ -17,7 +15,7 @@ use Rattle.zic_lines.specs.Line.{PlacedLine}
 use Rattle.zic_lines.specs.declared.field.TheConstants.{LONGEST_LINE}
 use Rattle.zic_lines.specs.Grammar.{Says}
 use Rattle.zic_source.specs.Event.{Event, Line, End}
-use Rattle.zic_source.specs.Source.{SourceLines, zone_lines_of}
+use Rattle.zic_source.specs.Source.{SourceLines}
 use Rattle.zic_source.specs.Grammar.{IsRead, open_line, is_open}
 use Rattle.zic_source.specs.FirstFault.{SaysNext, Fails}
 use Rattle.zic_source.specs.code.Events.{Adds, Leads, IsMet, FailsIn, WantsIn}

@@ -1,6 +1,6 @@
 -- Which checks of a line or of an entry fail.
-use Rattle.std.proofs.Common.{◌≡◌, ℕ, ◌+◌, ◌≤◌, ◌<◌, Bool, true, false, List, [], ◌∷◌, ◌++◌, length, Option, Some, None, refl, sym, ap, ◌∙◌, arith}
-use Rattle.std.specs.Prelude.{◌&&◌, not, is_some, nat_lt, flat_map}
+use Rattle.std.proofs.Common.{◌≡◌, ℕ, ◌+◌, ◌≤◌, ◌<◌, Bool, true, false, List, [], ◌∷◌, ◌++◌, length, Some, None, refl, sym, ap, ◌∙◌, arith}
+use Rattle.std.specs.Prelude.{◌&&◌, not, flat_map}
 use Rattle.std.proofs.lemmas.Bool.{le-leb, lt-ltb, le-ltb}
 use Rattle.std.proofs.lemmas.Grind.{flat_map-append}
 use Rattle.std.proofs.lemmas.List.{length-append}
@@ -18,10 +18,9 @@ use Rattle.zic_lines.specs.declared.zone_line.ZoneLine.{ZoneLine}
 use Rattle.zic_lines.specs.declared.rule.Rule.{Rule}
 use Rattle.zic_lines.specs.declared.entry.Entry.TheVariants as entries
 use Rattle.zic_source.specs.declared.limit.TheConstants.{MAX_RULES, MAX_RULES_OF_SET}
-use Rattle.zic_source.specs.Source.{SourceLines, ZoneLines, set_size, set_rules, lines_of_zone, zone_lines_of}
+use Rattle.zic_source.specs.Source.{SourceLines, ZoneLines, set_size, set_rules, lines_of_zone}
 use Rattle.zic_source.specs.Checks.{entry_checks}
 use Rattle.zic_source.proofs.lookups.Numbers.{set_rules_size}
-use Rattle.zic_source.specs.Grammar.{last_until, is_open}
 use Rattle.zic_source.specs.code.Adding.{continued}
 
 -- ---- checks in a row

@@ -1,5 +1,5 @@
 -- The links' faults and the zones at the ends of their chains, link by link.
-use Rattle.std.proofs.Common.{◌≡◌, ℕ, ◌+◌, ◌⊎◌, inl, inr, ⊎_elim, List, [], ◌∷◌, ◌++◌, length, take, Option, Some, None, refl, sym, ap, subst, ◌∙◌, arith}
+use Rattle.std.proofs.Common.{◌≡◌, ℕ, ◌+◌, inl, inr, ⊎_elim, List, [], ◌∷◌, ◌++◌, length, take, Option, Some, None, sym, ap, subst, ◌∙◌, arith}
 use Rattle.std.specs.Prelude.{slice_get}
 use Rattle.std.proofs.lemmas.List.{length-append}
 use Rattle.zic_base.specs.declared.fault.Fault.{Fault}
@@ -9,7 +9,7 @@ use Rattle.zic_source.specs.Source.{SourceLines}
 use Rattle.zic_source.specs.Links.{EndsAtZone, EndsAt}
 use Rattle.zic_source.specs.code.Owners.{IndexesNames}
 use Rattle.zic_source.specs.code.Chains.{EndsAtNumber}
-use Rattle.zic_source.specs.code.Faults.{LinkHas, IsEarlier, IsFirst, IsFirstOf}
+use Rattle.zic_source.specs.code.Faults.{LinkHas, IsEarlier, IsFirstOf}
 use Rattle.zic_source.proofs.lookups.Named.{get_push_cases}
 use Rattle.zic_source.proofs.links.Ways.{ends_at_some, link_excludes}
 use Rattle.zic_source.proofs.faults.Earlier.{only_fault, earlier_none, second_none, first_of_more}

@@ -1,6 +1,6 @@
 -- Where the chains of links end: each name leads one way.
-use Rattle.std.proofs.Common.{◌≡◌, ◌<◌, ℕ, true, false, ⊎_elim, List, [], ◌∷◌, length, Option, Some, None, refl, sym, ap, subst, ◌∙◌}
-use Rattle.std.specs.Prelude.{Contains, not, is_some, slice_get, IsSomeAnd, ◌⊎◌}
+use Rattle.std.proofs.Common.{◌≡◌, ◌<◌, ℕ, true, false, ⊎_elim, List, [], ◌∷◌, length, Option, Some, None, refl, sym, ap, ◌∙◌}
+use Rattle.std.specs.Prelude.{Contains, not, is_some, slice_get}
 use Rattle.std.proofs.lemmas.Bool.{false_from_ne_true}
 use Rattle.std.proofs.lemmas.Option.{slice_get_within}
 use Rattle.zic_lines.specs.declared.link.Link.{Link}
@@ -11,7 +11,7 @@ use Rattle.zic_source.specs.declared.owners.Owner.{Owner}
 use Rattle.zic_source.specs.declared.owners.Owner.TheVariants as named
 use Rattle.zic_source.specs.declared.owners.Owners.{Owners}
 use Rattle.zic_source.specs.Source.{SourceLines, ZoneLines, zone_at}
-use Rattle.zic_source.specs.Links.{is_link_name, is_named, IsPath, LeadsTo, EndsAtZone, EndsAt, EndsNowhere, HasNoEnd}
+use Rattle.zic_source.specs.Links.{is_link_name, is_named, IsPath, LeadsTo, EndsAtZone, EndsAt}
 use Rattle.zic_source.specs.code.Owners.{who, IndexesNames}
 use Rattle.zic_source.specs.code.Chains.{EndsAs}
 use Rattle.zic_source.specs.code.Faults.{LinkHas}

@@ -6,6 +6,10 @@ use Rattle.zic_source.specs.code.Lines.{source_lines}
 use Rattle.zic_source.specs.code.Chains.{HasEnd, AreRight}
 use Rattle.zic_source.proofs.chains.chain_ends.Goals as goal
 
+pub settle-requires-clause-right : goal.settle-requires-clause-right
+settle-requires-clause-right c =
+    subst (λ (xs : List (Option End)). AreRight (source_lines c.args.lines.now) xs) (sym c.deref_mut.ensures.value) c.loop-link.invariant.right
+
 pub loop-link-preserved : goal.loop-link-preserved
 loop-link-preserved c =
     let as_long : length c.settle.new.ends ≡ c.loop-link.ends.len = omega (arith, c.settle.auto.ends, ap length c.deref_mut.ensures.value, c.loop-link.ends.ok.0) in

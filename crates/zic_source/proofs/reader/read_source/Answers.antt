@@ -1,11 +1,8 @@
-use Rattle.std.proofs.Common.{inr}
 use Rattle.std.proofs.lemmas.Result.{err_from_is_err_and}
-use Rattle.zic_base.specs.Fault.{fault_of}
 use Rattle.zic_source.specs.Texts.{texts_of}
 use Rattle.zic_source.specs.Grammar.{IsSource}
 use Rattle.zic_source.specs.code.Lines.{source_lines}
 use Rattle.zic_source.proofs.sound.Sources.{source_is_sound}
-use Rattle.zic_source.proofs.events.Leads.{if_some_map}
 use Rattle.zic_source.proofs.events.Loops.{all_read, reading_fails, reading_wants, whole_fails, whole_wants, never_refuses}
 use Rattle.zic_source.proofs.reader.read_source.Goals as goal
 
