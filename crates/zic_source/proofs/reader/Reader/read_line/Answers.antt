@@ -16,6 +16,15 @@ returns-then-len-eq0-clause-read c =
     let none : c.take_line.new.self ≡ [] = nil_from_length c.take_line.new.self (sym c.len.ensures ∙ c.if-len-eq0.true) in
     blank_leads (source_lines c.args.self.now.lines) (record { place = c.args.place; bytes = c.args.line.now }) (c.in_ok-take_line.ensures.ok.0, sym c.in_ok-take_line.ensures.ok.1 ∙ none)
 
+pub returns-then-len-eq0-clause-tracks : goal.returns-then-len-eq0-clause-tracks
+returns-then-len-eq0-clause-tracks c = record { sets = c.requires.sets; names = c.requires.names; counted = c.requires.counted }
+
+pub add-requires-clause-tracks : goal.add-requires-clause-tracks
+add-requires-clause-tracks c = record { sets = c.requires.sets; names = c.requires.names; counted = c.requires.counted }
+
+pub returns-clause-tracks : goal.returns-clause-tracks
+returns-clause-tracks c = c.add.ensures.tracks
+
 pub returns-in_err-entry-clause-fault : goal.returns-in_err-entry-clause-fault
 returns-in_err-entry-clause-fault c =
     let p = err_from_is_err_and c.from_residual-in_err-entry.result c.from_residual-in_err-entry.ensures.1 in
