@@ -499,9 +499,11 @@ typedef struct task {
     pzic_handle zone;
 } task;
 
-// What each thread does: it uses its handle of the shared zone, and reads a zone of its own.
+// What each thread does: it uses its handle of the shared zone, reads a zone of its own, and makes
+// files and rows, so that each call is made from each thread.
 static void *work(void *argument) {
     task *mine = argument;
+    go_over_spans(&mine->zone);
     compare_column(&mine->zone, false);
     compare_column(&mine->zone, true);
     for (int i = 0; i < 50; i++) {
@@ -514,6 +516,7 @@ static void *work(void *argument) {
         pzic_free(&own);
         pzic_free(&again);
     }
+    compile_source();
     convert_columns();
     compile_texts();
     name_faults();

@@ -2,8 +2,9 @@
 # Times whole runs of the program beside the system's zic in its slim form. They take turns, on a
 # file system in memory if there is one. The runs are `build` by 1, 2 and 4 workers, and `check`, of
 # the system's release of the tz database and of two sources at the limits: 10,000 zones of one
-# line, and 10,000 rules with 10,000 lines of 5,000 zones. Prints the milliseconds of the best of
-# five runs, and the memory of one run. Needs `rt`, `zic`, GNU time and the release.
+# line, and 10,000 rules with 10,000 lines of 5,000 zones. Prints the milliseconds of the best of 25
+# runs for the release and of five for the others, and the memory of one run. Needs `rt`, `zic`, GNU
+# time and the release.
 set -eu
 . "$(dirname "$0")/common.sh"
 program=crates/zic_main/out/zic_main
@@ -46,12 +47,14 @@ memory() {
 }
 
 calls='zic build1 build2 build4 check1 check4'
+runs=25
 for source in "$release" "$work/zones" "$work/lines"; do
     rm -f "$work"/best.*
-    for _ in 1 2 3 4 5; do
+    for _ in $(seq "$runs"); do
         for name in $calls; do call once "$name" "$source"; done
     done
     for name in $calls; do
         show "$(basename "$source"), $name, $(call memory "$name" "$source") MB" "$(cat "$work/best.$name")"
     done
+    runs=5
 done

@@ -10,16 +10,31 @@ trap 'exit 143' HUP TERM
 release=/usr/share/zoneinfo/tzdata.zi
 probe=crates/probe/out/probe
 input=/dev/null
+# Debian's own Python may have numpy.
+python=python3
+[ ! -x /usr/bin/python3 ] || python=/usr/bin/python3
+# A folder with a file for each program that is built.
+export BUILT="${BUILT:-$work}"
 
-# build CRATE WORD...: proves and builds a program, by running it with these words. Its output is
-# then in $work/proved.out.
+# build CRATE WORD...: proves and builds a program once, by running it with these words.
 build() {
     crate=$1
     shift
-    (cd "crates/$crate" && rt run -- "$@") <"$input" >"$work/proved.out" 2>"$work/build.log" || {
+    [ ! -e "$BUILT/$crate" ] || return 0
+    (cd "crates/$crate" && rt run -- "$@") <"$input" >"$work/build.log" 2>&1 || {
         cat "$work/build.log" >&2
         exit 1
     }
+    : >"$BUILT/$crate"
+}
+
+# has FILE PACKAGE: tells whether a file of a Debian package is there. Installs the package first if
+# that is needed, and says so if it can't be had.
+has() {
+    [ ! -e "$1" ] || return 0
+    if apt-get update -qq >&2 && DEBIAN_FRONTEND=noninteractive apt-get install -y -qq "$2" >&2; then return 0; fi
+    echo "$2 can't be had" >&2
+    return 1
 }
 
 # plain NAME: builds $work/NAME from bench/NAME.rs, in plain Rust.

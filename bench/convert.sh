@@ -2,7 +2,7 @@
 # Times `pzic convert` beside two other converters, each by 1 and 4 workers: the plain Rust of
 # `convert.rs`, and Debian's C++ date library with a cache of spans (`convert.cpp`).
 #
-# usage: convert.sh [ROWS] | convert.sh stream [ROWS]
+# usage: convert.sh [ROWS] | convert.sh others [ROWS] | convert.sh stream [ROWS]
 #
 # The columns have ROWS rows, by default 10,000,000. `random` has random zones of the system's
 # release of the tz database and random instants from 1970 to 2037; `rising` has America/New_York,
@@ -19,18 +19,25 @@
 # source, and `--append` on records of ten fields, beside the C++ library. The last line is the time
 # of a whole run with a column of one row.
 #
+# With the word `others`, pzic runs beside other languages: the C++ library and Go (`convert.go`), by 1
+# and 4 workers, and zoneinfo of Python (`convert.py`), which converts a twentieth of the rows. The
+# columns are `random` and `rising` of ROWS rows, by default 2,000,000. All rows must be the same, and
+# each line has the M rows/s of a converter.
+#
 # With the word `stream`, only pzic runs. It converts a column of ROWS rows through pipes, by
 # default 100,000,000 rows, which are just under 4 GiB.
 #
 # The variable PZIC names the program, if it shouldn't be built. Needs `rt`, `rustc`, `g++`, GNU
-# time, the release, and the C++ library or apt-get to install it.
+# time, the release, and the C++ library and Go or apt-get to install them.
 set -eu
 . "$(dirname "$0")/common.sh"
 mode=table
-if [ "${1:-}" = stream ]; then
-    mode=stream
+case ${1:-} in
+others | stream)
+    mode=$1
     shift
-fi
+    ;;
+esac
 runs=${RUNS:-3}
 program=${PZIC:-crates/zic_main/out/zic_main}
 [ "${PZIC:-}" ] || build zic_main check -
@@ -63,12 +70,7 @@ fi
 
 # ------------------------------------------------------------------ the converters
 
-rows=${1:-10000000}
-plain convert
-[ -f /usr/include/date/tz.h ] || {
-    apt-get update -qq >&2
-    DEBIAN_FRONTEND=noninteractive apt-get install -y -qq libhowardhinnant-date-dev >&2
-}
+has /usr/include/date/tz.h libhowardhinnant-date-dev
 g++ -std=c++17 -O2 -DUSE_OS_TZDB=1 -pthread -o "$work/library" bench/convert.cpp -ldate-tz
 
 # convert CONVERTER WORKERS: converts standard input, and keeps the memory of the run in kilobytes.
@@ -80,6 +82,8 @@ convert() {
     convert.rs:*) set -- "$work/convert" "$work/tree" "$2" ;;
     convert.cpp:wide) set -- "$work/library" "$2" append ;;
     convert.cpp:*) set -- "$work/library" "$2" ;;
+    convert.go:*) set -- env ZONEINFO="$work/tree" "$work/go" "$2" ;;
+    convert.py:*) set -- env PYTHONTZPATH="$work/tree" "$python" bench/convert.py "$few" ;;
     esac
     command time -f %M -o "$work/kilobytes" "$@"
 }
@@ -90,7 +94,17 @@ column() {
     "$work/column" "$1" "$2" <"$work/zones" >"$work/column.csv"
 }
 
-# ------------------------------------------------------------------ the rows compared
+# once CONVERTER WORKERS: runs a converter, and keeps the nanoseconds and kilobytes of the run.
+once() {
+    start=$(date +%s%N)
+    convert "$1" "$2" <"$work/column.csv" >/dev/null
+    echo "$(($(date +%s%N) - start)) $(tail -n 1 "$work/kilobytes")" >>"$work/runs.$1.$2"
+}
+
+# best_of CONVERTER WORKERS: prints the nanoseconds of the best run.
+best_of() {
+    sort -n "$work/runs.$1.$2" | head -n 1 | cut -d ' ' -f 1
+}
 
 # compare KIND CONVERTER WORKERS: compares the rows with those of pzic by 1 worker.
 compare() {
@@ -101,6 +115,56 @@ compare() {
     [ "$1 $2" = 'footer convert.cpp' ]
 }
 
+# ------------------------------------------------------------------ other languages
+
+# speed CONVERTER WORKERS ROWS: prints the M rows/s of the best run.
+speed() {
+    best_of "$1" "$2" | awk -v workers="$2" -v rows="$3" '{ printf "%.2f M rows/s by %d", rows * 1e3 / $1, workers }'
+}
+
+# time_others KIND: compares and times all converters on a column, and prints a line for each.
+time_others() {
+    kind=$1
+    rm -f "$work"/runs.*
+    column "$kind" "$rows"
+    convert pzic 1 <"$work/column.csv" >"$work/wanted"
+    compare "$kind" pzic 4
+    for converter in convert.cpp convert.go; do
+        for workers in 1 4; do compare "$kind" "$converter" "$workers"; done
+    done
+    head -n "$few" "$work/wanted" >"$work/first"
+    mv "$work/first" "$work/wanted"
+    compare "$kind" convert.py 1
+    turn=0
+    while [ "$turn" -lt "$runs" ]; do
+        for converter in pzic convert.cpp convert.go; do
+            for workers in 1 4; do once "$converter" "$workers"; done
+        done
+        once convert.py 1
+        turn=$((turn + 1))
+    done
+    for converter in pzic convert.cpp convert.go; do
+        echo "$kind, $converter: $(speed "$converter" 1 "$rows"), $(speed "$converter" 4 "$rows")"
+    done
+    echo "$kind, convert.py: $(speed convert.py 1 "$few")"
+}
+
+if [ "$mode" = others ]; then
+    command -v go >/dev/null || has /usr/bin/go golang-go
+    go build -o "$work/go" bench/convert.go
+    rows=${1:-2000000}
+    sample=$rows
+    few=$((rows / 20))
+    echo "columns of $rows rows, to nowhere, best of $runs: $(load)"
+    for kind in random rising; do time_others "$kind"; done
+    load
+    exit
+fi
+
+# ------------------------------------------------------------------ the table's rows compared
+
+plain convert
+rows=${1:-10000000}
 sample=$((rows < 1000000 ? rows : 1000000))
 for kind in random rising footer quoted; do
     column "$kind" "$sample"
@@ -124,18 +188,6 @@ rm -f "$work/wanted" "$work/rows"
 echo "all other rows of columns of $sample rows are the same"
 
 # ------------------------------------------------------------------ the times
-
-# once CONVERTER WORKERS: runs a converter, and keeps the nanoseconds and kilobytes of the run.
-once() {
-    start=$(date +%s%N)
-    convert "$1" "$2" <"$work/column.csv" >/dev/null
-    echo "$(($(date +%s%N) - start)) $(tail -n 1 "$work/kilobytes")" >>"$work/runs.$1.$2"
-}
-
-# best_of CONVERTER WORKERS: prints the nanoseconds of the best run.
-best_of() {
-    sort -n "$work/runs.$1.$2" | head -n 1 | cut -d ' ' -f 1
-}
 
 # line KIND WORKERS: prints a line of the table.
 line() {
