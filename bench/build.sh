@@ -3,8 +3,7 @@
 # file system in memory if there is one. The runs are `build` by 1, 2 and 4 workers, and `check`, of
 # the system's release of the tz database and of two sources at the limits: 10,000 zones of one
 # line, and 10,000 rules with 10,000 lines of 5,000 zones. Prints the milliseconds of the best of 25
-# runs for the release and of five for the others, and the memory of one run. Needs `rt`, `zic`, GNU
-# time and the release.
+# runs, five and two, and the memory of one run. Needs `rt`, `zic`, GNU time and the release.
 set -eu
 . "$(dirname "$0")/common.sh"
 program=crates/zic_main/out/zic_main
@@ -47,8 +46,13 @@ memory() {
 }
 
 calls='zic build1 build2 build4 check1 check4'
-runs=25
 for source in "$release" "$work/zones" "$work/lines"; do
+    # zic takes half a minute for the last one.
+    case $source in
+    */zones) runs=5 ;;
+    */lines) runs=2 ;;
+    *) runs=25 ;;
+    esac
     rm -f "$work"/best.*
     for _ in $(seq "$runs"); do
         for name in $calls; do call once "$name" "$source"; done
@@ -56,5 +60,4 @@ for source in "$release" "$work/zones" "$work/lines"; do
     for name in $calls; do
         show "$(basename "$source"), $name, $(call memory "$name" "$source") MB" "$(cat "$work/best.$name")"
     done
-    runs=5
 done

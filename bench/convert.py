@@ -17,8 +17,9 @@ def offset_text(offset):
 
 
 rows = csv.writer(sys.stdout, lineterminator="\n")
+zone_of = functools.lru_cache(maxsize=None)(ZoneInfo)
 for name, instant in itertools.islice(csv.reader(sys.stdin), int(sys.argv[1])):
-    local = datetime.fromtimestamp(int(instant), ZoneInfo(name))
+    local = datetime.fromtimestamp(int(instant), zone_of(name))
     time = local.replace(tzinfo=None).isoformat()
     offset = offset_text(local.utcoffset())
     rows.writerow((name, instant, time, offset, int(bool(local.dst())), local.tzname()))

@@ -4,4 +4,4 @@
 set -eu
 . "$(dirname "$0")/common.sh"
 bench/build.sh
-bench/convert.sh others
+RUNS=${RUNS:-5} bench/convert.sh others
