@@ -27,16 +27,31 @@ pub(crate) fn column_start<R: Files + AllocGlobal>(rt: &R) -> Option<u64> {
 /// this offset on, cut where it is long; `None` where it can't be read.
 pub(crate) fn record_at<R: Files + AllocGlobal>(rt: &R, start: u64, row: u64) -> Option<Vec<u8>> {
     let (from, to) = record_range(rt, start, row)?;
-    let mut file = fs::open(rt, INPUT).ok()?;
-    file.seek(SeekFrom::Start(start.checked_add(from)?)).ok()?;
-    let mut text = Vec::new(rt.alloc());
-    let length = to.checked_sub(from)?;
-    file.take(length.min(LONGEST)).read_to_end(&mut text).ok()?;
+    let text = read_from(
+        rt,
+        start.checked_add(from)?,
+        to.saturating_sub(from).min(LONGEST),
+    )?;
     let record = without_start(from, &text);
     if record.is_empty() {
         return None;
     }
     Vec::from_slice(rt.alloc(), record).ok()
+}
+
+/// Returns the bytes of the file of standard input from this offset on, at most so many.
+fn read_from<R: Files + AllocGlobal>(rt: &R, offset: u64, most: u64) -> Option<Vec<u8>> {
+    let file = file_from(rt, offset)?;
+    let mut text = Vec::new(rt.alloc());
+    file.take(most).read_to_end(&mut text).ok()?;
+    Some(text)
+}
+
+/// Opens the file of standard input at this offset.
+fn file_from<R: Files + AllocGlobal>(rt: &R, offset: u64) -> Option<R::File> {
+    let mut file = fs::open(rt, INPUT).ok()?;
+    file.seek(SeekFrom::Start(offset)).ok()?;
+    Some(file)
 }
 
 /// Returns what stands after a byte order mark at the start of the column, and after line ends.
@@ -51,18 +66,18 @@ fn without_start(from: u64, text: &[u8]) -> &[u8] {
     }
 }
 
+/// A record of the column, and the places where it begins and ends.
+#[derive(Drop)]
+struct Found {
+    fields: ByteRecord,
+    from: u64,
+    to: u64,
+}
+
 /// Returns the places in the column where the record of this number begins and ends.
 fn record_range<R: Files + AllocGlobal>(rt: &R, start: u64, row: u64) -> Option<(u64, u64)> {
-    let mut reader = reader_from(rt, start, b',')?;
-    let mut record = ByteRecord::new(rt.alloc());
-    let mut from = 0;
-    for _ in 0..row {
-        from = reader.position().byte();
-        if !reader.read_byte_record(&mut record).ok()? {
-            return None;
-        }
-    }
-    Some((from, reader.position().byte()))
+    let found = find_record(rt, start, row, b',')?;
+    Some((found.from, found.to))
 }
 
 /// Returns the record of this number, from 1 on, in the file of standard input from this offset on,
@@ -73,14 +88,36 @@ pub(crate) fn fields_at<R: Files + AllocGlobal>(
     row: u64,
     delimiter: u8,
 ) -> Option<ByteRecord> {
+    let found = find_record(rt, start, row, delimiter)?;
+    Some(found.fields)
+}
+
+/// Finds the record of this number, as [`fields_at`] does.
+fn find_record<R: Files + AllocGlobal>(
+    rt: &R,
+    start: u64,
+    row: u64,
+    delimiter: u8,
+) -> Option<Found> {
     let mut reader = reader_from(rt, start, delimiter)?;
-    let mut record = ByteRecord::new(rt.alloc());
+    let mut fields = ByteRecord::new(rt.alloc());
+    let mut from = 0;
+    let mut is_there = true;
     for _ in 0..row {
-        if !reader.read_byte_record(&mut record).ok()? {
-            return None;
-        }
+        from = reader.position().byte();
+        is_there = is_there && has_next(&mut reader, &mut fields);
     }
-    Some(record)
+    let to = reader.position().byte();
+    if is_there {
+        Some(Found { fields, from, to })
+    } else {
+        None
+    }
+}
+
+/// Reads the next record. Returns whether there is one that can be read.
+fn has_next<F: Read>(reader: &mut Reader<F>, record: &mut ByteRecord) -> bool {
+    matches!(reader.read_byte_record(record), Ok(true))
 }
 
 /// Returns a reader of records of the file of standard input from this offset on.
@@ -89,8 +126,7 @@ fn reader_from<R: Files + AllocGlobal>(
     start: u64,
     delimiter: u8,
 ) -> Option<Reader<R::File>> {
-    let mut file = fs::open(rt, INPUT).ok()?;
-    file.seek(SeekFrom::Start(start)).ok()?;
+    let file = file_from(rt, start)?;
     let reader = ReaderBuilder::new()
         .has_headers(false)
         .flexible(true)

@@ -6,6 +6,7 @@ use crate::failure::Refusal;
 use crate::refused::ZonePlace;
 use std::alloc::{AllocError, Global};
 use std::fs::Files;
+use std::slice;
 use zic_command_line::{Request, Zones};
 use zic_explain::{entries, expectation, line_place, nearest_zone, row_place};
 use zic_io::Failure;
@@ -183,25 +184,27 @@ fn zones_of(alloc: Global, request: &Request) -> Result<Option<ZonePlace>, Alloc
     }
 }
 
-/// Returns the words of a request that name sources or a file.
+/// Returns copies of the words of a request that name sources or a file.
 fn words_of(alloc: Global, request: &Request) -> Result<Vec<String>, AllocError> {
     let mut words = Vec::new(alloc);
-    match request {
-        Request::Check { source, .. } => words.push(source.clone()?)?,
-        Request::Convert(order) => {
-            if let Zones::Source(source) = &order.zones {
-                words.push(source.clone()?)?;
-            }
-        }
-        Request::Build { sources, .. } => {
-            for source in sources {
-                words.push(source.clone()?)?;
-            }
-        }
-        Request::Show { file, .. } | Request::Dump { file, .. } => words.push(file.clone()?)?,
-        Request::Explain { .. } | Request::Version { .. } => {}
+    for word in named_in(request) {
+        words.push(word.clone()?)?;
     }
     Ok(words)
+}
+
+/// Returns the words of a request that name sources or a file.
+fn named_in(request: &Request) -> &[String] {
+    match request {
+        Request::Check { source, .. } => slice::from_ref(source),
+        Request::Convert(order) => match &order.zones {
+            Zones::Source(source) => slice::from_ref(source),
+            Zones::Tree(_) => &[],
+        },
+        Request::Build { sources, .. } => sources,
+        Request::Show { file, .. } | Request::Dump { file, .. } => slice::from_ref(file),
+        Request::Explain { .. } | Request::Version { .. } => &[],
+    }
 }
 
 /// Returns the name under which a failure is explained.

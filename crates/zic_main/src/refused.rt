@@ -72,9 +72,9 @@ impl ZonePlace {
         let Some(octets) = folder.read(alloc, &name)? else {
             return Ok(String::new(alloc));
         };
-        match Image::read(alloc, octets) {
-            Ok(_) => Ok(String::new(alloc)),
-            Err(unfit) => self.lines(alloc, &name, unfit),
+        match Image::read(alloc, octets).err() {
+            None => Ok(String::new(alloc)),
+            Some(unfit) => self.lines(alloc, &name, unfit),
         }
     }
 
