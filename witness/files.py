@@ -2,15 +2,14 @@
 """Compares the files of a release of the tz database with those that the system's zic makes of it, and what Tugboreke's reader
 answers with two other readers: Python's zoneinfo and reader.py.
 
-usage: files.py FOLDER PROBE
+usage: files.py FOLDER
 
-FOLDER has the folders `ours`, `fat` and `slim`, with our files and those of `zic -b fat` and `zic -b slim`. PROBE is the program of
-crates/probe, which answers by its word `files`. Prints a line for each comparison, and each difference; the status is 1 if there is one.
+FOLDER has the folders `ours`, `fat` and `slim`, with our files and those of `zic -b fat` and `zic -b slim`. by_library.py asks the
+library, which the variable PZIC_LIBRARY names. Prints a line for each comparison, and each difference; the status is 1 if there is one.
 """
 import io
 import os
 import random
-import subprocess
 import sys
 from collections import Counter
 from functools import lru_cache
@@ -117,20 +116,12 @@ def compare_with_fat(folder, names):
 
 # ------------------------------------------------------------------ answers
 
-def answers_of(program, questions):
-    """one answer for each of these lines"""
-    ran = subprocess.run([program, "files"], input="".join(questions), stdout=subprocess.PIPE, text=True, encoding="ascii", check=True)
-    answers = ran.stdout.split("\n")[:-1]
-    assert len(answers) == len(questions), f"{len(answers)} answers to {len(questions)} questions"
-    return answers
-
-
-def compare_answers(program, expected):
-    """holds the program's answers to questions against these"""
-    answers = answers_of(program, [question for question, _ in expected])
-    for answer, (question, wanted) in zip(answers, expected):
-        if answer != wanted:
-            differ(f"{question.rstrip()}: {answer}, and not {wanted}")
+def compare_answers(answers_of, expected):
+    """holds the library's answers against these: for each file a name, its octets, and instants with what is to be answered"""
+    for name, octets, lines in expected:
+        for (t, wanted), answer in zip(lines, answers_of(octets, [t for t, _ in lines])):
+            if answer != wanted:
+                differ(f"{name} at {t}: {answer}, and not {wanted}")
 
 
 @lru_cache(maxsize=None)
@@ -150,76 +141,76 @@ def expected_of(octets):
     return expected
 
 
-def compare_form(program, folder, form, names):
+def compare_form(answers_of, folder, form, names):
     expected, refused = [], []
     for name in names:
-        path = f"{folder}/{form}/{name}"
-        lines = expected_of(octets_of(path))
-        expected += [(f"{path} {t}\n", line) for t, line in lines]
+        octets = octets_of(f"{folder}/{form}/{name}")
+        lines = expected_of(octets)
+        expected.append((f"{form}/{name}", octets, lines))
         if len(lines) == 1:
             refused.append(f"{name} {lines[0][1]}")
             if KNOWN.get(f"{form}/{name}") != lines[0][1]:
                 differ(f"{form}/{name}: refused as {lines[0][1]}")
-    compare_answers(program, expected)
+    compare_answers(answers_of, expected)
     but = f" but {', '.join(refused)}" if refused else ""
-    report(f"all of {len(names)} {form} files{but} read, {len(expected)} answers by zoneinfo and reader.py")
+    total = sum(len(lines) for _, _, lines in expected)
+    report(f"all of {len(names)} {form} files{but} read, {total} answers by zoneinfo and reader.py")
 
 
 # ------------------------------------------------------------------ changed octets
 
-def expected_of_changed(path, changes):
-    """what reader.py answers over the file at a path for each octet set to a value, at three instants"""
+def expected_of_changed(name, octets, changes):
+    """what reader.py answers over a file for each octet set to a value, at three instants"""
     instants = 0, 1225605599, 4102444800
     for place, value in changes:
-        octets = reader.changed(octets_of(path), place, value)
+        changed = reader.changed(octets, place, value)
         try:
-            file = reader.read(octets)
-            lines = [reader.line(reader.at(file, t)) for t in instants]
+            file = reader.read(changed)
+            lines = [(t, reader.line(reader.at(file, t))) for t in instants]
         except reader.Refused as refused:
-            lines = [refused.args[0]] * len(instants)
-        for t, line in zip(instants, lines):
-            yield f"{path} {t} {place} {value}\n", line
+            lines = [(t, refused.args[0]) for t in instants]
+        yield f"{name} with octet {place} set to {value}", changed, lines
 
 
-def compare_changed(program, what, expected):
-    compare_answers(program, expected)
-    counts = Counter(line if " " not in line else "accepted" for _, line in expected[::3])
+def compare_changed(answers_of, what, expected):
+    compare_answers(answers_of, expected)
+    first = (lines[0][1] for _, _, lines in expected)
+    counts = Counter(line if " " not in line else "accepted" for line in first)
     text = ", ".join(f"{count} {name}" for name, count in sorted(counts.items()))
-    report(f"{what}, {len(expected) // 3} files by reader.py ({text})")
+    report(f"{what}, {len(expected)} files by reader.py ({text})")
 
 
-def compare_worked(program, folder):
+def compare_worked(answers_of):
     """each octet of the worked files set to each value"""
     for octets in (reader.worked(), reader.worked_with_indicators()):
-        path = f"{folder}/{len(octets)}"
-        with open(path, "wb") as file:
-            file.write(octets)
+        what = f"each of {len(octets)} octets set to each value"
         changes = ((place, value) for place in range(len(octets)) for value in range(256))
-        compare_changed(program, f"each of {len(octets)} octets set to each value", list(expected_of_changed(path, changes)))
+        compare_changed(answers_of, what, list(expected_of_changed("the worked file", octets, changes)))
 
 
-def compare_by_chance(program, folder, names):
+def compare_by_chance(answers_of, folder, names):
     random.seed(1)
     expected = []
     for name in random.choices(names, k=1000):
-        path = f"{folder}/slim/{name}"
-        length = len(octets_of(path))
-        changes = [(random.randrange(length), random.randrange(256)) for _ in range(20)]
-        expected += expected_of_changed(path, changes)
-    compare_changed(program, "random bytes of slim files", expected)
+        octets = octets_of(f"{folder}/slim/{name}")
+        changes = [(random.randrange(len(octets)), random.randrange(256)) for _ in range(20)]
+        expected += expected_of_changed(name, octets, changes)
+    compare_changed(answers_of, "random bytes of slim files", expected)
 
 
 def main():
-    folder, program = sys.argv[1:]
+    # the scripts that use this file's other functions have no library
+    from by_library import answers_of
+    folder, = sys.argv[1:]
     names = {form: names_of(f"{folder}/{form}") for form in ("ours", "fat", "slim")}
     compare_names(names)
     both = sorted(set.intersection(*map(set, names.values())))
     compare_footers(folder, both)
     compare_with_fat(folder, both)
     for form in names:
-        compare_form(program, folder, form, both)
-    compare_worked(program, folder)
-    compare_by_chance(program, folder, both)
+        compare_form(answers_of, folder, form, both)
+    compare_worked(answers_of)
+    compare_by_chance(answers_of, folder, both)
     sys.exit(found["in all"] != 0)
 
 

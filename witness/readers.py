@@ -4,9 +4,8 @@ zoneinfo.
 
 usage: readers.py PROGRAM LIST FOLDER
 
-The footers are those of LIST, one a line, and of the TZif files in FOLDER. PROGRAM is that of crates/probe, which by its word
-`footers` answers lines `FOOTER INSTANT` with lines `OFFSET FLAG ABBREVIATION`. It is asked one second before each edge from 1970 to
-2500, at the edge, and one second after it.
+The footers are those of LIST, one a line, and of the TZif files in FOLDER. PROGRAM is that of crates/probe, which is asked by the
+call `strings states` of its word `rows`: one second before each edge from 1970 to 2500, at the edge, and one second after it.
 
 A reader may differ only where it is known to (docs/DECISIONS.md, "Other readers of footers"), and there has to show just what its
 own way gives: an instant where it does is left out. PROGRAM may never differ from the definitions as footers.py has them. Prints
@@ -110,15 +109,18 @@ class Meaning:
 
 # ------------------------------------------------------------------ readers
 
-def ask_program(program, questions):
+def ask_program(program, meanings):
     """its answers as (offset, flag, abbreviation)"""
-    lines = "".join(f"{text} {t}\n" for text, t in questions)
-    answers = subprocess.run([program, "footers"], input=lines, stdout=subprocess.PIPE, text=True, check=True).stdout.splitlines()
-    if len(answers) != len(questions):
-        sys.exit(f"{len(answers)} answers to {len(questions)} questions")
+    calls = [(text.encode().hex(), [str(t) for t in meaning.instants()]) for text, meaning in meanings.items()]
+    lines = "".join(f"strings states {' '.join(instants)} :{digits}\n" for digits, instants in calls)
+    answers = subprocess.run([program, "rows"], input=lines, stdout=subprocess.PIPE, text=True, check=True).stdout.splitlines()
+    wanted = [t for _, instants in calls for t in [*instants, "."]]
+    if [answer.split()[0] for answer in answers] != wanted:
+        sys.exit(f"{len(answers)} lines of answers to {len(wanted)} lines of questions, or to others")
     for answer in answers:
-        offset, flag, name = answer.split()
-        yield int(offset), int(flag), name
+        if answer != ".":
+            _, offset, flag, name = answer.split()
+            yield int(offset), int(flag), name
 
 
 class Glibc:
@@ -228,8 +230,8 @@ def main():
     os.environ["TZDIR"] = "/dev/null"
     parsed = {text: parse(text) for text in footers_of(listed, folder)}
     meanings = {text: Meaning(footer) for text, footer in parsed.items()}
-    questions = [(text, t) for text, meaning in meanings.items() for t in meaning.instants()]
-    answers = ask_program(program, questions)
+    answers = list(ask_program(program, meanings))
+    count, answers = len(answers), iter(answers)
     left_out, differences = Counter(), 0
     for text, footer in parsed.items():
         for difference in differences_of(text, footer, meanings[text], answers, left_out):
@@ -237,7 +239,7 @@ def main():
             if differences <= 20:
                 print(*difference, file=sys.stderr)
     counts = ", ".join(f"{left_out[kind]} of {kind.name} left out" for kind in READERS)
-    print(f"{len(parsed)} footers, {len(questions)} instants, {differences} differences; {counts}")
+    print(f"{len(parsed)} footers, {count} instants, {differences} differences; {counts}")
     sys.exit(differences != 0)
 
 

@@ -107,6 +107,18 @@ impl Answers {
         self.joined(b":", &place.line);
     }
 
+    /// Prints the text, or why there is no answer.
+    pub fn print_answered(
+        &self,
+        rt: &impl Print,
+        answered: Result<(), Stop>,
+    ) -> io::Result<ExitCode> {
+        match answered {
+            Ok(()) => self.print(rt),
+            Err(stop) => print_stop(rt, stop),
+        }
+    }
+
     /// Prints the text, or that there was too little memory for it.
     pub fn print(&self, rt: &impl Print) -> io::Result<ExitCode> {
         if !self.is_whole {

@@ -3,12 +3,13 @@
 //! ABBREVIATION`. For a file that `jiff` refuses it prints `refused`.
 
 use crate::answers::Answers;
+use crate::input::word;
 use jiff::Timestamp;
 use jiff::tz::{TimeZone, Tzif};
+use std::fs;
 use std::io::{self, ErrorKind};
 use std::process::ExitCode;
 use std::rt::{Env, Files};
-use std::{env, fs};
 
 /// Prints what the file shows at all instants.
 pub fn run<R: Env + Files + Input + Print + AllocGlobal>(rt: &R) -> io::Result<ExitCode> {
@@ -24,7 +25,7 @@ pub fn run<R: Env + Files + Input + Print + AllocGlobal>(rt: &R) -> io::Result<E
 
 /// Returns the bytes of the file that the word after the tool names.
 fn read_file<R: Env + Files + AllocGlobal>(rt: &R) -> io::Result<Vec<u8>> {
-    match env::args(rt)?.nth(2) {
+    match word(rt, 2)? {
         Some(name) => fs::read(rt, name.as_str()),
         None => Err(io::Error::from(ErrorKind::InvalidInput)),
     }

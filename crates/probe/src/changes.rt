@@ -7,24 +7,21 @@
 ghost use Rattle.std.specs.Prelude.{◌<◌, length};
 
 use crate::answers::Answers;
-use crate::input::{read_texts, read_times};
-use crate::stop::print_stop;
+use crate::input::{read_text, read_times};
 use std::alloc::Global;
-use std::io;
 use std::process::ExitCode;
 use std::rt::Env;
+use std::{io, slice};
 use zic_rules::timeline;
 use zic_source::{Source, Stop, read_source};
 
 /// Prints the lines of all zones, or the number of changes.
 pub fn run<R: Env + Input + Print + AllocGlobal>(rt: &R) -> io::Result<ExitCode> {
     let times = read_times(rt)?;
-    let texts = read_texts(rt)?;
+    let text = read_text(rt)?;
     let mut answers = Answers::new(rt.alloc());
-    match answer(rt.alloc(), &texts, times, &mut answers) {
-        Ok(()) => answers.print(rt),
-        Err(stop) => print_stop(rt, stop),
-    }
+    let answered = answer(rt.alloc(), slice::from_ref(&text), times, &mut answers);
+    answers.print_answered(rt, answered)
 }
 
 /// Appends the lines of all zones or, if a number of times is given, the number of changes that were

@@ -2,36 +2,39 @@
 //! Link lines, for `.ci/tzdata.sh` and `bench/source.sh`. An optional word is the number of times
 //! that the text is read, by default 1. With 0, nothing is counted.
 
-use crate::answers::Answers;
-use crate::input::{read_texts, read_times};
+use crate::input::{read_text, read_times};
 use crate::stop::print_stop;
 use std::alloc::Global;
-use std::io;
 use std::process::ExitCode;
 use std::rt::Env;
+use std::{io, slice};
 use zic_source::{Source, Stop, read_source};
 
 /// Prints the number of lines of each kind.
 pub fn run<R: Env + Input + Print + AllocGlobal>(rt: &R) -> io::Result<ExitCode> {
     let times = read_times(rt)?.unwrap_or(1);
-    let texts = read_texts(rt)?;
-    match counts_of(rt.alloc(), &texts, times) {
-        Ok(counts) => print_counts(rt, &counts),
-        Err(stop) => print_stop(rt, stop),
-    }
+    let text = read_text(rt)?;
+    let counts = counts_of(rt.alloc(), slice::from_ref(&text), times);
+    print_counts(rt, counts)
 }
 
-fn print_counts<R: Print + AllocGlobal>(rt: &R, counts: &Counts) -> io::Result<ExitCode> {
-    let mut answers = Answers::new(rt.alloc());
-    answers.show(&counts.rules);
-    answers.word("rules,");
-    answers.show(&counts.zones);
-    answers.word("zones,");
-    answers.show(&counts.continuations);
-    answers.word("continuations,");
-    answers.show(&counts.links);
-    answers.word("links\n");
-    answers.print(rt)
+fn print_counts<R: Print>(rt: &R, counts: Result<Counts, Stop>) -> io::Result<ExitCode> {
+    match counts {
+        Ok(
+            Counts {
+                rules,
+                zones,
+                continuations,
+                links,
+            },
+        ) => {
+            println!(rt;
+                "{rules} rules, {zones} zones, {continuations} continuations, {links} links"
+            )?;
+            Ok(ExitCode::SUCCESS)
+        }
+        Err(stop) => print_stop(rt, stop),
+    }
 }
 
 /// The number of lines of each kind.

@@ -6,19 +6,17 @@ mod answers;
 mod by_jiff;
 mod changes;
 mod counts;
-mod files;
-mod footers;
 mod input;
 mod rows;
 mod stop;
 
-use std::env;
+use input::word;
 use std::io::{self, ErrorKind};
 use std::process::ExitCode;
 
 fn main(rt: HostRuntime) -> io::Result<ExitCode> {
-    match env::args(&rt)?.nth(1) {
-        Some(word) => run(&rt, word.as_str()),
+    match word(&rt, 1)? {
+        Some(name) => run(&rt, name.as_str()),
         None => Err(io::Error::from(ErrorKind::InvalidInput)),
     }
 }
@@ -28,8 +26,6 @@ fn run(rt: &HostRuntime, name: &str) -> io::Result<ExitCode> {
     match name {
         "counts" => counts::run(rt),
         "changes" => changes::run(rt),
-        "footers" => footers::run(rt),
-        "files" => files::run(rt),
         "jiff" => by_jiff::run(rt),
         "rows" => rows::run(rt),
         _ => Err(io::Error::from(ErrorKind::InvalidInput)),

@@ -26,7 +26,7 @@ impl From<AllocError> for Refusal {
     }
 }
 
-/// A call: its module, its name there, and its arguments.
+/// A call: its module, its name there, and its arguments, which are words and texts.
 #[derive(Drop)]
 pub struct Call<'a> {
     pub module: &'a str,
@@ -38,28 +38,38 @@ pub struct Call<'a> {
 impl<'a> Call<'a> {
     /// Returns the call that a line spells.
     pub fn parse(alloc: Global, line: &'a str) -> Result<Call<'a>, Refusal> {
-        let words = words_of(alloc, line)?;
-        let (Some(module), Some(name)) = (words.first(), words.get(1)) else {
+        let mut parts = line.split(' ');
+        let (Some(module), Some(name)) = (parts.next(), parts.next()) else {
             return Err(Refusal::Call);
         };
-        let (module, name) = (*module, *name);
-        let texts = texts_of(alloc, line)?;
-        Ok(Call {
+        let mut call = Call {
             module,
             name,
-            words,
-            texts,
-        })
+            words: Vec::new(alloc),
+            texts: Vec::new(alloc),
+        };
+        for part in parts {
+            call.push(alloc, part)?;
+        }
+        Ok(call)
+    }
+
+    /// Adds an argument.
+    fn push(&mut self, alloc: Global, part: &'a str) -> Result<(), Refusal> {
+        match part.strip_prefix(':') {
+            Some(digits) => push_text(alloc, digits, &mut self.texts),
+            None => push_word(part, &mut self.words),
+        }
     }
 
     /// Returns the number of words that are arguments.
     pub fn len(&self) -> usize {
-        self.words.len().saturating_sub(2)
+        self.words.len()
     }
 
     /// Returns the word of this number from 0.
     pub fn word(&self, number: usize) -> Result<&'a str, Refusal> {
-        match self.words.get(number.saturating_add(2)) {
+        match self.words.get(number) {
             Some(word) => Ok(*word),
             None => Err(Refusal::Call),
         }
@@ -90,26 +100,12 @@ impl<'a> Call<'a> {
     }
 }
 
-/// Returns the words of a line that aren't texts.
-fn words_of(alloc: Global, line: &str) -> Result<Vec<&str>, AllocError> {
-    let mut words = Vec::new(alloc);
-    for part in line.split(' ') {
-        if !part.starts_with(':') {
-            words.push(part)?;
-        }
+/// Appends a word.
+fn push_word<'a>(word: &'a str, words: &mut Vec<&'a str>) -> Result<(), Refusal> {
+    match words.push(word) {
+        Ok(()) => Ok(()),
+        Err(_) => Err(Refusal::Stop(Stop::Memory)),
     }
-    Ok(words)
-}
-
-/// Returns the texts of a line.
-fn texts_of(alloc: Global, line: &str) -> Result<Vec<Vec<u8>>, Refusal> {
-    let mut texts = Vec::new(alloc);
-    for part in line.split(' ') {
-        if let Some(digits) = part.strip_prefix(':') {
-            push_text(alloc, digits, &mut texts)?;
-        }
-    }
-    Ok(texts)
 }
 
 /// Appends the bytes that hexadecimal digits spell.

@@ -45,7 +45,7 @@ fn push_answer(answer: Answer<'_>, answers: &mut Answers) {
 }
 
 /// `at INSTANT..`: appends what a file shows at instants.
-pub fn push_answers(zone: &Zone, call: &Call<'_>, answers: &mut Answers) -> Result<(), Refusal> {
+fn push_answers(zone: &Zone, call: &Call<'_>, answers: &mut Answers) -> Result<(), Refusal> {
     for number in 0..call.len() {
         let t = call.instant(number)?;
         answers.show(&t);

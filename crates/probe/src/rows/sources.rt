@@ -6,6 +6,7 @@ use super::call::{Call, Refusal};
 use super::lines::{push_link, push_rule, push_zone_line};
 use crate::answers::Answers;
 use std::alloc::{AllocError, Global};
+use std::slice;
 use zic_source::{SetName, Source, Stop, read_source};
 
 /// Appends the answer to a call.
@@ -86,13 +87,25 @@ fn set_rules(
 /// first lines.
 fn fronts(alloc: Global, call: &Call<'_>, answers: &mut Answers) -> Result<(), Refusal> {
     let (lines, text) = (call.number(0, 1, 99)? as u64, call.text()?);
-    let mut last = 0;
-    for end in 0..=text.len() {
-        last = fault_line(alloc, &text[..end])?.max(last);
-    }
-    answers.show(&(last <= lines));
-    answers.end_line();
+    push_is_within(last_front_line(alloc, text)?, lines, answers);
     Ok(())
+}
+
+/// Returns the last line in which a front of a text has its first fault, or 0.
+fn last_front_line(alloc: Global, text: &[u8]) -> Result<u64, AllocError> {
+    let mut front = Vec::new(alloc);
+    let mut last = fault_line(alloc, &front)?;
+    for byte in text {
+        front.push(*byte)?;
+        last = fault_line(alloc, &front)?.max(last);
+    }
+    Ok(last)
+}
+
+/// Prints whether a line is one of the first ones.
+fn push_is_within(line: u64, lines: u64, answers: &mut Answers) {
+    answers.show(&(line <= lines));
+    answers.end_line();
 }
 
 /// `changed LINES`: prints whether each text with one byte set to any value is a source, or has its
@@ -103,8 +116,7 @@ fn changed(alloc: Global, call: &Call<'_>, answers: &mut Answers) -> Result<(), 
     for place in 0..text.len() {
         last = last_fault_line(alloc, text, place)?.max(last);
     }
-    answers.show(&(last <= lines));
-    answers.end_line();
+    push_is_within(last, lines, answers);
     Ok(())
 }
 
@@ -123,9 +135,8 @@ fn last_fault_line(alloc: Global, text: &[u8], place: usize) -> Result<u64, Allo
 }
 
 /// Returns the line of a text's first fault, or 0.
-fn fault_line(alloc: Global, text: &[u8]) -> Result<u64, AllocError> {
-    let texts = [Vec::from_slice(alloc, text)?];
-    match read_source(alloc, &texts) {
+fn fault_line(alloc: Global, text: &Vec<u8>) -> Result<u64, AllocError> {
+    match read_source(alloc, slice::from_ref(text)) {
         Ok(_) => Ok(0),
         Err(Stop::Fault(fault)) => Ok(fault.place.line),
         Err(Stop::Memory) => Err(AllocError),

@@ -1,14 +1,13 @@
-//! Tables of zones, and their files.
+//! Tables of zones, and the files of tables. witness/library.py has the files of zones.
 
 use super::call::{Call, Refusal};
-use super::files::push_answers;
 use crate::answers::Answers;
 use std::alloc::Global;
 use zic_base::{Place, Stop};
 use zic_footer::make;
 use zic_rules::{Timeline, timeline};
 use zic_source::Source;
-use zic_table::{Image, image_of, table};
+use zic_table::table;
 use zic_tzif::{Table, write};
 
 /// Appends the answer to a call. It is of the first zone.
@@ -22,9 +21,6 @@ pub fn answer(
         "table" => table_text(alloc, source, answers),
         "counts" => counts(alloc, source, answers),
         "written" => written(alloc, source, answers),
-        "bytes" => bytes(alloc, source, answers),
-        "image" => image_text(alloc, source, call, answers),
-        "at" => at(alloc, source, call, answers),
         _ => Err(Refusal::Call),
     }
 }
@@ -107,55 +103,9 @@ fn written(alloc: Global, source: &Source, answers: &mut Answers) -> Result<(), 
     push_hex(alloc, &octets, answers)
 }
 
-/// Appends the bytes of the file of the first zone, in hex.
-fn bytes(alloc: Global, source: &Source, answers: &mut Answers) -> Result<(), Refusal> {
-    let found = image(alloc, source, 0)?;
-    push_hex(alloc, found.octets(), answers)
-}
-
 fn push_hex(alloc: Global, octets: &[u8], answers: &mut Answers) -> Result<(), Refusal> {
     let text = hex::encode(alloc, octets)?;
     answers.word(text.as_str());
     answers.end_line();
     Ok(())
-}
-
-/// Returns the file of a zone, by its number from 0.
-fn image(alloc: Global, source: &Source, zone: usize) -> Result<Image, Refusal> {
-    if zone >= source.zones() {
-        return Err(Refusal::Call);
-    }
-    match image_of(alloc, source, zone) {
-        Ok(found) => Ok(found),
-        Err(stop) => Err(Refusal::Stop(stop)),
-    }
-}
-
-/// `image ZONE`: appends the size of a file, the two bytes of its version, and the footer that a
-/// reader gives.
-fn image_text(
-    alloc: Global,
-    source: &Source,
-    call: &Call<'_>,
-    answers: &mut Answers,
-) -> Result<(), Refusal> {
-    let found = image(alloc, source, call.number(0, 0, 9)? as usize)?;
-    let octets = found.octets();
-    answers.show(&octets.len());
-    answers.word("bytes,");
-    answers.debug(&octets.get(4));
-    answers.debug_line(&octets.get(55));
-    answers.octets(found.zone().footer_text());
-    answers.end_line();
-    Ok(())
-}
-
-fn at(
-    alloc: Global,
-    source: &Source,
-    call: &Call<'_>,
-    answers: &mut Answers,
-) -> Result<(), Refusal> {
-    let found = image(alloc, source, 0)?;
-    push_answers(found.zone(), call, answers)
 }
