@@ -357,6 +357,57 @@ static void compile_texts(void) {
     pzic_free(&files);
 }
 
+static void expect_file(pzic_handle *files, size_t number, const char *name, size_t size) {
+    uint8_t room[20];
+    size_t length = 0;
+    CHECK(pzic_files_name(files, number, room, sizeof room, &length) == PZIC_OK);
+    CHECK(length == strlen(name) && memcmp(room, name, length) == 0);
+    CHECK(pzic_files_bytes(files, number, room, 0, &length) == PZIC_OK && length == size);
+}
+
+// Files stand in the order of texts and lines.
+static void order_files(void) {
+    static const char texts[] =
+        "Zone A -3 - %z\nLink A B\nLink D E"
+        "Link A C\nZone D 5:30 - %z"
+        "Zone Z/P 1:00 1:00 XXX";
+    static const size_t lengths[] = {32, 25, 22};
+    const uint8_t *bytes = (const uint8_t *)texts;
+    pzic_handle files = {0};
+    pzic_fault fault = {0};
+    CHECK(pzic_compile(bytes, 57, lengths, 2, &files, &fault) == PZIC_OK);
+    size_t count = 0;
+    CHECK(pzic_files_len(&files, &count) == PZIC_OK && count == 5);
+    expect_file(&files, 0, "A", 113);
+    expect_file(&files, 1, "B", 113);
+    expect_file(&files, 2, "E", 121);
+    expect_file(&files, 3, "C", 113);
+    expect_file(&files, 4, "D", 121);
+    CHECK(pzic_compile(bytes, 79, lengths, 3, &files, &fault) == PZIC_BAD_SOURCE);
+    CHECK(fault.text == 3 && fault.line == 1 && fault.kind == 30); // PermanentDaylight
+    pzic_free(&files);
+}
+
+// A file is found by its whole name, and each link has the bytes of its zone.
+static void find_names(void) {
+    static const char *const none[] = {"Etc", "Etc/UTC1", "a", ""};
+    pzic_handle files = {0};
+    pzic_fault fault = {0};
+    size_t number = 9, length = 0;
+    CHECK(compile("Link Etc/UTC A\nZone Etc/UTC 0 - UTC\nLink A Etc/UT", &files, &fault) == PZIC_OK);
+    CHECK(find(&files, "A", &number) == PZIC_OK && number == 0);
+    CHECK(find(&files, "Etc/UT", &number) == PZIC_OK && number == 2);
+    CHECK(find(&files, "Etc/UTC", &number) == PZIC_OK && number == 1);
+    for (int i = 0; i < 4; i++)
+        CHECK(find(&files, none[i], &number) == PZIC_NO_SUCH && number == 1);
+    for (size_t i = 0; i < 3; i++) {
+        uint8_t room[111];
+        CHECK(pzic_files_bytes(&files, i, room, sizeof room, &length) == PZIC_OK && length == 111);
+        CHECK(memcmp(room + 105, "\nUTC0\n", 6) == 0);
+    }
+    pzic_free(&files);
+}
+
 static const char column[] = "Test/York,1720000000\n\"Test/Fixed\",-1\n";
 static const char converted[] =
     "Test/York,1720000000,2024-07-03T05:46:40,-04:00:00,1,EDT\n"
@@ -551,6 +602,8 @@ int main(int count, char **words) {
     compile_source();
     refuse_sources();
     compile_texts();
+    order_files();
+    find_names();
     convert_columns();
     name_faults();
     for (int i = 2; i < count; i++) {

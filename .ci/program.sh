@@ -275,7 +275,7 @@ expect 0 '' '' convert --workers 64 --zone-piece 65536 --row-piece 65536 --max-r
 expect 0 '' '' convert --max-rows 0 --max-bytes 0 plain
 expect_usage show
 expect_usage show "$file"
-for instant in +5 1x '' 0.5 ' 1' - -- 9223372036854775808 -1; do
+for instant in +5 1x '' 0.5 ' 1' '1 ' - -- 9223372036854775808 -1; do
     expect_usage show "$file" "$instant"
 done
 expect_usage show -- "$file" -9223372036854775809
@@ -284,6 +284,7 @@ expect_usage show "$file" 0 0
 expect 0 '+00:00:00 0 UTC' '' show "$file" 9223372036854775807
 expect 0 '+00:00:00 0 UTC' '' show -- "$file" -9223372036854775808
 expect 0 '+00:00:00 0 UTC' '' show "$file" -- -1
+expect 0 '+00:00:00 0 UTC' '' show -- "$file" -0
 
 # ------------------------------------------------------------------ where a fault is
 

@@ -33,7 +33,7 @@ YORK = reader.worked()
 TAILS = {"utc": "0,1970-01-01T00:00:00,+00:00:00,0,UTC", "york": "0,1969-12-31T19:00:00,-05:00:00,0,EST", "none": "0,,,,"}   # of rows at 0
 FAR = reader.header(0, 1, 1) + bytes(7) + reader.header(0, 2, 8) + (90000).to_bytes(4, "big") + bytes(7) + b"\4FAR\0UTC\0\nUTC0\n"
 REFUSED = {                                                                # with what --explain tells of each
-    "Cut": (UTC[:-1], "Short"), "Leap": (reader.changed(UTC, 31, 1), "LeapSeconds"), "Text": (b"text\n" * 20, "Magic"),
+    "Cut": (UTC[:-1], "Short"), "More": (UTC + b"\n", "TrailingBytes"), "Leap": (reader.changed(UTC, 31, 1), "LeapSeconds"), "Text": (b"text\n" * 20, "Magic"),
     "Open": (UTC.replace(b"UTC0", b""), "an empty POSIX TZ string"), "Far": (FAR, "an offset or an abbreviation that no row may have"),
 }
 

@@ -1,40 +1,89 @@
 //! Claims, by examples worked by hand, in one thread and in two. If a growth of memory is refused,
 //! as `.ci/refusals.sh` does, the claims are made again.
 
-ghost use Rattle.std.specs.Prelude.{◌≡◌, ◌<◌, ◌≤◌, IfOk};
-ghost use Rattle.zic_pieces.specs.Core.{first as first_pass};
+ghost use Rattle.std.specs.Prelude.{◌≡◌, ◌+◌, ◌<◌, ◌≤◌};
 ghost use Rattle.zic_pieces.specs.Passes.{IsOf};
 
-use crate::samples::{expect, must};
-use std::alloc::{AllocError, Global};
+use crate::samples::expect;
+use std::alloc::Global;
 use std::process::Abort;
 use std::thread::{self, Threads};
 use zic_pieces::{Claim, Claims, Pass, Settled, Split};
 
-/// Returns claims on this number of pieces. Tries twice, since one growth may be refused in a test.
-fn new_claims(alloc: Global, pieces: u64) -> Result<(Claims, Pass), AllocError>
+/// Returns claims on this number of pieces, and their first pass. Tries twice, since one growth may be
+/// refused in a test.
+fn new_claims(rt: &impl Abort, alloc: Global, pieces: u64) -> (Claims, Pass)
     requires { pieces ≤ 4294967296 }
-    ensures claims { IfOk result (λ r. (r.0.pieces ≡ pieces) × IsOf r.0 r.1) }
-    ensures pass { IfOk result (λ r. r.1.known ≡ first_pass pieces) }
+    ensures pieces { result.0.pieces ≡ pieces }
+    ensures pass { IsOf result.0 result.1 }
+    ensures parts { result.1.known.parts ≡ 1024 }
 {
+    if let Ok(made) = Claims::new(alloc, pieces) {
+        return made;
+    }
     match Claims::new(alloc, pieces) {
-        Err(AllocError) => Claims::new(alloc, pieces),
-        made => made,
+        Ok(made) => made,
+        Err(_) => panic!(rt; "no memory"),
     }
 }
 
+/// Cuts a pass that has room in two.
+fn cut(rt: &impl Abort, claims: &Claims, pass: Pass) -> (Pass, Pass)
+    requires { IsOf claims.now pass }
+    ensures first { IsOf claims.now result.0 }
+    ensures second { IsOf claims.now result.1 }
+    ensures parts { result.0.known.parts + result.1.known.parts ≡ pass.known.parts }
+{
+    match claims.split(pass) {
+        Split::Two(first, second) => (first, second),
+        Split::Full(_) => panic!(rt; "a pass has room"),
+    }
+}
+
+/// Ends the test where a pass claims otherwise.
+fn expect_claim(rt: &impl Abort, claims: &Claims, pass: &mut Pass, want: Claim, what: &str)
+    requires { IsOf claims.now pass.old }
+    ensures pass { IsOf claims.now pass.new }
+    ensures parts { pass.new.known.parts ≡ pass.old.known.parts }
+{
+    expect(rt, claims.claim(pass) == want, what);
+}
+
+/// Ends the test where a pass sees another report than that of the first piece.
+fn expect_report(rt: &impl Abort, claims: &Claims, pass: &mut Pass, what: &str)
+    requires { IsOf claims.now pass.old }
+    ensures pass { IsOf claims.now pass.new }
+    ensures parts { pass.new.known.parts ≡ pass.old.known.parts }
+{
+    expect(rt, claims.glance(pass) == 0, what);
+}
+
+/// Claims a piece by each of two passes. The first reports its piece.
+fn two_claim_and_one_reports(rt: &impl Abort, claims: &Claims, p: &mut Pass, q: &mut Pass)
+    requires first { IsOf claims.now p.old }
+    requires second { IsOf claims.now q.old }
+    requires piece { 0 < claims.now.pieces }
+    ensures first { IsOf claims.now p.new }
+    ensures second { IsOf claims.now q.new }
+    ensures parts { (p.new.known.parts ≡ p.old.known.parts) × (q.new.known.parts ≡ q.old.known.parts) }
+{
+    expect_claim(rt, claims, p, Claim::Do(0), "the first piece");
+    expect_claim(rt, claims, q, Claim::Do(1), "the second piece");
+    claims.report(p, 0);
+}
+
 /// Claims three pieces by three passes, of which one reports the first piece and the others see it.
-fn three_passes_share_three_pieces(rt: &impl Abort, alloc: Global) -> Result<(), AllocError> {
-    let (claims, first) = new_claims(alloc, 3)?;
-    let Split::Two(first, mut q) = claims.split(first) else {
-        panic!(rt; "the first pass has room")
-    };
-    let Split::Two(mut p, mut last) = claims.split(first) else {
-        panic!(rt; "the first pass has room still")
-    };
+fn three_passes_share_three_pieces(rt: &impl Abort, alloc: Global) {
+    let (claims, first) = new_claims(rt, alloc, 3);
+    let (first, mut q) = cut(rt, &claims, first);
+    let (mut p, mut last) = cut(rt, &claims, first);
     two_claim_and_one_reports(rt, &claims, &mut p, &mut q);
-    others_see_the_report(rt, &claims, &mut q, &mut last);
-    all_end(rt, &claims, &mut p, &mut last);
+    expect_claim(rt, &claims, &mut q, Claim::Skip(2), "the third piece");
+    expect_report(rt, &claims, &mut q, "what the second pass sees");
+    expect_report(rt, &claims, &mut last, "what the third pass sees");
+    expect_claim(rt, &claims, &mut p, Claim::End, "the end");
+    expect_claim(rt, &claims, &mut p, Claim::End, "the end again");
+    expect_claim(rt, &claims, &mut last, Claim::End, "the end for all");
     let given = p.given() == 1 && q.given() == 1 && last.given() == 0;
     expect(rt, p.ended() && given, "what was given");
     let two = claims.join(p, q);
@@ -46,65 +95,19 @@ fn three_passes_share_three_pieces(rt: &impl Abort, alloc: Global) -> Result<(),
         ended: true,
     };
     expect(rt, claims.settle(all) == want, "the work of all");
-    Ok(())
-}
-
-/// Claims a piece by each of two passes. The first reports its piece.
-fn two_claim_and_one_reports(rt: &impl Abort, claims: &Claims, p: &mut Pass, q: &mut Pass)
-    requires first { IsOf claims.now p.old }
-    requires second { IsOf claims.now q.old }
-    requires piece { 0 < claims.now.pieces }
-    ensures first { (p.new.table ≡ p.old.table) × (p.new.known.pieces ≡ p.old.known.pieces)
-        × (p.new.known.parts ≡ p.old.known.parts) }
-    ensures second { (q.new.table ≡ q.old.table) × (q.new.known.pieces ≡ q.old.known.pieces)
-        × (q.new.known.parts ≡ q.old.known.parts) }
-{
-    expect(rt, claims.claim(p) == Claim::Do(0), "the first piece");
-    expect(rt, claims.claim(q) == Claim::Do(1), "the second piece");
-    claims.report(p, 0);
-}
-
-/// Claims the third piece and looks by two passes that have reported nothing.
-fn others_see_the_report(rt: &impl Abort, claims: &Claims, q: &mut Pass, last: &mut Pass)
-    requires second { IsOf claims.now q.old }
-    requires last { IsOf claims.now last.old }
-    ensures second { (q.new.table ≡ q.old.table) × (q.new.known.pieces ≡ q.old.known.pieces)
-        × (q.new.known.parts ≡ q.old.known.parts) }
-    ensures last { (last.new.table ≡ last.old.table) × (last.new.known.pieces ≡ last.old.known.pieces)
-        × (last.new.known.parts ≡ last.old.known.parts) }
-{
-    expect(rt, claims.claim(q) == Claim::Skip(2), "the third piece");
-    expect(rt, claims.glance(q) == 0, "what the second pass sees");
-    expect(rt, claims.glance(last) == 0, "what the third pass sees");
-}
-
-/// Claims by two passes once no piece is left, by the first one twice.
-fn all_end(rt: &impl Abort, claims: &Claims, p: &mut Pass, last: &mut Pass)
-    requires first { IsOf claims.now p.old }
-    requires last { IsOf claims.now last.old }
-    ensures first { (p.new.table ≡ p.old.table) × (p.new.known.pieces ≡ p.old.known.pieces)
-        × (p.new.known.parts ≡ p.old.known.parts) }
-    ensures last { (last.new.table ≡ last.old.table) × (last.new.known.pieces ≡ last.old.known.pieces)
-        × (last.new.known.parts ≡ last.old.known.parts) }
-{
-    expect(rt, claims.claim(p) == Claim::End, "the end");
-    expect(rt, claims.claim(p) == Claim::End, "the end again");
-    expect(rt, claims.claim(last) == Claim::End, "the end for all");
 }
 
 #[test]
 fn a_pass_sees_the_report_of_another(rt: HostRuntime) {
     for _ in 0..100 {
-        must(&rt, three_passes_share_three_pieces(&rt, rt.alloc()));
+        three_passes_share_three_pieces(&rt, rt.alloc());
     }
 }
 
 #[test]
 fn no_pieces_end_at_once(rt: HostRuntime) {
-    let Ok((claims, mut pass)) = new_claims(rt.alloc(), 0) else {
-        panic!(rt; "no memory")
-    };
-    expect(&rt, claims.claim(&mut pass) == Claim::End, "the end");
+    let (claims, mut pass) = new_claims(&rt, rt.alloc(), 0);
+    expect_claim(&rt, &claims, &mut pass, Claim::End, "the end");
     let want = Settled {
         least: 0,
         given: 0,
@@ -115,9 +118,7 @@ fn no_pieces_end_at_once(rt: HostRuntime) {
 
 #[test]
 fn the_first_pass_splits_1023_times(rt: HostRuntime) {
-    let Ok((claims, mut pass)) = new_claims(rt.alloc(), 1) else {
-        panic!(rt; "no memory")
-    };
+    let (claims, mut pass) = new_claims(&rt, rt.alloc(), 1);
     expect(&rt, pass.room() == 1023, "the room of the first pass");
     let (mut cuts, mut full) = (0u64, false);
     for _ in 0u64..1030 {
@@ -147,21 +148,21 @@ fn four(claims: &Claims, mut pass: Pass) -> [Claim; 4]
     [a, b, c, claims.claim(&mut pass)]
 }
 
-/// Returns whether a claim stands so often in two rows.
-fn stands(xs: &[Claim; 4], ys: &[Claim; 4], claim: Claim, times: usize) -> bool {
-    let count = xs.iter().filter(|c| **c == claim).count()
-        + ys.iter().filter(|c| **c == claim).count();
-    count == times
+/// Returns how often a claim stands in a row.
+fn count(row: &[Claim; 4], claim: Claim) -> usize {
+    let mut count = 0usize;
+    for stands in row {
+        if *stands == claim {
+            count = count.wrapping_add(1);
+        }
+    }
+    count
 }
 
 /// Claims three pieces in two threads, four times in each.
 fn two_rows<R: Threads + Abort>(rt: &R, alloc: Global) -> ([Claim; 4], [Claim; 4]) {
-    let Ok((claims, first)) = new_claims(alloc, 3) else {
-        panic!(rt; "no memory")
-    };
-    let Split::Two(p, q) = claims.split(first) else {
-        panic!(rt; "the first pass has room")
-    };
+    let (claims, first) = new_claims(rt, alloc, 3);
+    let (p, q) = cut(rt, &claims, first);
     let shared = &claims;
     thread::join(
         rt,
@@ -179,8 +180,10 @@ fn two_threads_draw_each_number_once(rt: HostRuntime) {
     for _ in 0..100 {
         let (xs, ys) = two_rows(&rt, rt.alloc());
         for i in 0..3 {
-            expect(&rt, stands(&xs, &ys, Claim::Do(i), 1), "each number");
+            let draws = count(&xs, Claim::Do(i)).wrapping_add(count(&ys, Claim::Do(i)));
+            expect(&rt, draws == 1, "each number");
         }
-        expect(&rt, stands(&xs, &ys, Claim::End, 5), "the ends");
+        let ends = count(&xs, Claim::End).wrapping_add(count(&ys, Claim::End));
+        expect(&rt, ends == 5, "the ends");
     }
 }

@@ -1,13 +1,14 @@
 //! Columns of readers and to writers that fail or are slow, and workers that wait for each other at
 //! the gate. Rows and faults are in witness/calls/columns.txt.
 
-use crate::samples::{Defect, Device, Hold, Sink, expect, expect_text, files_of, must};
+use crate::files::built;
+use crate::samples::{Defect, Device, Hold, Sink, expect, expect_text, must};
 use std::alloc::Global;
 use std::io::{ErrorKind, Read, Write};
 use std::process::Abort;
 use std::sync::Wait;
 use std::thread::Threads;
-use zic_bulk::{Files, Plan, RowKind, RunStop};
+use zic_bulk::{Files, Plan, RunStop};
 use zic_convert::*;
 use zic_counted::Counted;
 use zic_pieces::{Gate, Open};
@@ -19,8 +20,8 @@ const THREE_ROWS: &[u8; 138] =
 Etc/UTC,0,1970-01-01T00:00:00,+00:00:00,0,UTC\n";
 
 /// Returns the files of a zone that is always at UT.
-fn utc(rt: &impl Abort, alloc: Global) -> Files {
-    must(rt, files_of(alloc, &["Zone Etc/UTC 0 - UTC\n"]))
+fn utc<R: Threads + Wait + Sync + Abort>(rt: &R, alloc: Global) -> Files {
+    must(rt, built(rt, alloc, "Zone Etc/UTC 0 - UTC\n", 1, &Open))
 }
 
 /// Returns a plan of workers and of records in a piece, for 100 rows and 1,000 bytes.
@@ -73,6 +74,17 @@ fn expect_write_failed_by<R: Threads + Wait + Sync + Abort>(
     expect_text(rt, writer.into_inner().held(), text, "what was written");
 }
 
+/// Columns, how a writer of their rows fails, and what it takes.
+static UNWRITTEN: [(&[u8], Defect, &[u8]); 3] = [
+    (THREE, Defect::Stuck, b""),
+    (THREE, Defect::Unflushed, THREE_ROWS),
+    (
+        b"Etc/UTC,0\nEtc/UTC,0\nEtc/UTC,0\nEtc/UTC,x\n",
+        Defect::Unflushed,
+        THREE_ROWS,
+    ),
+];
+
 #[test]
 fn a_writer_fails(rt: HostRuntime) {
     let files = utc(&rt, rt.alloc());
@@ -80,24 +92,9 @@ fn a_writer_fails(rt: HostRuntime) {
         let text = &THREE_ROWS[..most];
         expect_write_failed(&rt, rt.alloc(), &files, THREE, Defect::Full(most), text);
     }
-    let faulty = b"Etc/UTC,0\nEtc/UTC,0\nEtc/UTC,0\nEtc/UTC,x\n";
-    expect_write_failed(&rt, rt.alloc(), &files, THREE, Defect::Stuck, b"");
-    expect_write_failed(
-        &rt,
-        rt.alloc(),
-        &files,
-        THREE,
-        Defect::Unflushed,
-        THREE_ROWS,
-    );
-    expect_write_failed(
-        &rt,
-        rt.alloc(),
-        &files,
-        faulty,
-        Defect::Unflushed,
-        THREE_ROWS,
-    );
+    for (column, defect, text) in &UNWRITTEN {
+        expect_write_failed(&rt, rt.alloc(), &files, *column, *defect, *text);
+    }
 }
 
 /// Ends the test where a column whose reader fails at its end is converted, or rows are written that
@@ -186,26 +183,4 @@ fn two_workers_are_at_the_gate_at_once(rt: HostRuntime) {
     );
     expect(&rt, answer == Ok(2) && !gate.is_late(), "two rows");
     expect_text(&rt, &writer.into_inner(), &THREE_ROWS[..92], "the rows");
-}
-
-#[test]
-fn a_header_is_passed_over_and_rows_have_numbers_of_faults(rt: HostRuntime) {
-    let files = utc(&rt, rt.alloc());
-    expect_fault_after_header(&rt, rt.alloc(), (&files, &plan_of(&rt, 2, 1)));
-    expect(&rt, RowKind::RowFields.number() == 35, "its number");
-    expect(&rt, RowKind::TooManyRows.number() == 39, "the last number");
-}
-
-/// Ends the test where a column with a header, a row and a fault is converted otherwise.
-fn expect_fault_after_header<R: Threads + Wait + Sync + Abort>(
-    rt: &R,
-    alloc: Global,
-    (files, plan): (&Files, &Plan),
-) {
-    let mut reader = Counted::new(b"Etc/UTC,7\nEtc/UTC,0\nEtc/UTC".as_slice());
-    let mut writer = Counted::new(Vec::new(alloc));
-    let answer = convert_after_header(rt, alloc, files, &mut reader, &mut writer, plan);
-    let kind = RowKind::RowFields;
-    expect(rt, answer == Err(RunStop::Row { row: 2, kind }), "a fault");
-    expect_text(rt, &writer.into_inner(), &THREE_ROWS[..46], "a row");
 }

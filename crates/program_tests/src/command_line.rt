@@ -1,10 +1,10 @@
-//! Words of the command line that ask for something. Wrong ones are in witness/calls/words.txt.
+//! Words of the command line that ask for something. Wrong ones are in witness/calls/words.txt, and
+//! words for instants in .ci/program.sh.
 
-use crate::samples::{expect, expect_text, must, words_of};
+use crate::samples::{expect_text, must, words_of};
 use std::alloc::Global;
 use std::process::Abort;
 use zic_command_line::parse;
-use zic_plan::parse_instant_word;
 
 /// Returns the request that the words make.
 fn asked(rt: &impl Abort, alloc: Global, line: &str) -> String {
@@ -92,26 +92,5 @@ fn words_are_a_request(rt: HostRuntime) {
     for (line, want) in &REQUESTS {
         let got = asked(&rt, rt.alloc(), *line);
         expect_text(&rt, got.as_bytes(), want.as_bytes(), *line);
-    }
-}
-
-/// Words for an instant, and the instant.
-static INSTANTS: [(&str, Option<i64>); 10] = [
-    ("12", Some(12)),
-    ("-0", Some(0)),
-    ("-9223372036854775808", Some(i64::MIN)),
-    ("9223372036854775807", Some(i64::MAX)),
-    ("9223372036854775808", None),
-    ("+1", None),
-    ("--1", None),
-    ("-", None),
-    ("", None),
-    ("1 ", None),
-];
-
-#[test]
-fn an_instant_is_an_optional_minus_and_digits(rt: HostRuntime) {
-    for (word, want) in &INSTANTS {
-        expect(&rt, parse_instant_word(*word) == *want, *word);
     }
 }

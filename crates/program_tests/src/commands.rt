@@ -3,13 +3,12 @@
 
 mod converting;
 mod folder;
-mod placing;
-mod tree_files;
 
 use crate::samples::{Defect, Device, Sink, UTC_FILE, copy_of, expect, expect_text, must};
 use std::alloc::Global;
 use std::io::ErrorKind;
 use std::process::Abort;
+use std::slice;
 use zic_bulk::Plan;
 use zic_commands::*;
 use zic_counted::Counted;
@@ -56,8 +55,9 @@ fn what_is_not_read_is_told(rt: HostRuntime) {
 fn what_is_not_flushed_is_not_written(rt: HostRuntime) {
     let want = "cannot write output, status 3";
     let mut writer = Counted::new(Sink::new(rt.alloc(), Defect::Unflushed));
-    let texts = [copy_of(&rt, rt.alloc(), "Zone Etc/UTC 0 - UTC\n")];
-    let answer = check(&rt, rt.alloc(), &plan(&rt, 1), &texts, &mut writer);
+    let text = copy_of(&rt, rt.alloc(), "Zone Etc/UTC 0 - UTC\n");
+    let texts = slice::from_ref(&text);
+    let answer = check(&rt, rt.alloc(), &plan(&rt, 1), texts, &mut writer);
     expect_told(&rt, rt.alloc(), answer, want);
     let answer = show(rt.alloc(), UTC_FILE, 0, &mut writer);
     expect_told(&rt, rt.alloc(), answer, want);

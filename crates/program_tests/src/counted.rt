@@ -1,7 +1,6 @@
 //! Counts over a reader and writer with fixed answers.
 
-ghost use Rattle.std.specs.Prelude.{◌≡◌, ◌≤◌, IfOk};
-ghost use Rattle.zic_counted.specs.Counts.{HasFailedSince};
+ghost use Rattle.std.specs.Prelude.{◌≤◌, IfOk};
 
 use crate::samples::{expect, expect_text, must};
 use std::io::{self, ErrorKind, Read, Write};
@@ -73,6 +72,12 @@ fn are_read(answers: &[Answer], failures: u64, taken: u64) -> bool {
     passed && counted && reader.into_inner().answers.is_empty()
 }
 
+/// Flushes a writer, as a write of no bytes.
+fn flushed(writer: &mut Counted<Scripted<'_>>) -> io::Result<usize> {
+    writer.flush()?;
+    Ok(0)
+}
+
 /// Returns whether a writer passes these answers on, each to a write of the bytes, or to a flush,
 /// and has then counted this many failures.
 fn are_written(answers: &[Answer], bytes: Option<&[u8]>, failures: u64) -> bool {
@@ -81,7 +86,7 @@ fn are_written(answers: &[Answer], bytes: Option<&[u8]>, failures: u64) -> bool 
     for answer in answers {
         let given = match bytes {
             Some(bytes) => writer.write(bytes),
-            None => writer.flush().map(|()| 0),
+            None => flushed(&mut writer),
         };
         passed = is_given(given, *answer) && passed;
     }
@@ -127,25 +132,9 @@ fn reads_writes_and_flushes_are_counted_and_passed_on(rt: HostRuntime) {
     }
 }
 
-/// Why a reader is not read whole.
-#[derive(Clone, Copy)]
-enum Unread {
-    ReadFailed,
-    /// Memory ran out, or there were too many tries.
-    Other,
-}
-
-/// Reads to the end.
-fn read_whole<R: Read>(reader: &mut Counted<R>, bytes: &mut Vec<u8>) -> Result<usize, Unread>
-    ensures read { result ≡ Err Unread.ReadFailed → HasFailedSince reader.new reader.old.failures }
-    ensures other { result ≡ Err Unread.Other → HasFailedSince reader.new reader.old.failures → ⊥ }
-{
-    let before = reader.failures();
-    match reader.read_to_end(bytes) {
-        Ok(count) => Ok(count),
-        Err(_) if reader.has_failed_since(before) => Err(Unread::ReadFailed),
-        Err(_) => Err(Unread::Other),
-    }
+/// Reads to the end. Returns the number of bytes, if the reading ends well.
+fn read_whole(reader: &mut Counted<Scripted<'_>>, bytes: &mut Vec<u8>) -> Option<usize> {
+    reader.read_to_end(bytes).ok()
 }
 
 /// The last ends a reading of all.
@@ -158,14 +147,10 @@ fn callers_tell_failed_reads(rt: HostRuntime) {
         answers: &GIVEN[..3],
     });
     let read = read_whole(&mut reader, &mut bytes);
-    expect(
-        &rt,
-        matches!(read, Ok(5)) && reader.failures() == 1,
-        "five bytes",
-    );
+    expect(&rt, read == Some(5) && reader.failures() == 1, "five bytes");
     let mut reader = Counted::new(Scripted { answers: &GIVEN });
     let read = read_whole(&mut reader, &mut bytes);
-    let is_told = matches!(read, Err(Unread::ReadFailed));
+    let is_told = read.is_none() && reader.has_failed_since(1);
     expect(&rt, is_told && reader.failures() == 2, "a failed read");
 }
 

@@ -20,8 +20,6 @@ mod files;
 #[cfg(test)]
 mod pieces;
 #[cfg(test)]
-mod rows;
-#[cfg(test)]
 mod samples;
 #[cfg(test)]
 mod splits;

@@ -129,18 +129,21 @@ fn the_least_stop_decides(rt: HostRuntime) {
     }
 }
 
-/// Counts who enters: all, and pieces 0, 1 and 2.
+/// Counts who enters: all, and each of the pieces 0, 1 and 2 in a digit of its own to the base 1,000.
 #[derive(Drop)]
 struct Counter {
     all: AtomicU64,
-    first: [AtomicU64; 3],
+    first: AtomicU64,
 }
+
+/// The values of the digits.
+const DIGITS: [u64; 3] = [1, 1_000, 1_000_000];
 
 impl Gate for Counter {
     fn enter(&self, i: u64) {
         self.all.fetch_add(1, Ordering::SeqCst);
         if i < 3 {
-            self.first[i as usize].fetch_add(1, Ordering::SeqCst);
+            self.first.fetch_add(DIGITS[i as usize], Ordering::SeqCst);
         }
     }
 }
@@ -156,13 +159,12 @@ fn every_piece_up_to_the_least_fault_is_entered_once(rt: HostRuntime) {
         for workers in [1, 2, 8, 64] {
             let gate = Counter {
                 all: AtomicU64::new(0),
-                first: [AtomicU64::new(0), AtomicU64::new(0), AtomicU64::new(0)],
+                first: AtomicU64::new(0),
             };
             let answer = run_task(&rt, rt.alloc(), &task, workers, &gate);
             expect(&rt, is_fault(answer, 2), "the fault");
-            for entered in &gate.first {
-                expect(&rt, entered.load(Ordering::SeqCst) == 1, "a piece");
-            }
+            let first = gate.first.load(Ordering::SeqCst);
+            expect(&rt, first == 1_001_001, "the pieces up to the fault");
             let all = gate.all.load(Ordering::SeqCst);
             expect(&rt, 3 <= all && (workers > 1 || all == 3), "all pieces");
         }
@@ -190,7 +192,8 @@ fn two_workers_are_at_the_gate_at_once(rt: HostRuntime) {
 /// Two pieces, each of which waits until the other has begun.
 #[derive(Drop)]
 struct Meet {
-    begun: [AtomicU64; 2],
+    zero_begun: AtomicU64,
+    one_begun: AtomicU64,
     late: AtomicU64,
 }
 
@@ -210,8 +213,13 @@ impl Task for Meet {
     }
 
     fn perform(&self, _alloc: Global, i: u64) -> Result<u64, PieceStop<u64>> {
-        self.begun[i as usize].store(1, Ordering::SeqCst);
-        if !wait_for(&self.begun[1 - i as usize]) {
+        let (own, other) = if i == 0 {
+            (&self.zero_begun, &self.one_begun)
+        } else {
+            (&self.one_begun, &self.zero_begun)
+        };
+        own.store(1, Ordering::SeqCst);
+        if !wait_for(other) {
             self.late.store(1, Ordering::SeqCst);
         }
         Ok(i)
@@ -222,7 +230,8 @@ impl Task for Meet {
 fn two_pieces_are_performed_at_once(rt: HostRuntime) {
     for _ in 0..100 {
         let task = Meet {
-            begun: [AtomicU64::new(0), AtomicU64::new(0)],
+            zero_begun: AtomicU64::new(0),
+            one_begun: AtomicU64::new(0),
             late: AtomicU64::new(0),
         };
         let answer = run_task(&rt, rt.alloc(), &task, 2, &Open);

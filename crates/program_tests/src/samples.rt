@@ -4,14 +4,12 @@
 
 ghost use Rattle.std.specs.Prelude.{◌≡◌, true};
 
-use std::alloc::{AllocError, Global};
+use std::alloc::Global;
 use std::io::{self, ErrorKind, Read, Write};
 use std::process::Abort;
 use std::sync::atomic::{AtomicU64, Ordering};
 use std::thread;
-use zic_bulk::{Files, compile};
 use zic_pieces::Gate;
-use zic_source::{Source, Stop, read_source};
 use zic_words::Name;
 
 /// The file of `Zone Etc/UTC 0 - UTC`, with the parts of RFC 9636: two headers, an empty first
@@ -39,6 +37,17 @@ pub fn expect_text(rt: &impl Abort, got: &[u8], want: &[u8], what: &str) {
     assert!(rt; got == want, "{what}: {got:?}");
 }
 
+/// Returns how often a byte stands in a text.
+pub fn count_of(text: &[u8], byte: u8) -> usize {
+    let mut count = 0usize;
+    for stands in text {
+        if *stands == byte {
+            count = count.wrapping_add(1);
+        }
+    }
+    count
+}
+
 /// Returns a copy of a text.
 pub fn copy_of(rt: &impl Abort, alloc: Global, text: &str) -> Vec<u8> {
     must(rt, Vec::from_slice(alloc, text.as_bytes()))
@@ -56,27 +65,6 @@ pub fn words_of(rt: &impl Abort, alloc: Global, text: &str) -> Vec<String> {
 /// Returns the name of a zone.
 pub fn name_of(rt: &impl Abort, alloc: Global, text: &str) -> Name {
     must(rt, must(rt, Name::parse(alloc, text.as_bytes()).ok_or(())))
-}
-
-/// Returns copies of texts.
-fn copies_of(alloc: Global, texts: &[&str]) -> Result<Vec<Vec<u8>>, AllocError> {
-    let mut copies = Vec::new(alloc);
-    for text in texts {
-        copies.push(Vec::from_slice(alloc, text.as_bytes())?)?;
-    }
-    Ok(copies)
-}
-
-/// Returns the source of texts.
-fn source_of(alloc: Global, texts: &[&str]) -> Result<Source, Stop> {
-    let copies = copies_of(alloc, texts)?;
-    read_source(alloc, &copies)
-}
-
-/// Returns the files of texts.
-pub fn files_of(alloc: Global, texts: &[&str]) -> Result<Files, Stop> {
-    let source = source_of(alloc, texts)?;
-    compile(alloc, &source)
 }
 
 /// A reader that gives at most `step` bytes of a text at a time. At its end it may fail once. Then it
@@ -125,9 +113,11 @@ impl Read for Device<'_> {
     }
 }
 
-/// The way in which a writer fails.
+/// The way in which a writer fails, or is slow.
 #[derive(Clone, Copy)]
 pub enum Defect {
+    /// Takes at most three bytes at a time.
+    Slow,
     /// Takes this number of bytes, and then fails.
     Full(usize),
     /// Takes no byte.
@@ -136,7 +126,7 @@ pub enum Defect {
     Unflushed,
 }
 
-/// A writer that fails.
+/// A writer that fails, or is slow.
 #[derive(Drop)]
 pub struct Sink {
     held: Vec<u8>,
@@ -161,6 +151,7 @@ impl Sink {
 impl Write for Sink {
     fn write(&mut self, buf: &[u8]) -> io::Result<usize> {
         let room = match self.defect {
+            Defect::Slow => 3,
             Defect::Full(most) => most.saturating_sub(self.held.len()),
             Defect::Stuck => return Ok(0),
             Defect::Unflushed => buf.len(),

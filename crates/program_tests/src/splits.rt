@@ -2,7 +2,7 @@
 
 mod rounds;
 
-use crate::samples::{Device, expect, expect_text, must};
+use crate::samples::{Device, count_of, expect, expect_text, must};
 use csv::{ByteRecord, ReaderBuilder};
 use std::alloc::Global;
 use std::process::Abort;
@@ -56,7 +56,7 @@ fn count_same(rt: &impl Abort, alloc: Global, bytes: &[u8], size: usize) -> usiz
     let shown = rounds::shown(rt, alloc, &mut device, 1_000_000, (1000, size));
     let (got, _) = must(rt, shown.ok_or(()));
     expect_text(rt, &got, &want, "the records of a CSV reader");
-    want.iter().filter(|byte| **byte == b'|').count()
+    count_of(&want, b'|')
 }
 
 #[test]

@@ -7,6 +7,7 @@ use std::cell::RefCell;
 use std::fs::{Files, Metadata, OpenFile, OpenOptions};
 use std::io::{self, ErrorKind, Read, Seek, SeekFrom, Write};
 use std::process::Abort;
+use std::slice;
 use std::sync::Wait;
 use std::thread::Threads;
 use zic_commands::*;
@@ -243,30 +244,45 @@ fn linked<T: Threads + Wait + Sync + Abort>(
     rt: &T,
     alloc: Global,
     disk: &Disk<'_>,
+    source: &str,
     kind: LinkKind,
 ) -> String {
-    let texts = [copy_of(rt, alloc, "Link Z/UTC L/M/UTC\nZone Z/UTC 0 - UTC\n")];
-    built_of(rt, alloc, disk, ("D", Some(kind)), &texts)
+    let text = copy_of(rt, alloc, source);
+    built_of(rt, alloc, disk, ("D", Some(kind)), slice::from_ref(&text))
 }
 
-/// The kind of a link, the call that fails, and the calls: a link is made after its file and before
-/// it has its name.
-type OneLink = (LinkKind, (&'static str, ErrorKind), &'static str);
+const LINK: &str = "Link Z/UTC L/M/UTC\nZone Z/UTC 0 - UTC\n";
 
-static ONE_LINK: [OneLink; 6] = [
+/// Two zones, and a link to the second with a link to it.
+const LINKS: &str =
+    "Link East A/East\nZone Etc/UTC 0 - UTC\nLink Z/EST East\nZone Z/EST -5 - EST\n";
+
+/// A source, the kind of its links, the call that fails, and the calls: links are made after the files
+/// of all zones, and each before it has its name.
+type Links = (
+    &'static str,
+    LinkKind,
+    (&'static str, ErrorKind),
+    &'static str,
+);
+
+static ALL_LINKS: [Links; 8] = [
     (
+        LINK,
         LinkKind::Hard,
         ("", ErrorKind::Other),
         "list D/Z/\ncreate D/Z/~pzic7\nwrite 111\nflush \nrename D/Z/~pzic7\nto D/Z/UTC\nlist D/L/M/\n\
 file D/Z/UTC\nlink D/L/M/~pzic7\nrename D/L/M/~pzic7\nto D/L/M/UTC\nremove D/L/M/~pzic7\n",
     ),
     (
+        LINK,
         LinkKind::Symbolic,
         ("", ErrorKind::Other),
         "list D/Z/\ncreate D/Z/~pzic7\nwrite 111\nflush \nrename D/Z/~pzic7\nto D/Z/UTC\nlist D/L/M/\n\
 text ../../Z/UTC\nsymlink D/L/M/~pzic7\nrename D/L/M/~pzic7\nto D/L/M/UTC\n",
     ),
     (
+        LINK,
         LinkKind::Hard,
         ("link D/L/M/~pzic7", ErrorKind::Other),
         "list D/Z/\ncreate D/Z/~pzic7\nwrite 111\nflush \nrename D/Z/~pzic7\nto D/Z/UTC\nlist D/L/M/\n\
@@ -274,6 +290,7 @@ file D/Z/UTC\nlink D/L/M/~pzic7\ncannot write D/L/M/UTC, status 3",
     ),
     // another run replaces the zone's file at that moment
     (
+        LINK,
         LinkKind::Hard,
         ("link D/L/M/~pzic7", ErrorKind::NotFound),
         "list D/Z/\ncreate D/Z/~pzic7\nwrite 111\nflush \nrename D/Z/~pzic7\nto D/Z/UTC\nlist D/L/M/\n\
@@ -282,29 +299,49 @@ remove D/L/M/~pzic7\n",
     ),
     // another run has a file of the same name
     (
+        LINK,
         LinkKind::Symbolic,
         ("symlink D/L/M/~pzic7", ErrorKind::AlreadyExists),
         "list D/Z/\ncreate D/Z/~pzic7\nwrite 111\nflush \nrename D/Z/~pzic7\nto D/Z/UTC\nlist D/L/M/\n\
 text ../../Z/UTC\nsymlink D/L/M/~pzic7\ntext ../../Z/UTC\nsymlink D/L/M/~pzic8\nrename D/L/M/~pzic8\nto D/L/M/UTC\n",
     ),
     (
+        LINK,
         LinkKind::Hard,
         ("rename D/L/M/~pzic7", ErrorKind::Other),
         "list D/Z/\ncreate D/Z/~pzic7\nwrite 111\nflush \nrename D/Z/~pzic7\nto D/Z/UTC\nlist D/L/M/\n\
 file D/Z/UTC\nlink D/L/M/~pzic7\nrename D/L/M/~pzic7\nremove D/L/M/~pzic7\ncannot write D/L/M/UTC, status 3",
     ),
+    (
+        LINKS,
+        LinkKind::Hard,
+        ("", ErrorKind::Other),
+        "list D/Etc/\ncreate D/Etc/~pzic7\nwrite 111\nflush \nrename D/Etc/~pzic7\nto D/Etc/UTC\n\
+list D/Z/\ncreate D/Z/~pzic7\nwrite 111\nflush \nrename D/Z/~pzic7\nto D/Z/EST\n\
+list D/A/\nfile D/Z/EST\nlink D/A/~pzic7\nrename D/A/~pzic7\nto D/A/East\nremove D/A/~pzic7\n\
+list D/\nfile D/Z/EST\nlink D/~pzic7\nrename D/~pzic7\nto D/East\nremove D/~pzic7\n",
+    ),
+    (
+        LINKS,
+        LinkKind::Symbolic,
+        ("", ErrorKind::Other),
+        "list D/Etc/\ncreate D/Etc/~pzic7\nwrite 111\nflush \nrename D/Etc/~pzic7\nto D/Etc/UTC\n\
+list D/Z/\ncreate D/Z/~pzic7\nwrite 111\nflush \nrename D/Z/~pzic7\nto D/Z/EST\n\
+list D/A/\ntext ../Z/EST\nsymlink D/A/~pzic7\nrename D/A/~pzic7\nto D/A/East\n\
+list D/\ntext Z/EST\nsymlink D/~pzic7\nrename D/~pzic7\nto D/East\n",
+    ),
 ];
 
 #[test]
-fn a_link_is_made_after_its_file_and_before_it_has_its_name(rt: HostRuntime) {
-    for (kind, fails, want) in &ONE_LINK {
+fn a_link_is_made_after_all_files_and_before_it_has_its_name(rt: HostRuntime) {
+    for (source, kind, fails, want) in &ALL_LINKS {
         let calls = RefCell::new(String::new(rt.alloc()));
         let disk = Disk {
             log: log_of(rt.alloc(), &calls, *fails),
             bytes: b"",
             names: b"UTC\0",
         };
-        let told = linked(&rt, rt.alloc(), &disk, *kind);
+        let told = linked(&rt, rt.alloc(), &disk, *source, *kind);
         expect_calls(&rt, calls, told.as_str(), *want);
     }
 }
@@ -337,56 +374,92 @@ fn texts_of(
     read_sources(alloc, disk, &mut reader, &words_of(rt, alloc, words))
 }
 
-/// A source, and the calls that building it makes where one of them fails, followed by the text and
+/// The folder, the words for sources and what `-` stands for; the call that fails, the kind of its error
+/// and the names that stand in each folder, if it is there; and the calls, followed by the text and
 /// status of the failure, if that ends the command.
-type OneSource = (
-    &'static str,
+type Build = (
+    (&'static str, &'static str, &'static str),
     (&'static str, ErrorKind, &'static [u8]),
     &'static str,
 );
 
-/// A file is written whole before it has its name. A folder is entered once, and other runs may be
-/// in it.
-static ONE_SOURCE: [OneSource; 10] = [
+/// Sources are read from left to right before anything is made; an empty word is no path. A file is
+/// written whole before it has its name. A folder is entered once, and other runs may be in it.
+static BUILDS: [Build; 18] = [
     (
-        "Zone Etc/UTC 0 - UTC",
+        ("D", "a b", ""),
+        ("", ErrorKind::Other, b""),
+        "open a\nopen b\n",
+    ),
+    (
+        ("D", "a b", ""),
+        ("open a", ErrorKind::Other, b""),
+        "open a\ncannot read a, status 3",
+    ),
+    (
+        ("D", "a b", ""),
+        ("open b", ErrorKind::Other, b""),
+        "open a\nopen b\ncannot read b, status 3",
+    ),
+    (
+        ("D", "a -", "Zone A 0 - UTC\n-6:00 - CST"),
+        ("", ErrorKind::Other, b""),
+        "open a\ntext 2 line 2: Keyword, status 1",
+    ),
+    (
+        ("D", "-", "Zone A 0 -"),
+        ("", ErrorKind::Other, b""),
+        "line 1: FieldCount, status 1",
+    ),
+    (
+        ("D", "-", "# No zone."),
+        ("folder D", ErrorKind::Other, b""),
+        "",
+    ),
+    (
+        ("", "-", "Zone A 0 - UTC"),
+        ("", ErrorKind::Other, b""),
+        "cannot write /A, status 3",
+    ),
+    (
+        ("D", "-", "Zone Etc/UTC 0 - UTC"),
         ("", ErrorKind::Other, b""),
         "folder D/Etc\ncreate D/Etc/~pzic7\nwrite 111\nflush \nrename D/Etc/~pzic7\nto D/Etc/UTC\n",
     ),
     (
-        "Zone Etc/UTC 0 - UTC",
+        ("D", "-", "Zone Etc/UTC 0 - UTC"),
         ("folder D/Etc", ErrorKind::Other, b""),
         "folder D/Etc\ncannot write D/Etc/UTC, status 3",
     ),
     (
-        "Zone Etc/UTC 0 - UTC",
+        ("D", "-", "Zone Etc/UTC 0 - UTC"),
         ("create D/Etc/~pzic7", ErrorKind::Other, b""),
         "folder D/Etc\ncreate D/Etc/~pzic7\ncannot write D/Etc/UTC, status 3",
     ),
     (
-        "Zone Etc/UTC 0 - UTC",
+        ("D", "-", "Zone Etc/UTC 0 - UTC"),
         ("write 111", ErrorKind::Other, b""),
         "folder D/Etc\ncreate D/Etc/~pzic7\nwrite 111\nremove D/Etc/~pzic7\ncannot write D/Etc/UTC, status 3",
     ),
     (
-        "Zone Etc/UTC 0 - UTC",
+        ("D", "-", "Zone Etc/UTC 0 - UTC"),
         ("flush ", ErrorKind::Other, b""),
         "folder D/Etc\ncreate D/Etc/~pzic7\nwrite 111\nflush \nremove D/Etc/~pzic7\ncannot write D/Etc/UTC, status 3",
     ),
     (
-        "Zone Etc/UTC 0 - UTC",
+        ("D", "-", "Zone Etc/UTC 0 - UTC"),
         ("rename D/Etc/~pzic7", ErrorKind::Other, b""),
         "folder D/Etc\ncreate D/Etc/~pzic7\nwrite 111\nflush \nrename D/Etc/~pzic7\nremove D/Etc/~pzic7\ncannot write D/Etc/UTC, status 3",
     ),
     (
-        TWO,
+        ("D", "-", TWO),
         ("", ErrorKind::Other, b".\0..\0UTC\0"),
         "list D/\ncreate D/~pzic7\nwrite 111\nflush \nrename D/~pzic7\nto D/A\n\
 create D/~pzic7\nwrite 111\nflush \nrename D/~pzic7\nto D/B\n",
     ),
     // what runs left behind, and other names; one can't be removed
     (
-        TWO,
+        ("D", "-", TWO),
         (
             "remove D/~pzic12",
             ErrorKind::PermissionDenied,
@@ -398,69 +471,38 @@ create D/~pzic7\nwrite 111\nflush \nrename D/~pzic7\nto D/B\n",
     ),
     // another run has a file of the same name
     (
-        TWO,
+        ("D", "-", TWO),
         ("create D/~pzic7", ErrorKind::AlreadyExists, b"A\0"),
         "list D/\ncreate D/~pzic7\ncreate D/~pzic8\nwrite 111\nflush \nrename D/~pzic8\nto D/A\n\
 create D/~pzic8\nwrite 111\nflush \nrename D/~pzic8\nto D/B\n",
     ),
     // another run removed the file
     (
-        TWO,
+        ("D", "-", TWO),
         ("rename D/~pzic7", ErrorKind::NotFound, b"A\0"),
         "list D/\ncreate D/~pzic7\nwrite 111\nflush \nrename D/~pzic7\n\
 create D/~pzic7\nwrite 111\nflush \nrename D/~pzic7\nto D/A\n\
 create D/~pzic7\nwrite 111\nflush \nrename D/~pzic7\nto D/B\n",
+    ),
+    // no file is made after one that is refused
+    (
+        ("D", "-", "Zone A 0 - UTC\nZone B 0 - UTC\nZone C 0 - UTC"),
+        ("to D/B", ErrorKind::Other, b"A\0"),
+        "list D/\ncreate D/~pzic7\nwrite 111\nflush \nrename D/~pzic7\nto D/A\n\
+create D/~pzic7\nwrite 111\nflush \nrename D/~pzic7\nto D/B\nremove D/~pzic7\ncannot write D/B, status 3",
     ),
 ];
 
 const TWO: &str = "Zone A 0 - UTC\nZone B 0 - UTC";
 
 #[test]
-fn files_are_written_whole(rt: HostRuntime) {
-    for (source, (fails, kind, names), want) in &ONE_SOURCE {
+fn sources_are_read_before_anything_is_made_and_files_are_written_whole(rt: HostRuntime) {
+    for ((folder, words, input), (fails, kind, names), want) in &BUILDS {
         let calls = RefCell::new(String::new(rt.alloc()));
         let disk = Disk {
             log: log_of(rt.alloc(), &calls, (*fails, *kind)),
-            bytes: b"",
-            names: *names,
-        };
-        let told = built(&rt, rt.alloc(), &disk, "D", "-", *source);
-        expect_calls(&rt, calls, told.as_str(), *want);
-    }
-}
-
-/// The folder and the words for sources, what `-` stands for, the call that fails, and the calls.
-/// Sources are read from left to right before anything is made; an empty word is no path.
-static WORDS: [(&str, &str, &str, &str, &str); 7] = [
-    ("D", "a b", "", "", "open a\nopen b\n"),
-    ("D", "a b", "", "open a", "open a\ncannot read a, status 3"),
-    (
-        "D",
-        "a b",
-        "",
-        "open b",
-        "open a\nopen b\ncannot read b, status 3",
-    ),
-    (
-        "D",
-        "a -",
-        "Zone A 0 - UTC\n-6:00 - CST",
-        "",
-        "open a\ntext 2 line 2: Keyword, status 1",
-    ),
-    ("D", "-", "Zone A 0 -", "", "line 1: FieldCount, status 1"),
-    ("D", "-", "# No zone.", "folder D", ""),
-    ("", "-", "Zone A 0 - UTC", "", "cannot write /A, status 3"),
-];
-
-#[test]
-fn sources_are_read_before_anything_is_made(rt: HostRuntime) {
-    for (folder, words, input, fails, want) in &WORDS {
-        let calls = RefCell::new(String::new(rt.alloc()));
-        let disk = Disk {
-            log: log_of(rt.alloc(), &calls, (*fails, ErrorKind::Other)),
             bytes: b"# A source.\n",
-            names: b"",
+            names: *names,
         };
         let told = built(&rt, rt.alloc(), &disk, *folder, *words, *input);
         expect_calls(&rt, calls, told.as_str(), *want);

@@ -1,6 +1,6 @@
 //! Rounds of columns that come in reads of each length, and readers that fail.
 
-use crate::samples::{Device, expect, expect_text, must};
+use crate::samples::{Device, count_of, expect, expect_text, must};
 use std::alloc::Global;
 use std::io::ErrorKind;
 use std::process::Abort;
@@ -253,8 +253,7 @@ fn long_records_come_whole(rt: HostRuntime) {
         let mut device = Device::new(&column, *step, Ok(()));
         let shown = shown(&rt, rt.alloc(), &mut device, 10_000_000, *plan);
         let (text, _) = must(&rt, shown.ok_or(()));
-        let records = text.iter().filter(|byte| **byte == b'|').count();
-        expect(&rt, records == 20_004, "all records");
+        expect(&rt, count_of(&text, b'|') == 20_004, "all records");
     }
 }
 
