@@ -24,7 +24,7 @@ import reader
 from columns import compare
 from layouts import column_of, compare_texts, moments_of, rows_of, told_of, try_column, zones_of
 
-OPTIONS = [(), ("append",), ("header",), ("zone",), ("delimiter",), ("ms",), ("going",)]
+OPTIONS = [(), ("append",), ("header",), ("zone",), ("fields",), ("delimiter",), ("semicolon",), ("ms",), ("us",), ("ns",), ("going",)]
 PIECES = ["--row-piece", "64"]                                             # which make many rounds
 SECONDS = 20                                                               # in which the program does anything
 
