@@ -1,23 +1,30 @@
 -- How a conversion ends, by how far it has come.
-use Rattle.std.proofs.Common.{◌≡◌, ◌≤◌, ◌+◌, ℕ, List, [], length, Option, None, sym, subst, ◌∙◌, inl, inr, arith}
+use Rattle.std.proofs.Common.{◌≡◌, ◌≤◌, ◌+◌, ℕ, List, [], length, Option, None, refl, sym, subst, ◌∙◌, inl, inr, arith}
 use Rattle.std.specs.Prelude.{All}
+use Rattle.std.proofs.lemmas.List.{append-nil}
 use Rattle.zic_counted.specs.Counts.{Counts}
 use Rattle.zic_files.specs.File.{File}
 use Rattle.zic_plan.specs.declared.layout.Layout.{Layout}
 use Rattle.zic_plan.specs.declared.stop.RowFault.{RowFault}
 use Rattle.zic_plan.specs.declared.stop.RunStop.{RunStop}
 use Rattle.zic_plan.specs.declared.stop.RunStop.TheVariants as stop
-use Rattle.zic_convert.specs.Convert.{WritesAtOf, WritesUpToOf}
+use Rattle.zic_convert.specs.Convert.{WritesAllOf, WritesAtOf, WritesUpToOf}
 use Rattle.zic_convert.specs.LayoutRows.{faults_by}
 use Rattle.zic_convert.specs.Log.{Notes, NotesAt}
-use Rattle.zic_convert.proofs.Logs.{part_noted, unread_noted, up_to_noted}
-use Rattle.zic_convert.specs.code.Row.{AreRowsOf, RowsOf, wholes_of_all}
+use Rattle.zic_convert.proofs.Logs.{part_none, part_noted, unread_noted, up_to_noted}
+use Rattle.zic_convert.specs.code.Row.{AreRowsOf, RowsOf, wholes_in, wholes_of_all}
 use Rattle.zic_convert.specs.code.Pieces.{Pieces}
 use Rattle.zic_convert.specs.code.Progress.{ComeNext, IsSoFar, RowsOfRecords, Takes}
+use Rattle.zic_counted.specs.Written.{FailsWithin}
 use Rattle.zic_convert.specs.code.Written.{EndsAtRow, EndsInRound, Wrote}
+use Rattle.std.specs.List.{concat}
+use Rattle.std.specs.Io.KnownBytes.{Appends}
+use Rattle.csv.proofs.WriteFacts.{appends-more}
 use Rattle.zic_columns.specs.Own.{Whole}
-use Rattle.zic_convert.proofs.Coming.{all_texts, all_within, few_texts}
-use Rattle.zic_convert.proofs.Progress.{later, part_written, unread_part, up_to_fault}
+use Rattle.zic_columns.specs.Round.{HasNoRecord}
+use Rattle.zic_convert.proofs.Coming.{all_texts, all_within, few_texts, no_rows}
+use Rattle.zic_convert.proofs.Options.{if_some}
+use Rattle.zic_convert.proofs.Progress.{all_written, later, part_written, unread_part, up_to_fault}
 use Rattle.zic_convert.proofs.Sounds.{IsKnown}
 
 -- rows without a fault are as many as their records
@@ -77,3 +84,21 @@ module _ {W : Type 0} (contents : W → Option (List ℕ)) where
       pub noted_in_round : (why : RunStop) → EndsInRound p contents mid new now last why → NotesAt why log last (faults_by layout files most 1 all)
       noted_in_round why (inl memory) = rw (memory.0, memory.2) (unread_noted layout files most all left n old (contents mid.inner) log now far)
       noted_in_round why (inr ends) = noted_at_row rs come ends.0 (rw (l, f, m, number, ← same) ends.1) new last why (rw number ends.2)
+
+    -- the writer failed in the end
+    pub ends_at_flush : (new : Counts W) (why : RunStop) → why ≡ stop.WriteFailed → FailsWithin contents mid new [] → WritesAtOf [] (RowsOfRecords layout files most all) why old (contents new.inner)
+    ends_at_flush new why is fails =
+        let come : ComeNext layout.delimiter left [] = if_some left _ (λ bytes e. (wholes_in layout.delimiter bytes, refl)) in
+        rw is (ends_at_row [] come (record { text = []; count = 0; fault = None; faults = [] }) (no_rows layout files most (n + 1)) new now stop.WriteFailed (fails, part_none now []))
+
+    -- all rows are written and flushed
+    pub all_done : (new : Counts W) → HasNoRecord left → Wrote contents mid new [] → WritesAllOf [] (RowsOfRecords layout files most all) n old (contents new.inner)
+    all_done new none flushed =
+        let written = all_written layout files most all left n old (contents mid.inner) log now far none in
+        record {
+          texts = written.texts;
+          converts = written.converts;
+          count = written.count;
+          wrote = subst (λ (l : List ℕ). Appends old (contents new.inner) l) (append-nil (concat written.texts))
+              (appends-more old (contents mid.inner) (contents new.inner) (concat written.texts) [] written.wrote flushed.0);
+        }

@@ -3,6 +3,7 @@ use Rattle.std.proofs.Common.{◌≡◌, ◌+◌, ℕ, List, [], Option, Some, r
 use Rattle.std.specs.Prelude.{IfErr, IfOk, IfSome, Result}
 use Rattle.zic_columns.specs.Round.{HasNoRecord, TakesPieces}
 use Rattle.zic_counted.specs.Counts.{Counts}
+use Rattle.zic_counted.specs.Written.{FailsWithin}
 use Rattle.zic_files.specs.File.{File}
 use Rattle.zic_files.specs.Sound.{AreSoundFiles}
 use Rattle.zic_files.specs.Tree.{IsLearntFrom, Learnt, Reply}
@@ -18,15 +19,15 @@ use Rattle.zic_convert.specs.code.Learn.{HaltsAtTurn}
 use Rattle.zic_convert.specs.code.Progress.{IsSoFar, Takes}
 use Rattle.zic_convert.specs.code.Rest.{ConvertsRest, HaltsAtHead, HaltsInRecords, HaltsInRest}
 use Rattle.zic_convert.specs.code.Row.{wholes_in, wholes_of_all}
-use Rattle.zic_convert.specs.code.Written.{HaltsInRound, WritesRound, pieces_by}
+use Rattle.zic_convert.specs.code.Written.{HaltsInRound, WritesRound, Wrote, pieces_by}
 use Rattle.zic_convert.specs.declared.halt.Halt.{Halt}
 use Rattle.zic_convert.specs.declared.halt.Halt.TheVariants as halt
 use Rattle.zic_convert.proofs.Ends.{all_in_part, ends_as_read, err_end}
-use Rattle.zic_convert.proofs.Halts.{ends_in_round, goes_on, noted_in_round}
+use Rattle.zic_convert.proofs.Halts.{all_done, ends_at_flush, ends_in_round, goes_on, noted_in_round}
 use Rattle.zic_convert.proofs.Heads.{halts_at_head}
 use Rattle.zic_convert.proofs.Logs.{all_noted, unread_noted}
 use Rattle.zic_convert.proofs.Options.{if_some}
-use Rattle.zic_convert.proofs.Progress.{all_written, at_start, none_taken, round_taken, taken_come_next, unread_part}
+use Rattle.zic_convert.proofs.Progress.{at_start, none_taken, round_taken, taken_come_next, unread_part}
 use Rattle.zic_convert.proofs.Sounds.{all_known}
 use Rattle.zic_convert.proofs.Trees.{at_first, by_asked, by_learnt, learnt_ends, nothing_asked}
 
@@ -79,12 +80,20 @@ module _ {W : Type 0} (contents : W → Option (List ℕ)) (once : FilesAnswerOn
           refl refl refl refl refl new last why ends,
     ))
 
-  -- no record is left
-  pub all_done_by : (next : Option (List ℕ)) → Takes layout.delimiter left next [] → HasNoRecord next → ConvertsRest layout plan.max_rows known n held (contents mid.inner) log now files
-  all_done_by next none end = if_some known _ (λ bytes e.
+  -- the writer failed in the end
+  pub halts_at_flush : (new : Counts W) → FailsWithin contents mid new [] → HaltsInRest layout plan.max_rows known (halt.Stop stop.WriteFailed) held (contents new.inner) log now files
+  halts_at_flush new fails = if_some known _ (λ bytes e. (
+    ends_at_flush contents layout files plan.max_rows (wholes_in layout.delimiter bytes) (all_known files sound once) left n held mid log now (far bytes e) new stop.WriteFailed refl fails,
+    unread_noted layout files plan.max_rows (wholes_in layout.delimiter bytes) left n held (contents mid.inner) log now (far bytes e),
+  ))
+
+  -- no record is left, and all rows are written and flushed
+  pub all_done_by : (next : Option (List ℕ)) → Takes layout.delimiter left next [] → HasNoRecord next → (new : Counts W) → Wrote contents mid new []
+      → ConvertsRest layout plan.max_rows known n held (contents new.inner) log now files
+  all_done_by next none end new flushed = if_some known _ (λ bytes e.
       let all = wholes_in layout.delimiter bytes in
       let end_far = none_taken layout files plan.max_rows all left next n held (contents mid.inner) log now none (far bytes e) in (
-        all_written layout files plan.max_rows all next n held (contents mid.inner) log now end_far end,
+        all_done contents layout files plan.max_rows all (all_known files sound once) next n held mid log now end_far new end flushed,
         all_noted layout files plan.max_rows all next n held (contents mid.inner) log now end_far end,
       ))
 

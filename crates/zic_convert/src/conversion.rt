@@ -19,7 +19,7 @@ ghost use Rattle.zic_convert.specs.code.Rest.{ConvertsRecords, ConvertsRest, Hal
 ghost use Rattle.zic_convert.specs.code.Rest.{HaltsInRecords, HaltsInRest};
 
 use crate::halt::Halt;
-use crate::output::write_header;
+use crate::output::{flush, write_header};
 use crate::pieces::RowPieces;
 use crate::round::convert_round;
 use crate::row_files::RowFiles;
@@ -88,6 +88,7 @@ fn convert_rounds<T: Threads + Wait + Sync, R: Read, W: Write, G: Gate + Sync, L
         let pieces = RowPieces::new(layout, files, column.round(), count + 1, setting.plan);
         count += convert_round(setting, &pieces, writer, log)?;
     }
+    flush(writer)?;
     Ok(count)
 }
 

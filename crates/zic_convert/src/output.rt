@@ -73,7 +73,7 @@ fn write_all<W: Write>(writer: &mut Counted<W>, bytes: &[u8]) -> Result<(), RunS
 }
 
 /// Has the writer pass on what it holds back.
-fn flush<W: Write>(writer: &mut Counted<W>) -> Result<(), RunStop>
+pub(crate) fn flush<W: Write>(writer: &mut Counted<W>) -> Result<(), RunStop>
     ensures ok { OnOk result (Wrote W.contents writer.old writer.new []) }
     ensures err { IfErr result (λ stop. (stop ≡ RunStop.WriteFailed)
         × FailsWithin W.contents writer.old writer.new []) }

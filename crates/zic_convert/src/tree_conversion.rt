@@ -18,6 +18,7 @@ ghost use Rattle.zic_convert.specs.code.Written.{EndsInRound, WritesRound, piece
 use crate::conversion::{begin_rows, ended, round_len};
 use crate::halt::Halt;
 use crate::learning::learn_round;
+use crate::output::flush;
 use crate::pieces::RowPieces;
 use crate::round::convert_round;
 use crate::row_files::RowFiles;
@@ -147,6 +148,7 @@ fn convert_tree_rounds<T: Threads + Wait + Sync, Z: ZoneTree, R: Read, W: Write,
         let learnt = files.files();
         count += convert_learnt(setting, learnt, column.round(), count + 1, writer, log)?;
     }
+    flush(writer)?;
     Ok(count)
 }
 

@@ -6,7 +6,7 @@ use Rattle.zic_convert.specs.declared.halt.Halt.TheVariants as halt
 use Rattle.zic_convert.proofs.Halts.{as_many, no_more}
 use Rattle.zic_convert.proofs.Joining.{some_records}
 use Rattle.zic_convert.proofs.Progress.{no_piece, round_taken}
-use Rattle.zic_convert.proofs.TreeEnds.{all_done_by, far_after_round, far_at_start, halts_in_round, halts_unread}
+use Rattle.zic_convert.proofs.TreeEnds.{all_done_by, far_after_round, far_at_start, halts_at_flush, halts_in_round, halts_unread}
 use Rattle.zic_convert.proofs.conversion.convert_rounds.Goals as goal
 
 pub loop-column-init : goal.loop-column-init
@@ -71,6 +71,14 @@ loop-column-preserved g c =
           taken (unread g.R.Read.remaining c.turn.new.self) c.in_ok-turn.ensures.takes c.convert_round.new.writer (g.L.FaultLog.noted c.convert_round.new.log) c.in_ok-count.field-0 ok;
     }
 
+pub returns-in_err-flush-clause-halt : goal.returns-in_err-flush-clause-halt
+returns-in_err-flush-clause-halt g c =
+    let l = c.loop-column in
+    let p = err_from_is_err_and c.from_residual-in_err-flush.result c.from_residual-in_err-flush.ensures.1 in
+    rw (p.1, p.2, c.in_err-flush.ensures.err.0) (halts_at_flush g.W.Write.contents c.files_answer_once.ensures c.args.layout.now c.args.setting.now.plan.now (unread g.R.Read.remaining c.args.column.now)
+    (unread g.R.Read.remaining l.column) l.count (g.W.Write.contents c.args.writer.now.inner) l.writer (g.L.FaultLog.noted c.args.log.now) (g.L.FaultLog.noted l.log) c.args.files.now c.are_sound.ensures
+    l.invariant.far c.flush.new.writer c.in_err-flush.ensures.err.1)
+
 pub returns-clause-all : goal.returns-clause-all
 returns-clause-all g c =
     let l = c.loop-column in
@@ -81,4 +89,4 @@ returns-clause-all g c =
     let takes = no_piece layout.delimiter left last c.turn.new.self.round none (round_taken layout.delimiter left last c.turn.new.self.round c.in_ok-turn.ensures.takes) in
     all_done_by g.W.Write.contents c.files_answer_once.ensures layout c.args.setting.now.plan.now (unread g.R.Read.remaining c.args.column.now) left
     l.count (g.W.Write.contents c.args.writer.now.inner) l.writer (g.L.FaultLog.noted c.args.log.now) (g.L.FaultLog.noted l.log) c.args.files.now c.are_sound.ensures l.invariant.far
-    last takes (c.in_ok-turn.ensures.end c.if-branch.false)
+    last takes (c.in_ok-turn.ensures.end c.if-branch.false) c.flush.new.writer c.in_ok-flush.ensures.ok

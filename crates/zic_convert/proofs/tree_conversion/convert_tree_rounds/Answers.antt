@@ -6,7 +6,7 @@ use Rattle.zic_convert.specs.code.Row.{wholes_of_all}
 use Rattle.zic_convert.proofs.Halts.{as_many, no_more}
 use Rattle.zic_convert.proofs.Joining.{some_records}
 use Rattle.zic_convert.proofs.Progress.{no_piece, round_taken}
-use Rattle.zic_convert.proofs.TreeEnds.{all_done_by, far_after_round, far_at_start, halts_at_turn, halts_in_round}
+use Rattle.zic_convert.proofs.TreeEnds.{all_done_by, far_after_round, far_at_start, halts_at_flush, halts_at_turn, halts_in_round}
 use Rattle.zic_convert.proofs.Trees.{at_first, by_learnt, round_done, round_halts, still_learnt}
 use Rattle.zic_convert.proofs.tree_conversion.convert_tree_rounds.Goals as goal
 
@@ -99,6 +99,19 @@ loop-files-preserved g c =
           c.in_ok-turn_learnt.ensures.turns.takes c.convert_learnt.new.writer last c.in_ok-count.field-0 writes);
     }
 
+pub returns-in_err-flush-clause-halt : goal.returns-in_err-flush-clause-halt
+returns-in_err-flush-clause-halt g c =
+    let l = c.loop-files in
+    let layout = c.args.setting.now.layout.now in
+    let gave = g.Z.ZoneTree.replied c.args.tree.now in
+    let then = g.Z.ZoneTree.replied c.turn_learnt.new.tree in
+    let p = err_from_is_err_and c.from_residual-in_err-flush.result c.from_residual-in_err-flush.ensures.1 in
+    λ replies from. rw (p.1, p.2, c.in_err-flush.ensures.err.0) (by_learnt replies gave then c.turn_learnt.new.files _ (still_learnt c.files_stay.ensures layout c.byte.ensures.sound c.args.setting.now.plan.now
+    c.turn_learnt.new.column.round (l.count + 1) replies gave (g.Z.ZoneTree.replied l.tree) then l.files c.turn_learnt.new.files _ (l.invariant.far replies from) c.in_ok-turn_learnt.ensures.learns) _
+    (λ files sound far.
+    halts_at_flush g.W.Write.contents c.files_answer_once.ensures layout c.args.setting.now.plan.now (unread g.R.Read.remaining c.args.column.now) (unread g.R.Read.remaining l.column)
+    l.count (g.W.Write.contents c.args.writer.now.inner) l.writer (g.L.FaultLog.noted c.args.log.now) (g.L.FaultLog.noted l.log) files sound far c.flush.new.writer c.in_err-flush.ensures.err.1))
+
 pub returns-clause-all : goal.returns-clause-all
 returns-clause-all g c =
     let l = c.loop-files in
@@ -113,4 +126,4 @@ returns-clause-all g c =
     replies gave (g.Z.ZoneTree.replied l.tree) then l.files c.turn_learnt.new.files _ (l.invariant.far replies from) c.in_ok-turn_learnt.ensures.learns) _ (λ files sound far.
     all_done_by g.W.Write.contents c.files_answer_once.ensures layout c.args.setting.now.plan.now (unread g.R.Read.remaining c.args.column.now) left
     l.count (g.W.Write.contents c.args.writer.now.inner) l.writer (g.L.FaultLog.noted c.args.log.now) (g.L.FaultLog.noted l.log) files sound far last takes
-    (c.in_ok-turn_learnt.ensures.turns.end c.if-branch.false))
+    (c.in_ok-turn_learnt.ensures.turns.end c.if-branch.false) c.flush.new.writer c.in_ok-flush.ensures.ok)
