@@ -8,7 +8,7 @@ use crate::faulty::{Part, faulty_part};
 use crate::fields::{Span, fields_of};
 use crate::form::{Form, awaits, form_of};
 use crate::record::faulty_field;
-use crate::shown::{push_bytes, push_line_end, push_parts, push_shown};
+use crate::shown::{push_bytes, push_line_end, push_shown};
 use std::alloc::{AllocError, Global};
 use zic_base::Kind;
 use zic_plan::RowKind;
@@ -149,7 +149,9 @@ fn push_label(rest: &mut String, label: &str) -> Result<(), AllocError>
     if label.is_empty() {
         return Ok(());
     }
-    push_parts(rest, &[b" (", label.as_bytes(), b")"])
+    push_bytes(rest, b" (")?;
+    push_bytes(rest, label.as_bytes())?;
+    push_bytes(rest, b")")
 }
 
 /// Returns the line of this number, from 1 on.

@@ -31,7 +31,10 @@ pub(crate) fn push_shown(text: &mut String, line: &[u8], part: Span) -> Result<(
     } else {
         b""
     };
-    push_parts(text, &[b"  ", cut, window, cut_after])?;
+    push_bytes(text, b"  ")?;
+    push_bytes(text, cut)?;
+    push_bytes(text, window)?;
+    push_bytes(text, cut_after)?;
     push_line_end(text)?;
     push_repeated(text, b' ', cut.len().saturating_add(2))?;
     push_underline(text, window, start, part)?;
@@ -86,16 +89,6 @@ fn width(byte: u8) -> usize {
         b'\t' | b' '..=b'~' => 1,
         _ => 4,
     }
-}
-
-/// Adds what is shown of these parts, one after the other.
-pub(crate) fn push_parts(text: &mut String, parts: &[&[u8]]) -> Result<(), AllocError>
-    ensures { OnOk result (StaysShown (string_bytes text.old) (string_bytes text.new)) }
-{
-    for part in parts {
-        push_bytes(text, part)?;
-    }
-    Ok(())
 }
 
 /// Adds what is shown of bytes.

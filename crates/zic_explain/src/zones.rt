@@ -8,7 +8,7 @@ ghost use Rattle.zic_explain.specs.code.Shown.{StaysShown};
 use crate::fields::{Field, fields_of};
 use crate::form::{Form, awaits, form_of};
 use crate::record::name_of;
-use crate::shown::{push_bytes, push_line_end, push_parts};
+use crate::shown::{push_bytes, push_line_end};
 use std::alloc::{AllocError, Global};
 use strsim::levenshtein;
 
@@ -25,26 +25,15 @@ const LONGEST: usize = 255;
 pub fn nearest_zone(alloc: Global, source: &[u8], record: &[u8]) -> Result<String, AllocError>
     ensures { IfOk result (λ text. IsShownText (string_bytes text)) }
 {
-    let names = zone_names(alloc, source)?;
     let mut text = String::new(alloc);
-    if !names.is_empty() {
-        let name = nearest_name(alloc, &names, record)?;
-        push_nearest(&mut text, name)?;
+    let names = zone_names(alloc, source)?;
+    if names.is_empty() {
+        return Ok(text);
     }
-    Ok(text)
-}
-
-/// Returns the name that takes the fewest edits from that of a record.
-fn nearest_name<'a>(
-    alloc: Global,
-    names: &'a [String],
-    record: &[u8],
-) -> Result<&'a str, AllocError>
-    requires { 0 < length names.now }
-{
     let name = spelled(alloc, name_of(record))?;
-    let index = nearest_index(alloc, names, name.as_str())?;
-    Ok(names[index].as_str())
+    let index = nearest_index(alloc, &names, name.as_str())?;
+    push_nearest(&mut text, names[index].as_str())?;
+    Ok(text)
 }
 
 /// Adds an empty line, a title and a name.
@@ -54,7 +43,8 @@ fn push_nearest(text: &mut String, name: &str) -> Result<(), AllocError>
     push_line_end(text)?;
     push_bytes(text, b"Nearest name:")?;
     push_line_end(text)?;
-    push_parts(text, &[b"  ", name.as_bytes()])?;
+    push_bytes(text, b"  ")?;
+    push_bytes(text, name.as_bytes())?;
     push_line_end(text)
 }
 

@@ -5,4 +5,5 @@ pub returns : goal.returns
 returns c =
     on_ok_weaker c.push_line_end-2.result
     (λ stays shown. stays (c.in_ok-push_underline.ensures (c.in_ok-push_repeated.ensures
-    (c.in_ok-push_line_end.ensures (c.in_ok-push_parts.ensures shown))))) c.push_line_end-2.ensures
+    (c.in_ok-push_line_end.ensures (c.in_ok-push_bytes-4.ensures (c.in_ok-push_bytes-3.ensures (c.in_ok-push_bytes-2.ensures
+    (c.in_ok-push_bytes.ensures shown)))))))) c.push_line_end-2.ensures
