@@ -40,7 +40,7 @@ abbrev pub HasZone : List File → ZoneFrom → Type 0
 HasZone files (zone.Field index) = Unit {0}
 HasZone files (zone.Name name) = is_named files (string_bytes name) ≡ true
 
--- why there is no zone for all rows: no file has its name, which the failure tells unless memory runs out
+-- why there is no zone for all rows: no file has its name, and the failure tells that name, unless memory ran out
 abbrev pub IsFailureOfZone : List File → ZoneFrom → Failure → Type 0
 IsFailureOfZone files (zone.Field index) failure = ⊥
 IsFailureOfZone files (zone.Name name) failure =

@@ -26,15 +26,15 @@ abbrev pub AreOfZone : ZoneFrom → List Reply → Type 0
 AreOfZone (zone.Field index) replies = replies ≡ []
 AreOfZone (zone.Name name) replies = AreOfName (string_bytes name) replies
 
--- the tree replied to the zone that all rows are to be in, if there is to be one, and to no other name: at most once, and only if a zone may have
--- the name
+-- In this conversion the tree replied to no name but that of the zone that all rows are to be in, if there is to be one: at most once, and only
+-- if a zone may have that name. This says something where its replies are known.
 pub record IsZoneAsked (from : ZoneFrom) (tree : Replied) : Type 0 where
   pub replies : List Reply
   pub gains : Gains tree.before tree.after replies
   pub asked : AreAsked replies
   pub of_zone : AreOfZone from replies
 
--- The tree's replies have files: `Holds` is true of them, and still if other replies follow.
+-- `Holds` is true of the files that the tree's replies in this conversion give, perhaps none, and stays true if other replies follow.
 abbrev pub HoldsOfTree : Replied → (List File → Type 0) → Type 0
 HoldsOfTree tree Holds = (learnt : Learnt) × HoldsByLearnt [] tree.before tree.after learnt Holds
 
@@ -42,8 +42,8 @@ HoldsOfTree tree Holds = (learnt : Learnt) × HoldsByLearnt [] tree.before tree.
 abbrev pub ConvertsByTree : {R W : Type 0} → Limits → Layout → ℕ → Replied → Conversion R W → Noted → Type 0
 ConvertsByTree plan layout n tree run log = HoldsOfTree tree (ConvertsByFiles plan layout n run log)
 
--- why no zone for all rows is found: memory ran out while the tree was asked for it, or the tree has no file that rows can be made of under
--- its name, which the failure tells unless memory runs out
+-- why no zone for all rows is found: memory ran out, or the tree has no file that rows can be made of under the zone's name, and the failure
+-- tells that name
 abbrev pub IsFailureOfTreeZone : ZoneFrom → Replied → Failure → Type 0
 IsFailureOfTreeZone (zone.Field index) tree failure = ⊥
 IsFailureOfTreeZone (zone.Name name) tree failure =
