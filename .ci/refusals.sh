@@ -1,7 +1,7 @@
 #!/usr/bin/env bash
 # Refuses each growth of memory of a run in turn, and then all starts of threads from the first on,
 # from the second on, and so forth. The runs are tests of tasks of five pieces and of claims, which
-# must still pass, one row of each call of witness/rows, and commands of the program, with several
+# must still pass, one row of nearly each call of witness/rows, and commands of the program, with several
 # numbers of workers and sizes of pieces. If a growth is refused, the answers to rows end there, and
 # a command says `out of memory`, or reports the fault that it reports otherwise; it may give its whole answer only if the
 # growth was for the start of a worker. If threads are refused, it gives its whole answer. It never
@@ -45,7 +45,9 @@ pass program_tests claims::a_pass_sees_the_report_of_another
 # ------------------------------------------------------------------ calls of the library
 
 build probe counts
-python3 witness/worked_rows.py --calls witness/rows/*.txt >"$work/calls"
+# But for the calls that change or cut a source in every place, and those that grow nothing.
+python3 witness/worked_rows.py --calls witness/rows/*.txt |
+    grep -vE '^(calendar|sources changed|sources fronts|strings spans) ' >"$work/calls"
 crates/probe/out/probe rows <"$work/calls" >"$work/answers"
 for ((n = 1; ; n++)); do
     status=0
