@@ -334,8 +334,8 @@ Usual cause:
 expect 3 '' 'cannot read nowhere
 
 Expected:
-  The path of a readable file, or `-` for standard input. A source has at most
-  67,108,864 bytes.
+  The path of a readable file. For `check` and `build` it may be `-`, standard
+  input. A source has at most 67,108,864 bytes.
 
 Usual cause:
   A wrong path, a folder, or missing permissions.' check --explain nowhere
