@@ -118,6 +118,7 @@ impl Rows {
         self.count += 1;
         Ok(())
     }
+
     /// Adds the rows of records to none, up to the first that ends the run. The records have the
     /// delimiter and the comma in each other's place.
     fn add_all<'a>(

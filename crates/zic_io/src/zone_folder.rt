@@ -39,7 +39,7 @@ impl<F: FileSystem> ZoneTree for ZoneFolder<'_, F> {
     }
 }
 
-/// Returns the bytes of a file, or none where it wasn't read, but not for want of memory.
+/// Returns the bytes of a file, or none where it can't be read. Out of memory is an error.
 fn found(read: Result<Vec<u8>, Failure>) -> Result<Option<Vec<u8>>, AllocError> {
     match read {
         Ok(bytes) => Ok(Some(bytes)),

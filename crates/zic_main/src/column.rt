@@ -39,7 +39,7 @@ pub(crate) fn record_at<R: Files + AllocGlobal>(rt: &R, start: u64, row: u64) ->
     Vec::from_slice(rt.alloc(), record).ok()
 }
 
-/// Returns the bytes of the file of standard input from this offset on, at most so many.
+/// Returns the bytes of the file of standard input from this offset on, at most `most`.
 fn read_from<R: Files + AllocGlobal>(rt: &R, offset: u64, most: u64) -> Option<Vec<u8>> {
     let file = file_from(rt, offset)?;
     let mut text = Vec::new(rt.alloc());
