@@ -15,8 +15,3 @@ heap = record { memory = record { seal = record {} } }
 abbrev pub owned : Ptr → Option the_row.Denot → Fml
 owned p (Some x) = box_owns (ghosts.dealloc_token heap) the_row p x
 owned p None = ftrue
-
--- there is a value
-abbrev pub IsHolding : {X : Type 0} → Option X → Type 0
-IsHolding (Some x) = Unit {0}
-IsHolding None = ⊥

@@ -1,3 +1,4 @@
 -- What only the proofs of this crate's code use. No public contract cites it.
 pub mod Kept
 pub mod Written
+pub mod Holding

@@ -1,7 +1,8 @@
 //! Pointers to what handles hold. Raw pointers stand here and in `parts` alone.
 
 ghost use Rattle.std.specs.Prelude.{◌≡◌, Option, Some, None};
-ghost use Rattle.pzic_c.specs.Owned.{owned, IsHolding};
+ghost use Rattle.pzic_c.specs.Owned.{owned};
+ghost use Rattle.pzic_c.specs.code.Holding.{IsHolding};
 ghost use Rattle.pzic_c.specs.declared.held.Held.{Held};
 
 use crate::held::Held;

@@ -6,7 +6,8 @@ use Rattle.std.proofs.lemmas.List.{drop_more, get_or-take, get_or-drop, get_or_d
 use Rattle.std.proofs.lemmas.List.Splits.{slice_split_at, slice_split_none}
 use Rattle.std.proofs.lemmas.List.Elements.{All-weaker}
 use Rattle.memchr.specs.Find.{IsFirstByte, Nowhere, Passes, is_byte}
-use Rattle.zic_columns.specs.Column.{HasNoQuote, IsFirstQuote}
+use Rattle.zic_columns.specs.Column.{HasNoQuote}
+use Rattle.zic_columns.specs.code.Quote.{IsFirstQuote}
 
 module _ (test : ℕ → Bool) (bytes : List ℕ) where
   -- no such byte stands before the first

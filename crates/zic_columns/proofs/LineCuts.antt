@@ -6,9 +6,9 @@ use Rattle.std.proofs.lemmas.List.{append-nil, get_or-take, get_or_push, length-
 use Rattle.std.proofs.lemmas.List.Elements.{All-head, All-tail}
 use Rattle.std.proofs.lemmas.List.Splits.{slice_split_at, slice_split_none}
 use Rattle.memchr.specs.Find.{IsFirstByte, IsLastByte}
-use Rattle.zic_columns.specs.Column.{AreWholeLines, ends_line, fields_of, has_byte, plain_records}
+use Rattle.zic_columns.specs.Column.{ends_line, fields_of, has_byte, plain_records}
+use Rattle.zic_columns.specs.code.Line.{AreWholeLines, IsAfterLineEnds, IsFirstLine}
 use Rattle.zic_columns.specs.code.Cut.{AreCutAfterLines}
-use Rattle.zic_columns.specs.code.Line.{IsAfterLineEnds, IsFirstLine}
 use Rattle.zic_columns.proofs.FoundBytes.{at_first, none_after, none_before, none_within}
 use Rattle.zic_columns.proofs.LineFacts.{plain_records-end, plain_records-nil, plain_records_join}
 

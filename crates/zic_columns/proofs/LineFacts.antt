@@ -4,7 +4,8 @@ use Rattle.std.specs.List.{slice_split, onto_first}
 use Rattle.std.proofs.lemmas.Bool.{both_ways, cases_Bool, cond_both, false≢true, not-true}
 use Rattle.std.proofs.lemmas.List.{append-nil}
 use Rattle.std.proofs.lemmas.List.Splits.{slice_split-cons_yes, slice_split-cons_no}
-use Rattle.zic_columns.specs.Column.{AreWholeLines, ends_line, fields_of, has_byte, plain_records}
+use Rattle.zic_columns.specs.Column.{ends_line, fields_of, has_byte, plain_records}
+use Rattle.zic_columns.specs.code.Line.{AreWholeLines}
 
 first_part : List (List ℕ) → List ℕ
 first_part [] = []

@@ -8,7 +8,8 @@ use Rattle.csv.specs.Reading.{AreRecords, default_config}
 use Rattle.csv.specs.declared.parser.State.{State}
 use Rattle.csv.specs.declared.parser.State.TheVariants as st
 use Rattle.csv.specs.declared.parser.Terminator.TheVariants as term
-use Rattle.zic_columns.specs.Column.{AreColumnRecords, AreWholeLines, HasNoQuote, ends_line, fields_of, plain_records}
+use Rattle.zic_columns.specs.Column.{AreColumnRecords, HasNoQuote, ends_line, fields_of, plain_records}
+use Rattle.zic_columns.specs.code.Line.{AreWholeLines}
 use Rattle.zic_columns.proofs.LineFacts.{Joins, joins_nil, joins_whole, first_line, later_records, first_line-nil, later_records-nil, plain_records-nil, plain_records-end, plain_records-within, first_line-end, later_records-end, first_line-within, later_records-within, onto, onto-empty, onto-comma, onto-within, onto-nil}
 use Rattle.zic_columns.proofs.StepFacts.{field-end, field-comma, field-within, field-start, field-start_nil, field-nil, record-start, records-nil, records-cons, records-end, records-after, records-one}
 

@@ -5,10 +5,10 @@ use Rattle.std.specs.Simd.Lanes.{chunk}
 use Rattle.std.proofs.lemmas.Bool.{cases_Bool}
 use Rattle.std.proofs.lemmas.List.{drop_all, length-take-le, take-append-drop, take-take, take_all, take_at, take_more}
 use Rattle.std.proofs.lemmas.List.Elements.{All-append, All-head, All-nil, All-tail, All-take}
-use Rattle.zic_columns.specs.Column.{AreWholeLines, AreWholeRecords, HasNoQuote, column_records, ends_line, plain_records}
+use Rattle.zic_columns.specs.Column.{AreWholeRecords, HasNoQuote, column_records, ends_line, plain_records}
+use Rattle.zic_columns.specs.code.Line.{AreWholeLines, IsFirstRecord}
 use Rattle.zic_columns.specs.code.Cut.{AreCutAfter, AreCutAfterLines}
 use Rattle.zic_columns.specs.code.Block.{AreCounted, ArePassed, is_after_line, records_ended}
-use Rattle.zic_columns.specs.code.Line.{IsFirstRecord}
 use Rattle.zic_columns.specs.declared.blocks.Passed.{Passed}
 use Rattle.zic_columns.proofs.FirstFacts.{HasPassed, passed_all, passed_record}
 use Rattle.zic_columns.proofs.LineFacts.{later_records, later_records-end, later_records-nil, later_records-within, plain_records-end, plain_records-nil, plain_records-within}

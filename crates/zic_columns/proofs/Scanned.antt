@@ -5,7 +5,9 @@ use Rattle.std.proofs.lemmas.Bool.{cases_lt}
 use Rattle.std.proofs.lemmas.List.{drop-append-le, drop-drop, drop_all, drop_at, get_or-drop, get_or-take, length-drop, length-take-le, take_all, take_at, take-append-drop, take-take}
 use Rattle.std.proofs.lemmas.List.Elements.{All-take}
 use Rattle.csv.specs.declared.parser.State.TheVariants as st
-use Rattle.zic_columns.specs.Column.{AreWholeLines, AreWholeRecords, HasNoQuote, IsFirstQuote, ends_line}
+use Rattle.zic_columns.specs.Column.{AreWholeRecords, HasNoQuote, ends_line}
+use Rattle.zic_columns.specs.code.Line.{AreWholeLines}
+use Rattle.zic_columns.specs.code.Quote.{IsFirstQuote}
 use Rattle.zic_columns.specs.code.Cut.{AreCutAfterLines}
 use Rattle.zic_columns.specs.code.Hand.{BeginWithLines, IsScanned}
 use Rattle.zic_columns.specs.code.Machine.{BeginsRecord, IsEndOfRecord, ReadsTo, state_at}

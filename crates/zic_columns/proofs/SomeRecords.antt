@@ -9,7 +9,8 @@ use Rattle.csv.specs.declared.parser.Action.TheVariants as act
 use Rattle.csv.specs.declared.parser.State.{State}
 use Rattle.csv.specs.declared.parser.State.TheVariants as st
 use Rattle.csv.specs.declared.parser.Terminator.TheVariants as term
-use Rattle.zic_columns.specs.Column.{AreColumnRecords, AreWholeLines, AreWholeRecords, HasNoQuote, column_records, ends_line, plain_records}
+use Rattle.zic_columns.specs.Column.{AreColumnRecords, AreWholeRecords, HasNoQuote, column_records, ends_line, plain_records}
+use Rattle.zic_columns.specs.code.Line.{AreWholeLines}
 use Rattle.zic_columns.proofs.ReadFacts.{lines_are_read, plain_are_read}
 use Rattle.zic_columns.proofs.StepFacts.{records-cons, records-end, records-nil, records-one}
 

@@ -1,7 +1,7 @@
 -- The records of a column, by the machine of the crate csv with its defaults: fields end at
 -- commas, and a carriage return, a line feed or both end a record. A byte order mark at the start
 -- of a column is dropped before.
-use Rattle.std.specs.Prelude.{◌≡◌, ◌≢◌, ◌+◌, ◌<◌, ℕ, Bool, true, false, ◌||◌, ◌==◌, List, [], ◌∷◌, ◌++◌, map, filter, length, slice_index, take, All}
+use Rattle.std.specs.Prelude.{◌≡◌, ◌≢◌, ◌+◌, ℕ, Bool, true, false, ◌||◌, ◌==◌, List, [], ◌∷◌, ◌++◌, map, filter, All}
 use Rattle.std.specs.List.{slice_split}
 use Rattle.csv.specs.Machine.{ends_at_end, step}
 use Rattle.csv.specs.Reading.{AreRecords, default_config, records}
@@ -24,19 +24,9 @@ AreWholeRecords bytes = (rest : List ℕ) → column_records (bytes ++ rest) ≡
 abbrev pub HasNoQuote : List ℕ → Type 0
 HasNoQuote bytes = All (λ byte. byte ≢ 34) bytes
 
--- the first double quote stands there
-pub record IsFirstQuote (bytes : List ℕ) (at : ℕ) : Type 0 where
-  pub within : at < length bytes
-  pub here : slice_index bytes at ≡ 34
-  pub before : HasNoQuote (take at bytes)
-
 -- a carriage return or a line feed
 abbrev pub ends_line : ℕ → Bool
 ends_line byte = byte == 13 || byte == 10
-
--- each line has its end: the last byte, if there is one, ends a line
-abbrev pub AreWholeLines : List ℕ → Type 0
-AreWholeLines bytes = (last : ℕ) → last + 1 ≡ length bytes → ends_line (slice_index bytes last) ≡ true
 
 abbrev pub has_byte : List ℕ → Bool
 has_byte [] = false

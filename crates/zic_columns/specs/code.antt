@@ -8,6 +8,7 @@ pub mod Line
 pub mod Machine
 pub mod Own
 pub mod Pair
+pub mod Quote
 pub mod Range
 pub mod Split
 pub mod Wide

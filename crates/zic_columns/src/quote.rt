@@ -1,7 +1,8 @@
 //! Double quotes in a column.
 
 ghost use Rattle.std.specs.Prelude.{MatchOption};
-ghost use Rattle.zic_columns.specs.Column.{HasNoQuote, IsFirstQuote};
+ghost use Rattle.zic_columns.specs.Column.{HasNoQuote};
+ghost use Rattle.zic_columns.specs.code.Quote.{IsFirstQuote};
 
 use memchr::memchr;
 

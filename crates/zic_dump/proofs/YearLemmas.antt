@@ -3,7 +3,8 @@ use Rattle.std.proofs.Common.{◌≡◌, ℕ, ◌≤◌, ◌<◌, ℤ, pos, ◌-
 use Rattle.std.proofs.lemmas.Int.{ints, by_lt_z}
 use Rattle.zic_calendar.specs.Calendar.{day_number, IsDate, IsSupportedYear}
 use Rattle.zic_calendar.proofs.DateLemmas.{day_number-rises, supported_day}
-use Rattle.zic_dump.specs.Years.{year_instant, IsListed}
+use Rattle.zic_dump.specs.Years.{year_instant}
+use Rattle.zic_dump.specs.code.Listed.{IsListed}
 
 -- January has its first four days
 in_january : (y : ℤ) (d : ℕ) → 1 ≤ d → d ≤ 4 → IsDate y 1 d

@@ -1,5 +1,5 @@
 -- The years whose changes are listed.
-use Rattle.std.specs.Prelude.{ℕ, ◌≤◌, ℤ, pos, neg_ℤ, ◌*◌, ◌*ℤ◌, ◌≤ℤ◌}
+use Rattle.std.specs.Prelude.{ℕ, ◌≤◌, ℤ, pos, ◌*ℤ◌}
 use Rattle.zic_calendar.specs.Calendar.{day_number}
 use Rattle.zic_dump.specs.declared.years.TheConstants.{FIRST_YEAR, LAST_YEAR}
 
@@ -20,8 +20,3 @@ pub record IsYears (years : Between) : Type 0 where
 -- the instant at which a year starts in UT
 abbrev pub year_instant : ℕ → ℤ
 year_instant year = day_number (pos year) 1 1 *ℤ pos 86_400
-
--- with any UT offset of a file the local time of the instant is in the years 1 to 9999
-pub record IsListed (instant : ℤ) : Type 0 where
-  pub low : neg_ℤ (pos (719_160 * 86_400)) ≤ℤ instant
-  pub high : instant ≤ℤ pos (2_932_894 * 86_400)

@@ -2,3 +2,4 @@
 pub mod Offsets
 pub mod Written
 pub mod Listing
+pub mod Listed

@@ -7,7 +7,7 @@ ghost use Rattle.zic_tzif.specs.Answer.{answered};
 ghost use Rattle.zic_tzif.specs.Reading.{IsFault, reason_of};
 ghost use Rattle.zic_dump.specs.Changes.{Change, AreChanges};
 ghost use Rattle.zic_dump.specs.Text.{change_line, IsDump};
-ghost use Rattle.zic_dump.specs.Years.{IsListed};
+ghost use Rattle.zic_dump.specs.code.Listed.{IsListed};
 ghost use Rattle.zic_dump.specs.code.Offsets.{HaveOffsets};
 ghost use Rattle.zic_dump.specs.code.Listing.{IsTextOf};
 

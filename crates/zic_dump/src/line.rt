@@ -10,7 +10,7 @@ ghost use Rattle.zic_base.specs.declared.limit.TheConstants.{FARTHEST_FILE_OFFSE
 ghost use Rattle.zic_tzif.specs.Answer.{answered};
 ghost use Rattle.zic_dump.specs.Changes.{Change, told, HasLocalTime, IsLocalAt};
 ghost use Rattle.zic_dump.specs.Text.{change_line, line_text, head_text, date_text, time_text, clock_text, is_placeholder, zdump_offset, escaped, quoted, is_word, name_text, state_text};
-ghost use Rattle.zic_dump.specs.Years.{IsListed};
+ghost use Rattle.zic_dump.specs.code.Listed.{IsListed};
 ghost use Rattle.zic_dump.specs.code.Written.{IsWritten, text_with};
 
 use std::alloc::{AllocError, Global};

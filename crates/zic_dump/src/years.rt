@@ -2,7 +2,8 @@
 
 ghost use Rattle.std.specs.Prelude.{◌≡◌, ◌≤◌, ◌≤ℤ◌, ◌↔◌, IsSome, IfSome};
 ghost use Rattle.zic_dump.specs.declared.years.TheConstants.{FIRST_YEAR, LAST_YEAR};
-ghost use Rattle.zic_dump.specs.Years.{between, year_instant, IsYears, IsListed};
+ghost use Rattle.zic_dump.specs.Years.{between, year_instant, IsYears};
+ghost use Rattle.zic_dump.specs.code.Listed.{IsListed};
 
 use std::marker::Model;
 use zic_calendar::{On, SECONDS_OF_DAY, day_of};

@@ -5,7 +5,8 @@ use Rattle.std.proofs.lemmas.Bool.{cases_Bool, true≢false}
 use Rattle.std.proofs.lemmas.List.Elements.{All-cons, All-head, All-nil, All-tail}
 use Rattle.std.proofs.lemmas.Slice.Eq.{bytes_eq-Decides}
 use Rattle.zic_counted.specs.Counts.{Counts}
-use Rattle.zic_io.specs.Failing.{IsFailureOfSources, IsFailureOfWord}
+use Rattle.zic_io.specs.Failing.{IsFailureOfSources}
+use Rattle.zic_io.specs.code.Word.{IsFailureOfWord}
 use Rattle.zic_io.specs.Sources.{known_of, known_after, AreTextsOf, IsTextOf}
 use Rattle.zic_io.specs.declared.failure.Failure.{Failure}
 use Rattle.zic_io.specs.declared.input.TheConstants.{MAX_SOURCE}

@@ -54,13 +54,6 @@ abbrev pub IsFailureOfText : {R : Type 0} → List ℕ → Counts R → Counts R
 IsFailureOfText path old new =
     IsFailureOfReading path (HasFailedSince new old.failures ⊎ HasTakenAbove MAX_SOURCE old new)
 
--- Why the text that a word names isn't read. Of standard input the reason is known; of a file none
--- is told, nor of its bytes.
-abbrev pub IsFailureOfWord : {R : Type 0} → List ℕ → Counts R → Counts R → Failure → Type 0
-IsFailureOfWord word old new =
-    IsFailureOfReading word (word ≡ STANDARD_INPUT.now
-    → HasFailedSince new old.failures ⊎ HasTakenAbove MAX_SOURCE old new)
-
 -- why a file isn't read: for any reason, or memory ran out
 abbrev pub IsFailureOfPath : List ℕ → Failure → Type 0
 IsFailureOfPath path failure = (failure ≡ failures.Memory) ⊎ IsCannotRead path failure

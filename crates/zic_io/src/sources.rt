@@ -2,7 +2,8 @@
 
 ghost use Rattle.std.specs.Prelude.{◌≡◌, ◌≢◌, ◌≤◌, length, map, string_bytes, All, IfOk, IfErr, IfSome};
 ghost use Rattle.zic_source.specs.Texts.{texts_of};
-ghost use Rattle.zic_io.specs.Failing.{IsFailureOfPath, IsFailureOfSources, IsFailureOfWord};
+ghost use Rattle.zic_io.specs.Failing.{IsFailureOfPath, IsFailureOfSources};
+ghost use Rattle.zic_io.specs.code.Word.{IsFailureOfWord};
 ghost use Rattle.zic_io.specs.Sources.{known_of, AreTextsOf};
 ghost use Rattle.zic_io.specs.declared.input.TheConstants.{MAX_SOURCE};
 

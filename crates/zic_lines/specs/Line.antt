@@ -21,7 +21,3 @@ pub record PlacedLine : Type 0 where
 -- the lines of the text of this number, numbered from 1
 abbrev pub text_lines : ℕ → List ℕ → List PlacedLine
 text_lines number text = map (λ line. record { place = record { text = number; line = line.0 }; bytes = line.1 }) (enumerate_from 1 (lines_of text))
-
--- the lines of each text, the texts numbered from 1
-abbrev pub lines_of_texts : List (List ℕ) → List (List PlacedLine)
-lines_of_texts texts = map (λ text. text_lines text.0 text.1) (enumerate_from 1 texts)

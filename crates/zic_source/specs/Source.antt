@@ -1,5 +1,5 @@
 -- The content of a source, in the order of its lines: zic(8), FILES.
-use Rattle.std.specs.Prelude.{ℕ, Bool, List, [], ◌∷◌, Option, map, filter, slice_get, count_by, flat_map, bytes_eq}
+use Rattle.std.specs.Prelude.{ℕ, Bool, List, ◌∷◌, Option, map, filter, slice_get, count_by, flat_map, bytes_eq}
 use Rattle.std.specs.List.{list_any, enumerate_from}
 use Rattle.zic_lines.specs.declared.rule.Rule.{Rule}
 use Rattle.zic_lines.specs.declared.zone_line.ZoneLine.{ZoneLine}
@@ -18,10 +18,6 @@ pub record SourceLines : Type 0 where
   pub rules : List Rule
   pub zones : List ZoneLines
   pub links : List Link
-
--- the source without a line
-abbrev pub no_lines : SourceLines
-no_lines = record { rules = []; zones = []; links = [] }
 
 -- the rule belongs to the set
 abbrev pub is_of_set : List ℕ → Rule → Bool

@@ -5,7 +5,7 @@ ghost use Rattle.std.specs.Option.{option_map};
 ghost use Rattle.zic_source.specs.Grammar.{open_line};
 ghost use Rattle.zic_source.specs.Source.{lines_of_zone};
 ghost use Rattle.zic_source.specs.code.Adding.{continued};
-ghost use Rattle.zic_source.specs.code.Lines.{source_lines};
+ghost use Rattle.zic_source.specs.code.Lines.{source_lines, no_lines};
 
 use std::alloc::{AllocError, Global};
 use std::marker::Model;
@@ -70,8 +70,6 @@ pub(crate) struct Entries {
 }
 
 impl Entries {
-    ghost use Rattle.zic_source.specs.Source.{no_lines};
-
     /// Returns no entries. Takes no memory.
     pub(crate) fn new(alloc: Global) -> Self
         ensures { source_lines result ≡ no_lines }

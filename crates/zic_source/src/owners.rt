@@ -4,7 +4,7 @@ ghost use Rattle.std.specs.Prelude.{◌≡◌, None, true, is_some, IfOk, OnOk, 
 ghost use Rattle.zic_base.specs.declared.fault.Kind.TheVariants.{DuplicateName};
 ghost use Rattle.zic_base.specs.Fault.{fault_of, fault_at};
 ghost use Rattle.zic_base.specs.Memory.{IfRefusal, OnOutOfMemory};
-ghost use Rattle.zic_source.specs.Source.{no_lines};
+ghost use Rattle.zic_source.specs.code.Lines.{no_lines};
 ghost use Rattle.zic_source.specs.code.Owners.{who, Gives, IndexesNames};
 
 use std::alloc::{AllocError, Global};

@@ -9,7 +9,8 @@ ghost use Rattle.zic_lines.specs.declared.entry.Entry.TheVariants as entries;
 ghost use Rattle.zic_lines.specs.Entry.{is_continuation};
 ghost use Rattle.zic_lines.specs.Line.{lines_of};
 ghost use Rattle.zic_lines.specs.declared.field.TheConstants.{LONGEST_LINE};
-ghost use Rattle.zic_source.specs.Source.{SourceLines, no_lines};
+ghost use Rattle.zic_source.specs.Source.{SourceLines};
+ghost use Rattle.zic_source.specs.code.Lines.{no_lines, source_lines};
 ghost use Rattle.zic_source.specs.Event.{Line, text_events, events_of};
 ghost use Rattle.zic_source.specs.Texts.{texts_of};
 ghost use Rattle.zic_source.specs.Grammar.{is_open, IsSource};
@@ -19,7 +20,6 @@ ghost use Rattle.zic_source.specs.Links.{is_named};
 ghost use Rattle.zic_source.specs.declared.owners.Owner.TheVariants as owners;
 ghost use Rattle.zic_source.specs.code.Adding.{with_entry, zone_checks, link_checks};
 ghost use Rattle.zic_source.specs.code.Owners.{Gives};
-ghost use Rattle.zic_source.specs.code.Lines.{source_lines};
 ghost use Rattle.zic_source.specs.code.Reader.{Tracks};
 ghost use Rattle.zic_source.specs.code.Events.{Adds, Leads, FailsIn, WantsIn};
 

@@ -2,7 +2,8 @@
 use Rattle.std.proofs.Common.{Bool, Option, Some, None, arith, ◌≡◌, ℕ, ◌+◌, ◌<◌, ◌≤◌, false, eqb, List, [], ◌∷◌, ◌++◌, length, get_or, take, drop, All, refl, sym, ap, subst, ◌∙◌}
 use Rattle.std.specs.List.{slice_split}
 use Rattle.std.specs.Borrow.{Bor}
-use Rattle.zic_words.specs.Parts.{other_parts, one_or_two, split_at_most_once}
+use Rattle.zic_words.specs.Parts.{one_or_two, split_at_most_once}
+use Rattle.zic_words.specs.code.Parts.{other_parts}
 use Rattle.std.proofs.lemmas.Bool.{eq-eqb}
 use Rattle.std.proofs.lemmas.List.{take-append-drop, drop_more, take_all}
 use Rattle.std.proofs.lemmas.List.Splits.{length-slice_split, slice_split_at, slice_split_none}

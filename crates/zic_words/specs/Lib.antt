@@ -13,3 +13,4 @@ pub mod Letter
 pub mod SetName
 pub mod Laws
 pub mod Limits
+pub mod code

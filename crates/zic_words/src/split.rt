@@ -2,7 +2,8 @@
 
 ghost use Rattle.std.specs.Prelude.{◌≡◌, ◌∷◌, ◌==◌, ◌<◌, IfSome, length, option_map};
 ghost use Rattle.std.specs.List.{slice_split};
-ghost use Rattle.zic_words.specs.Parts.{other_parts, split_at_most_once};
+ghost use Rattle.zic_words.specs.Parts.{split_at_most_once};
+ghost use Rattle.zic_words.specs.code.Parts.{other_parts};
 
 /// Returns the part before the first separator, and the rest after it where there is one.
 pub(crate) fn split_once(bytes: &[u8], separator: u8) -> (&[u8], Option<&[u8]>)

@@ -1,6 +1,7 @@
 -- Bytes cut after some records.
 use Rattle.std.specs.Prelude.{◌≡◌, ◌⊎◌, ℕ, false, List, [], ◌++◌, take, drop, All}
-use Rattle.zic_columns.specs.Column.{AreWholeLines, AreWholeRecords, column_records, ends_line}
+use Rattle.zic_columns.specs.Column.{AreWholeRecords, column_records, ends_line}
+use Rattle.zic_columns.specs.code.Line.{AreWholeLines}
 
 -- the bytes, cut after the first `count` records, or after all where there are fewer
 pub record AreCutAfter (bytes : List ℕ) (count : ℕ) (first rest : List ℕ) : Type 0 where

@@ -2,7 +2,8 @@
 use Rattle.std.specs.Prelude.{◌≡◌, ◌<◌, ◌≤◌, ◌⊎◌, ℕ, List, [], length, take, drop, Option, Some, MatchOption, IfSome}
 use Rattle.std.specs.Io.KnownBytes.{IsAtEnd}
 use Rattle.csv.specs.declared.parser.State.TheVariants as st
-use Rattle.zic_columns.specs.Column.{AreWholeLines, AreWholeRecords, HasNoQuote, column_records}
+use Rattle.zic_columns.specs.Column.{AreWholeRecords, HasNoQuote, column_records}
+use Rattle.zic_columns.specs.code.Line.{AreWholeLines}
 use Rattle.zic_columns.specs.Round.{ColumnOf, TakesPieces, with_past}
 use Rattle.zic_columns.specs.code.Machine.{BeginsRecord, ReadsTo, state_at}
 use Rattle.zic_columns.specs.declared.hand.Scan.{Scan}

@@ -1,6 +1,10 @@
--- The first line of some bytes.
-use Rattle.std.specs.Prelude.{◌≡◌, ◌<◌, ◌≤◌, ◌⊎◌, ℕ, true, false, List, [], ◌∷◌, ◌++◌, length, slice_index, take, All}
-use Rattle.zic_columns.specs.Column.{AreWholeLines, AreWholeRecords, column_records, ends_line, fields_of, plain_records}
+-- Lines with their ends, and the first line of some bytes.
+use Rattle.std.specs.Prelude.{◌≡◌, ◌+◌, ◌<◌, ◌≤◌, ◌⊎◌, ℕ, true, false, List, [], ◌∷◌, ◌++◌, length, slice_index, take, All}
+use Rattle.zic_columns.specs.Column.{AreWholeRecords, column_records, ends_line, fields_of, plain_records}
+
+-- each line has its end: the last byte, if there is one, ends a line
+abbrev pub AreWholeLines : List ℕ → Type 0
+AreWholeLines bytes = (last : ℕ) → last + 1 ≡ length bytes → ends_line (slice_index bytes last) ≡ true
 
 -- the rest are the bytes from the first that ends no line
 pub record IsAfterLineEnds (bytes rest : List ℕ) : Type 0 where

@@ -12,7 +12,8 @@ use Rattle.zic_base.specs.Fault.{fault_of}
 use Rattle.zic_lines.specs.declared.field.TheConstants.{LONGEST_LINE}
 use Rattle.zic_lines.specs.Line.{PlacedLine, lines_of}
 use Rattle.zic_source.specs.Event.{Event, Line, End, text_events, events_of}
-use Rattle.zic_source.specs.Source.{SourceLines, no_lines}
+use Rattle.zic_source.specs.Source.{SourceLines}
+use Rattle.zic_source.specs.code.Lines.{no_lines}
 use Rattle.zic_source.specs.Grammar.{is_open, IsReadable, IsSource}
 use Rattle.zic_source.specs.Whole.{HasFirst}
 use Rattle.zic_source.specs.FirstFault.{Fails, IsReached, IsFirstFault, MayRunOutOfMemory}

@@ -17,7 +17,8 @@ use Rattle.zic_lines.specs.Entry.{has_until, is_continuation, goes_on, rules_in,
 use Rattle.zic_lines.specs.Line.{PlacedLine}
 use Rattle.zic_lines.specs.Grammar.{Says}
 use Rattle.zic_source.specs.Event.{Event, Line, End}
-use Rattle.zic_source.specs.Source.{SourceLines, no_lines, entries_of_zone}
+use Rattle.zic_source.specs.Source.{SourceLines, entries_of_zone}
+use Rattle.zic_source.specs.code.Lines.{no_lines}
 use Rattle.zic_source.specs.Grammar.{Statement, Entered, Ended, EventSays, said, entries_in, is_open, IsRead}
 use Rattle.zic_source.specs.Checks.{entry_checks}
 use Rattle.zic_source.specs.FirstFault.{SaysNext}

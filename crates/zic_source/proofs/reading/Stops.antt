@@ -15,7 +15,8 @@ use Rattle.zic_lines.specs.Line.{PlacedLine}
 use Rattle.zic_lines.specs.Grammar.{Says}
 use Rattle.zic_lines.specs.Checks.{line_checks}
 use Rattle.zic_source.specs.Event.{Event, Line, End, events_of}
-use Rattle.zic_source.specs.Source.{SourceLines, no_lines}
+use Rattle.zic_source.specs.Source.{SourceLines}
+use Rattle.zic_source.specs.code.Lines.{no_lines}
 use Rattle.zic_source.specs.Grammar.{Statement, Entered, Ended, EventSays, open_line, is_open, IsRead, IsReadable}
 use Rattle.zic_source.specs.Checks.{entry_checks}
 use Rattle.zic_source.specs.FirstFault.{SaysNext, Fails, IsReadingFault}

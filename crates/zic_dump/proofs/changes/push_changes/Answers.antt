@@ -3,7 +3,7 @@ use Rattle.std.proofs.lemmas.Int.{ints}
 use Rattle.zic_posix.specs.Instants.{Includes}
 use Rattle.zic_tzif.specs.Answer.{answered}
 use Rattle.zic_dump.specs.Changes.{AreChanges}
-use Rattle.zic_dump.specs.Years.{IsListed}
+use Rattle.zic_dump.specs.code.Listed.{IsListed}
 use Rattle.zic_dump.proofs.ChangeLemmas.{step_same, step_change, step_last, text_more, smaller}
 use Rattle.zic_dump.proofs.changes.push_changes.Goals as goal
 

@@ -1,5 +1,6 @@
 use Rattle.std.proofs.Common.{rules, ◌≡◌, ℤ, pos, ◌*ℤ◌, to_z, of_z, w64, sym, subst}
-use Rattle.zic_dump.specs.Years.{year_instant, IsListed}
+use Rattle.zic_dump.specs.Years.{year_instant}
+use Rattle.zic_dump.specs.code.Listed.{IsListed}
 use Rattle.zic_dump.proofs.YearLemmas.{listed}
 use Rattle.zic_dump.proofs.years.year_instant.Goals as goal
 

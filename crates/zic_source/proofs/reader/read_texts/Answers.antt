@@ -2,9 +2,8 @@ use Rattle.std.proofs.Common.{◌≤◌, ◌<◌, ◌+◌, length, sym, ap, subs
 use Rattle.std.proofs.lemmas.List.{length-map, drop_all}
 use Rattle.std.proofs.lemmas.Result.{err_from_is_err_and}
 use Rattle.zic_source.specs.Event.{events_of}
-use Rattle.zic_source.specs.Source.{no_lines}
+use Rattle.zic_source.specs.code.Lines.{no_lines, source_lines}
 use Rattle.zic_source.specs.Texts.{texts_of}
-use Rattle.zic_source.specs.code.Lines.{source_lines}
 use Rattle.zic_source.proofs.events.Leads.{IsSoFar, so_far_begins, so_far_ends}
 use Rattle.zic_source.proofs.events.Loops.{texts_from, text_at, texts_on, texts_fail, texts_want}
 use Rattle.zic_source.proofs.reader.read_texts.Goals as goal

@@ -1,8 +1,7 @@
 use Rattle.std.proofs.Common.{◌+◌, drop}
-use Rattle.zic_source.specs.Source.{no_lines}
+use Rattle.zic_source.specs.code.Lines.{no_lines, source_lines}
 use Rattle.zic_source.specs.Event.{events_of}
 use Rattle.zic_source.specs.Texts.{texts_of}
-use Rattle.zic_source.specs.code.Lines.{source_lines}
 use Rattle.zic_source.specs.code.Reader.{Tracks}
 use Rattle.zic_source.proofs.events.Leads.{IsSoFar}
 use Rattle.zic_source.proofs.events.Loops.{texts_from}

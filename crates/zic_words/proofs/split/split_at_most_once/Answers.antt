@@ -1,6 +1,6 @@
 use Rattle.std.proofs.Common.{◌∷◌, ◌∙◌, eqb, ap, List, ℕ, Option}
 use Rattle.std.specs.Borrow.{Bor}
-use Rattle.zic_words.specs.Parts.{other_parts}
+use Rattle.zic_words.specs.code.Parts.{other_parts}
 use Rattle.zic_words.proofs.Splits.{three_parts}
 use Rattle.zic_words.proofs.split.split_at_most_once.Goals as goal
 

@@ -1,6 +1,6 @@
 use Rattle.std.proofs.Common.{◌≡◌, ◌+◌, ◌*◌, ◌^◌, Some, None, arith, ◌∷◌, ◌∙◌, eqb, ap, sym, List, ℕ, Option}
 use Rattle.std.specs.Borrow.{Bor}
-use Rattle.zic_words.specs.Parts.{other_parts}
+use Rattle.zic_words.specs.code.Parts.{other_parts}
 use Rattle.zic_words.proofs.Times.{magnitude_of, only_minutes}
 use Rattle.zic_words.proofs.time.magnitude.Goals as goal
 

@@ -25,7 +25,7 @@ use denote.Triple.Table.{entered}
 use denote.Triple.Walked.{says, Stays, stay_dropped, walk_of, ends_at, Goes-dropped, walk_Meets}
 use Rattle.std.proofs.BoxSteps.Form.{D, word, box_typed}
 use Rattle.std.proofs.BoxSteps.Steps.{box_out, box_in}
-use Rattle.pzic_c.specs.Owned.{IsHolding}
+use Rattle.pzic_c.specs.code.Holding.{IsHolding}
 use Rattle.pzic_c.specs.contracts.held.Held as Held
 use Rattle.pzic_c.specs.contracts.owned.Owned as Owned
 use Rattle.pzic_c.proofs.AsBox.{E, FromOwned as From}

@@ -1,6 +1,7 @@
 use Rattle.std.proofs.Common.{◌≡◌, ℕ, false, List, Option, None, Some, sym}
 use Rattle.std.specs.Prelude.{MatchOption, is_some}
-use Rattle.zic_columns.specs.Column.{HasNoQuote, IsFirstQuote}
+use Rattle.zic_columns.specs.Column.{HasNoQuote}
+use Rattle.zic_columns.specs.code.Quote.{IsFirstQuote}
 use Rattle.zic_columns.proofs.SomeRecords.{plain_read}
 use Rattle.zic_columns.proofs.wide.WideSplit.new.Goals as goal
 
