@@ -1,6 +1,7 @@
 //! The faults of rows, where a run goes on after them.
 
-ghost use Rattle.std.specs.Prelude.{OnOk};
+ghost use Rattle.std.specs.Prelude.{OnOk, OnErr};
+ghost use Rattle.zic_counted.specs.Counts.{HasFailedSince};
 ghost use Rattle.zic_counted.specs.Written.{Writes};
 ghost use Rattle.zic_io.specs.Faults.{fault_line};
 
@@ -30,23 +31,22 @@ impl<W: Write> Model for FaultList<W> {
 
     ghost Value = { FaultNotes W };
 
-    ghost view = { λ l. notes_of l.noted.faults l.noted.start l.file l.has_failed };
+    ghost view = { λ l. notes_of l.noted.faults l.noted.start l.file };
 
     ghost invariant = { λ l. AreFieldsOf W.contents
-        (notes_of l.noted.faults l.noted.start l.file l.has_failed) l.first l.count l.has_failed };
+        (notes_of l.noted.faults l.noted.start l.file) l.first l.count l.has_failed };
 }
 
 impl<W: Write> FaultList<W> {
-    ghost use Rattle.std.specs.Prelude.{◌≡◌, ◌-◌, ◌^◌, true, [], length, min, slice_get, IsTrue};
-    ghost use Rattle.zic_io.specs.Faults.{held_by, HasLines};
+    ghost use Rattle.std.specs.Prelude.{◌≡◌, ◌-◌, ◌^◌, [], length, min, option_map, slice_get, IsTrue, IsFalse};
+    ghost use Rattle.zic_io.specs.Faults.{held_by, unwritten, HasFailed, HasLines};
 
     /// Returns a list without faults.
     pub fn new(file: Option<W>) -> FaultList<W>
         ensures { result ≡ record {
           noted = [];
-          file = file;
+          file = option_map unwritten file;
           start = held_by W.contents file;
-          is_whole = true;
         } }
     {
         let noted = Noted::new(&file);
@@ -78,9 +78,10 @@ impl<W: Write> FaultList<W> {
     }
 
     /// Has the file pass on what it holds back. Returns whether all faults were written, if there
-    /// is a file.
+    /// is a file. They were, unless a write or a flush failed.
     pub fn finish(&mut self) -> bool
         ensures lines { IsTrue result → HasLines W.contents self.new }
+        ensures failed { IsFalse result → HasFailed self.new }
         ensures noted { self.new.noted ≡ self.old.noted }
         ensures start { self.new.start ≡ self.old.start }
     {
@@ -111,7 +112,8 @@ impl<W: Write> FaultLog for FaultList<W> {
 
 /// Writes the line of a fault.
 fn write_fault<W: Write>(file: &mut Counted<W>, fault: RowFault) -> Result<(), WriteFailed>
-    ensures { OnOk result (Writes W.contents file.old file.new (fault_line fault)) }
+    ensures ok { OnOk result (Writes W.contents file.old file.new (fault_line fault)) }
+    ensures err { OnErr result (HasFailedSince file.new file.old.failures) }
 {
     write_all(file, Buffer::new().format(fault.row).as_bytes())?;
     write_all(file, b",")?;
