@@ -335,10 +335,10 @@ expect 3 '' 'cannot read nowhere
 
 Expected:
   The path of a readable file. For `check` and `build` it may be `-`, standard
-  input. A source has at most 67,108,864 bytes.
+  input. A source has at most 67,108,864 bytes. For `--tree`, a folder.
 
 Usual cause:
-  A wrong path, a folder, or missing permissions.' check --explain nowhere
+  A wrong path, a folder in place of a file, or missing permissions.' check --explain nowhere
 expect 0 'Etc/UTC 111 UTC0' '' check --explain plain
 row='Etc/UTC,0,1970-01-01T00:00:00,+00:00:00,0,UTC'
 zone='row 2: RowZone

@@ -3,8 +3,16 @@
 
 use crate::samples::{expect_text, must};
 use zic_base::Kind;
-use zic_explain::{entries, expectation, line_place, nearest_zone, row_place};
-use zic_plan::RowKind;
+use zic_explain::{RecordForm, entries, expectation, line_place, nearest_zone, row_place};
+use zic_plan::{RowKind, Unit};
+
+/// Two fields with a comma between them: the name of a zone and seconds.
+const FORM: RecordForm = RecordForm {
+    zone: Some(0),
+    time: 1,
+    unit: Unit::Second,
+    delimiter: b',',
+};
 
 #[test]
 fn a_line_that_is_not_there_and_a_name_with_a_comma_have_places(rt: HostRuntime) {
@@ -16,7 +24,13 @@ fn a_line_that_is_not_there_and_a_name_with_a_comma_have_places(rt: HostRuntime)
     expect_text(&rt, got.as_bytes(), b"--> x:3\n", "a line");
     let got = must(
         &rt,
-        row_place(rt.alloc(), RowKind::RowInstant, 7, Some(b"\"A,B\",1e9")),
+        row_place(
+            rt.alloc(),
+            RowKind::RowInstant,
+            7,
+            FORM,
+            Some(b"\"A,B\",1e9"),
+        ),
     );
     let want = "--> standard input, row 7, field 2 (SECONDS)\n  \"A,B\",1e9\n        ^^^\n";
     expect_text(&rt, got.as_bytes(), want.as_bytes(), "a row");
@@ -26,7 +40,7 @@ fn a_line_that_is_not_there_and_a_name_with_a_comma_have_places(rt: HostRuntime)
 fn no_zone_is_near_and_nothing_is_expected(rt: HostRuntime) {
     let nearest = must(
         &rt,
-        nearest_zone(rt.alloc(), b"# no zone\n", b"Europe/Dubln,0"),
+        nearest_zone(rt.alloc(), b"# no zone\n", b"Europe/Dubln"),
     );
     expect_text(&rt, nearest.as_bytes(), b"", "the nearest zone");
     let entries = must(&rt, entries(rt.alloc()));

@@ -16,4 +16,5 @@ mod zones;
 pub use entry::{Entry, entries};
 pub use explain::{Unexplained, expectation, explanation, index};
 pub use place::{line_place, row_place};
+pub use record::RecordForm;
 pub use zones::nearest_zone;

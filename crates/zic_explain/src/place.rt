@@ -7,7 +7,7 @@ ghost use Rattle.zic_explain.specs.code.Shown.{StaysShown};
 use crate::faulty::{Part, faulty_part};
 use crate::fields::{Span, fields_of};
 use crate::form::{Form, awaits, form_of};
-use crate::record::faulty_field;
+use crate::record::{RecordForm, faulty_field};
 use crate::shown::{push_bytes, push_line_end, push_shown};
 use std::alloc::{AllocError, Global};
 use zic_base::Kind;
@@ -60,7 +60,8 @@ fn push_line_part(
     ensures { OnOk result (StaysShown (string_bytes rest.old) (string_bytes rest.new)) }
 {
     let faulty = faulty_line(alloc, kind, line, awaited)?;
-    push_field(alloc, rest, faulty.part.field, faulty.form.labels())?;
+    let field = faulty.part.field;
+    push_field(alloc, rest, field, label_of(faulty.form.labels(), field))?;
     push_shown(rest, line, faulty.part.span)
 }
 
@@ -86,7 +87,7 @@ fn faulty_line(
 }
 
 /// Returns lines that say where a fault of a column stands: `--> standard input, row N, field F
-/// (ZONE)`, and where the record is known its text and a line that underlines the field.
+/// (NAME)`, and where the record is known its text and a line that underlines the field.
 ///
 /// # Errors
 ///
@@ -95,26 +96,40 @@ pub fn row_place(
     alloc: Global,
     kind: RowKind,
     row: u64,
+    form: RecordForm,
     record: Option<&[u8]>,
 ) -> Result<String, AllocError>
     ensures { IfOk result (λ place. GoesOnShown (row_head row) (string_bytes place)) }
 {
-    let rest = row_rest(alloc, kind, record)?;
+    let rest = row_rest(alloc, kind, form, record)?;
     format!(in alloc; "--> standard input, row {row}{rest}")
 }
 
 /// Returns what is told of a row after its number.
-fn row_rest(alloc: Global, kind: RowKind, record: Option<&[u8]>) -> Result<String, AllocError>
+fn row_rest(
+    alloc: Global,
+    kind: RowKind,
+    form: RecordForm,
+    record: Option<&[u8]>,
+) -> Result<String, AllocError>
     ensures { IfOk result (λ rest. IsShownText (string_bytes rest)) }
 {
     let mut rest = String::new(alloc);
     let bytes = record.unwrap_or(&[]);
-    let part = faulty_field(kind, bytes);
-    push_field(alloc, &mut rest, part.field, &["NAME", "SECONDS"])?;
+    let part = faulty_field(kind, form, bytes);
+    push_field(alloc, &mut rest, part.field, form.label(kind))?;
     if record.is_some() {
         push_shown(&mut rest, bytes, part.span)?;
     }
     Ok(rest)
+}
+
+/// Returns what the field at this index is called, or an empty text.
+fn label_of(labels: &'static [&'static str], field: Option<usize>) -> &'static str {
+    match field {
+        Some(index) => labels.get(index).copied().unwrap_or(""),
+        None => "",
+    }
 }
 
 /// Adds the number of a field, if there is one, and what it is called, and ends the line.
@@ -122,7 +137,7 @@ fn push_field(
     alloc: Global,
     rest: &mut String,
     field: Option<usize>,
-    labels: &[&str],
+    label: &str,
 ) -> Result<(), AllocError>
     ensures { OnOk result (StaysShown (string_bytes rest.old) (string_bytes rest.new)) }
 {
@@ -130,7 +145,7 @@ fn push_field(
         return push_line_end(rest);
     };
     push_number(alloc, rest, index)?;
-    push_label(rest, labels.get(index).copied().unwrap_or(""))?;
+    push_label(rest, label)?;
     push_line_end(rest)
 }
 

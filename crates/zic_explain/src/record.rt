@@ -2,52 +2,78 @@
 
 use crate::faulty::Part;
 use crate::fields::Span;
-use zic_plan::RowKind;
+use zic_plan::{RowKind, Unit};
 
-/// Returns the part of a record that a fault of this kind is about: a field, or all of it.
-pub(crate) fn faulty_field(kind: RowKind, record: &[u8]) -> Part {
-    let (name, instant) = two_fields(record);
-    match kind {
-        RowKind::RowZone => Part {
-            span: name,
-            field: Some(0),
-        },
-        RowKind::RowInstant | RowKind::RowRange => Part {
-            span: instant,
-            field: Some(1),
-        },
-        RowKind::RowFields | RowKind::TooManyRows => Part {
-            span: Span {
-                start: 0,
-                end: record.len(),
-            },
-            field: None,
-        },
-    }
+/// Where the records of a column have the zone and the instant of a row.
+#[derive(Clone, Copy, Debug)]
+pub struct RecordForm {
+    /// The index of the field with the name of the zone, from 0, if records have one.
+    pub zone: Option<usize>,
+    /// The index of the field with the instant, from 0.
+    pub time: usize,
+    /// What instants count.
+    pub unit: Unit,
+    /// The byte between fields.
+    pub delimiter: u8,
 }
 
-/// Returns the name of a record, without double quotes.
-pub(crate) fn name_of(record: &[u8]) -> &[u8] {
-    let name = two_fields(record).0;
-    let name = record.get(name.start..name.end).unwrap_or(record);
-    match name {
-        [b'"', name @ .., b'"'] => name,
-        _ => name,
-    }
-}
-
-/// Returns where the parts of a record before and after its first comma outside quotes stand.
-fn two_fields(record: &[u8]) -> (Span, Span) {
-    // A quote elsewhere in a field is text.
-    let may_quote = matches!(record, [b'"', ..]);
-    let mut quoted = false;
-    let end = record.trim_ascii_end().len();
-    for (at, byte) in record.iter().enumerate() {
-        match *byte {
-            b'"' if may_quote => quoted = !quoted,
-            b',' if !quoted => return (Span { start: 0, end: at }, Span { start: at + 1, end }),
-            _ => {}
+impl RecordForm {
+    /// Returns the index of the field that a fault of this kind is about, if it is about one.
+    fn faulty_index(self, kind: RowKind) -> Option<usize> {
+        match kind {
+            RowKind::RowZone => self.zone,
+            RowKind::RowInstant | RowKind::RowRange => Some(self.time),
+            RowKind::RowFields | RowKind::TooManyRows => None,
         }
     }
-    (Span { start: 0, end }, Span { start: 0, end })
+
+    /// Returns what the field is called that a fault of this kind is about.
+    pub(crate) fn label(self, kind: RowKind) -> &'static str {
+        match (kind, self.unit) {
+            (RowKind::RowZone, _) => "NAME",
+            (_, Unit::Second) => "SECONDS",
+            (_, Unit::Millisecond) => "MILLISECONDS",
+            (_, Unit::Microsecond) => "MICROSECONDS",
+            (_, Unit::Nanosecond) => "NANOSECONDS",
+        }
+    }
+}
+
+/// Returns the part of a record that a fault of this kind is about: a field, or all of it.
+pub(crate) fn faulty_field(kind: RowKind, form: RecordForm, record: &[u8]) -> Part {
+    let field = form.faulty_index(kind);
+    let span = field.and_then(|index| field_span(record, form.delimiter, index));
+    let all = Span {
+        start: 0,
+        end: record.len(),
+    };
+    Part {
+        span: span.unwrap_or(all),
+        field,
+    }
+}
+
+/// Returns where the field at this index stands, with its double quotes, if the record has it.
+fn field_span(record: &[u8], delimiter: u8, index: usize) -> Option<Span> {
+    let mut start = 0;
+    let mut left = index;
+    let mut quoted = false;
+    for (at, byte) in record.iter().enumerate() {
+        // A quote in a field that doesn't begin with one is text.
+        if *byte == b'"' && record.get(start) == Some(&b'"') {
+            quoted = !quoted;
+        } else if *byte == delimiter && !quoted {
+            if left == 0 {
+                return Some(Span { start, end: at });
+            }
+            left -= 1;
+            start = at + 1;
+        }
+    }
+    let end = record.trim_ascii_end().len();
+    if left == 0 {
+        Some(Span { start, end })
+    } else {
+        None
+    }
 }

@@ -933,9 +933,9 @@ It prints:
 Right:
   $ pzic show tree/NY 0
 ?  Some other file.
-@cannot read PATH?The source or the file can't be read.?  The source or the file can't be read. Status 3.
+@cannot read PATH?The source, the file or the folder can't be read.?  The source, the file or the folder can't be read. Status 3.
 ?  The path of a readable file. For `check` and `build` it may be `-`, standard
-  input. A source has at most 67,108,864 bytes.
+  input. A source has at most 67,108,864 bytes. For `--tree`, a folder.
 ?
 The examples use:
   $ echo 'Zone Etc/UTC 0 - UTC' >utc.zi
@@ -948,7 +948,7 @@ It prints:
 
 Right:
   $ pzic check utc.zi
-?  A wrong path, a folder, or missing permissions.
+?  A wrong path, a folder in place of a file, or missing permissions.
 @cannot read column?Standard input can't be read.?  Standard input can't be read. Status 3. The rows that were written are the
   first rows of the column.
 ?  Standard input that is open and isn't a folder.

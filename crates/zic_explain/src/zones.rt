@@ -7,7 +7,6 @@ ghost use Rattle.zic_explain.specs.code.Shown.{StaysShown};
 
 use crate::fields::{Field, fields_of};
 use crate::form::{Form, awaits, form_of};
-use crate::record::name_of;
 use crate::shown::{push_bytes, push_line_end};
 use std::alloc::{AllocError, Global};
 use strsim::levenshtein;
@@ -15,14 +14,14 @@ use strsim::levenshtein;
 /// The greatest length of a zone's name. No more is compared of a longer name.
 const LONGEST: usize = 255;
 
-/// Returns a title and the name that takes the fewest edits from that of a record, among the names
-/// of the zones and links of a source without faults; or an empty text if there is none. A terminal
+/// Returns a title and the name that takes the fewest edits from this one, among the names of the
+/// zones and links of a source without faults; or an empty text if there is none. A terminal
 /// shows every byte of it. The contract says only this; which name is the nearest is tested.
 ///
 /// # Errors
 ///
 /// Memory ran out.
-pub fn nearest_zone(alloc: Global, source: &[u8], record: &[u8]) -> Result<String, AllocError>
+pub fn nearest_zone(alloc: Global, source: &[u8], name: &[u8]) -> Result<String, AllocError>
     ensures { IfOk result (λ text. IsShownText (string_bytes text)) }
 {
     let mut text = String::new(alloc);
@@ -30,7 +29,7 @@ pub fn nearest_zone(alloc: Global, source: &[u8], record: &[u8]) -> Result<Strin
     if names.is_empty() {
         return Ok(text);
     }
-    let name = spelled(alloc, name_of(record))?;
+    let name = spelled(alloc, name)?;
     let index = nearest_index(alloc, &names, name.as_str())?;
     push_nearest(&mut text, names[index].as_str())?;
     Ok(text)

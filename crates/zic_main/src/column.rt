@@ -1,4 +1,4 @@
-//! The text of a record of the column, which is read again where standard input is a file.
+//! A record of the column, which is read again where standard input is a file.
 
 use csv::{ByteRecord, Reader, ReaderBuilder};
 use std::fs::{self, Files};
@@ -23,20 +23,52 @@ pub(crate) fn column_start<R: Files + AllocGlobal>(rt: &R) -> Option<u64> {
     first.strip_prefix("pos:")?.trim().parse::<u64>().ok()
 }
 
-/// Returns the text of the record of this number, from 1 on, in the file of standard input from
-/// this offset on, cut where it is long; `None` where it can't be read.
-pub(crate) fn record_at<R: Files + AllocGlobal>(rt: &R, start: u64, row: u64) -> Option<Vec<u8>> {
-    let (from, to) = record_range(rt, start, row)?;
-    let text = read_from(
-        rt,
-        start.checked_add(from)?,
-        to.saturating_sub(from).min(LONGEST),
-    )?;
-    let record = without_start(from, &text);
-    if record.is_empty() {
+/// A record of the column, and the places where it begins and ends.
+#[derive(Drop)]
+pub(crate) struct Found {
+    pub(crate) fields: ByteRecord,
+    from: u64,
+    to: u64,
+}
+
+/// Returns the record of this number, from 1 on, in the file of standard input from this offset on,
+/// with this byte between fields; `None` where it can't be read.
+pub(crate) fn find_record<R: Files + AllocGlobal>(
+    rt: &R,
+    start: u64,
+    row: u64,
+    delimiter: u8,
+) -> Option<Found> {
+    let mut reader = reader_from(rt, start, delimiter)?;
+    let mut fields = ByteRecord::new(rt.alloc());
+    let mut from = 0;
+    let mut is_there = true;
+    for _ in 0..row {
+        from = reader.position().byte();
+        is_there = is_there && has_next(&mut reader, &mut fields);
+    }
+    let to = reader.position().byte();
+    if is_there {
+        Some(Found { fields, from, to })
+    } else {
+        None
+    }
+}
+
+/// Returns the text of a record in the file of standard input from this offset on, cut where it is
+/// long; `None` where it can't be read.
+pub(crate) fn text_of<R: Files + AllocGlobal>(
+    rt: &R,
+    start: u64,
+    record: &Found,
+) -> Option<Vec<u8>> {
+    let most = record.to.saturating_sub(record.from).min(LONGEST);
+    let text = read_from(rt, start.checked_add(record.from)?, most)?;
+    let text = without_start(record.from, &text);
+    if text.is_empty() {
         return None;
     }
-    Vec::from_slice(rt.alloc(), record).ok()
+    Vec::from_slice(rt.alloc(), text).ok()
 }
 
 /// Returns the bytes of the file of standard input from this offset on, at most `most`.
@@ -63,55 +95,6 @@ fn without_start(from: u64, text: &[u8]) -> &[u8] {
     match text.iter().position(|byte| !matches!(*byte, b'\r' | b'\n')) {
         Some(start) => text.get(start..).unwrap_or(text),
         None => &[],
-    }
-}
-
-/// A record of the column, and the places where it begins and ends.
-#[derive(Drop)]
-struct Found {
-    fields: ByteRecord,
-    from: u64,
-    to: u64,
-}
-
-/// Returns the places in the column where the record of this number begins and ends.
-fn record_range<R: Files + AllocGlobal>(rt: &R, start: u64, row: u64) -> Option<(u64, u64)> {
-    let found = find_record(rt, start, row, b',')?;
-    Some((found.from, found.to))
-}
-
-/// Returns the record of this number, from 1 on, in the file of standard input from this offset on,
-/// with this byte between fields; `None` where it can't be read.
-pub(crate) fn fields_at<R: Files + AllocGlobal>(
-    rt: &R,
-    start: u64,
-    row: u64,
-    delimiter: u8,
-) -> Option<ByteRecord> {
-    let found = find_record(rt, start, row, delimiter)?;
-    Some(found.fields)
-}
-
-/// Finds the record of this number, as [`fields_at`] does.
-fn find_record<R: Files + AllocGlobal>(
-    rt: &R,
-    start: u64,
-    row: u64,
-    delimiter: u8,
-) -> Option<Found> {
-    let mut reader = reader_from(rt, start, delimiter)?;
-    let mut fields = ByteRecord::new(rt.alloc());
-    let mut from = 0;
-    let mut is_there = true;
-    for _ in 0..row {
-        from = reader.position().byte();
-        is_there = is_there && has_next(&mut reader, &mut fields);
-    }
-    let to = reader.position().byte();
-    if is_there {
-        Some(Found { fields, from, to })
-    } else {
-        None
     }
 }
 

@@ -1,17 +1,17 @@
 //! What is told of a failure after its first line, where that is asked for. It is help for people:
 //! no contract says what it tells.
 
-use crate::column::{column_start, record_at};
+use crate::column::{Found, column_start, find_record, text_of};
 use crate::failure::Refusal;
-use crate::refused::ZonePlace;
+use crate::refused::refused_file;
 use std::alloc::{AllocError, Global};
 use std::fs::Files;
 use std::slice;
 use zic_command_line::{Request, Zones};
-use zic_explain::{entries, expectation, line_place, nearest_zone, row_place};
+use zic_explain::{RecordForm, entries, expectation, line_place, nearest_zone, row_place};
 use zic_io::Failure;
 use zic_names::{kind_name, reason_name, row_kind_name};
-use zic_plan::{Header, RowKind};
+use zic_plan::{Header, Layout, RowKind, ZoneFrom};
 
 /// What is kept of a request and of what was read, to explain a failure.
 #[derive(Drop)]
@@ -24,10 +24,10 @@ pub(crate) struct Kept {
     start: Option<u64>,
     /// The number of records before the rows of the column: 1 for a header, else 0.
     before: u64,
-    /// Whether a record is the name of a zone and seconds, with a comma between them.
-    is_plain: bool,
-    /// Where the files and the names of zones are, if a folder has the files.
-    zones: Option<ZonePlace>,
+    /// Where the records of the column have the zone and the instant of a row.
+    form: RecordForm,
+    /// The folder of the files of zones, if one has them.
+    folder: Option<String>,
 }
 
 impl Kept {
@@ -38,8 +38,8 @@ impl Kept {
             texts: Vec::new(rt.alloc()),
             start: column_start(rt),
             before: records_before(request),
-            is_plain: has_plain_rows(request),
-            zones: zones_of(rt.alloc(), request)?,
+            form: form_of(request),
+            folder: folder_of(request)?,
         })
     }
 
@@ -76,14 +76,17 @@ impl Kept {
         rt: &R,
         failure: &Failure,
     ) -> Result<String, AllocError> {
-        let Some(zones) = &self.zones else {
+        let Some(folder) = &self.folder else {
             return Ok(String::new(rt.alloc()));
         };
-        match (failure, self.start) {
-            (Failure::UnknownZone(name), _) => zones.refused_file(rt, name.as_bytes()),
-            (Failure::Row { row, kind } | Failure::Rows { row, kind, .. }, Some(start))
+        match failure {
+            Failure::UnknownZone(name) => refused_file(rt, folder.as_str(), name.as_bytes()),
+            Failure::Row { row, kind } | Failure::Rows { row, kind, .. }
                 if *kind == RowKind::RowZone => {
-                zones.refused_at(rt, start, self.before.saturating_add(*row))
+                match &self.record(rt, *row) {
+                    Some(record) => refused_file(rt, folder.as_str(), self.zone_in(record)),
+                    None => Ok(String::new(rt.alloc())),
+                }
             }
             _ => Ok(String::new(rt.alloc())),
         }
@@ -119,23 +122,31 @@ impl Kept {
         row: u64,
     ) -> Result<String, AllocError> {
         let alloc = rt.alloc();
-        if !self.is_plain {
-            return format!(in alloc; "--> standard input, row {row}\n");
-        }
-        let Some(record) = self.start.and_then(|start| record_at(
-            rt,
-            start,
-            self.before.saturating_add(row),
-        ))
-        else {
-            return row_place(alloc, kind, row, None);
+        let record = self.record(rt, row);
+        let text = match (self.start, &record) {
+            (Some(start), Some(record)) => text_of(rt, start, record),
+            _ => None,
         };
-        let mut text = row_place(alloc, kind, row, Some(&record))?;
-        if kind == RowKind::RowZone {
-            let nearest = nearest_zone(alloc, self.text(0), &record)?;
-            text.push_str(nearest.as_str())?;
+        let mut place = row_place(alloc, kind, row, self.form, text.as_deref())?;
+        if let (RowKind::RowZone, Some(record)) = (kind, &record) {
+            let nearest = nearest_zone(alloc, self.text(0), self.zone_in(record))?;
+            place.push_str(nearest.as_str())?;
         }
-        Ok(text)
+        Ok(place)
+    }
+
+    /// Returns the record of the row of this number, where it can be read again.
+    fn record<R: Files + AllocGlobal>(&self, rt: &R, row: u64) -> Option<Found> {
+        let number = self.before.saturating_add(row);
+        find_record(rt, self.start?, number, self.form.delimiter)
+    }
+
+    /// Returns the name of the zone in a record, or an empty one.
+    fn zone_in<'a>(&self, record: &'a Found) -> &'a [u8] {
+        match self.form.zone {
+            Some(index) => record.fields.get(index).unwrap_or(&[]),
+            None => &[],
+        }
     }
 
     /// Returns the word at this index, or an empty text.
@@ -163,21 +174,32 @@ fn records_before(request: &Request) -> u64 {
     }
 }
 
-/// Returns whether the records of the column are plain ones.
-fn has_plain_rows(request: &Request) -> bool {
+/// Returns where the records of the column have the zone and the instant of a row.
+fn form_of(request: &Request) -> RecordForm {
     match request {
-        Request::Convert(order) => order.layout.has_plain_rows(),
-        _ => true,
+        Request::Convert(order) => form_by(&order.layout),
+        _ => form_by(&Layout::plain(Header::Absent)),
     }
 }
 
-/// Returns where the files and the names of zones are, if a folder has the files.
-fn zones_of(alloc: Global, request: &Request) -> Result<Option<ZonePlace>, AllocError> {
+/// Returns where the records of a column of this layout have the zone and the instant of a row.
+fn form_by(layout: &Layout) -> RecordForm {
+    RecordForm {
+        zone: match &layout.zone {
+            ZoneFrom::Field(index) => Some(*index),
+            ZoneFrom::Name(_) => None,
+        },
+        time: layout.time,
+        unit: layout.unit,
+        delimiter: layout.delimiter.byte(),
+    }
+}
+
+/// Returns the folder of the files of zones, if one has them.
+fn folder_of(request: &Request) -> Result<Option<String>, AllocError> {
     match request {
         Request::Convert(order) => match &order.zones {
-            Zones::Tree(folder) => {
-                Ok(Some(ZonePlace::new(alloc, folder.as_str(), &order.layout)?))
-            }
+            Zones::Tree(folder) => Ok(Some(folder.clone()?)),
             Zones::Source(_) => Ok(None),
         },
         _ => Ok(None),

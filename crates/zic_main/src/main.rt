@@ -10,7 +10,7 @@ mod refused;
 
 use explained::Kept;
 use failure::Refusal;
-use std::fs::{File, Files};
+use std::fs::{self, File, Files};
 use std::io::{self, BufWriter, IsTerminal, Read, Write};
 use std::process::ExitCode;
 use std::random::RandomSource;
@@ -166,13 +166,23 @@ fn convert<
     R: Files + Input + Print + Clock + AllocGlobal + Threads + Wait + Sync,
     E: Write + IsTerminal + Drop,
 >(rt: &R, order: &Conversion, errors: E, texts: &mut Vec<Vec<u8>>) -> Result<(), Failure> {
-    if let Zones::Source(source) = &order.zones {
-        read(rt, &[source.clone()?], texts)?;
+    match &order.zones {
+        Zones::Source(source) => read(rt, &[source.clone()?], texts)?,
+        Zones::Tree(folder) => expect_folder(rt, folder)?,
     }
     let told = told(order.progress, errors);
     match &order.faults {
         None => convert_rows(rt, order, texts, told, &mut FaultList::new(None::<R::File>)),
         Some(path) => convert_noted(rt, order, texts, told, path),
+    }
+}
+
+/// Refuses a path that isn't that of a folder.
+fn expect_folder<R: Files>(rt: &R, path: &String) -> Result<(), Failure> {
+    match fs::metadata(rt, path.as_str()) {
+        Ok(info) if info.is_dir() => Ok(()),
+        Err(e) if e.kind() == io::ErrorKind::OutOfMemory => Err(Failure::Memory),
+        _ => Err(Failure::CannotRead(path.clone()?)),
     }
 }
 
