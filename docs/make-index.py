@@ -4,7 +4,8 @@
 usage: make-index.py [--check]
 
 Writes the page to standard output. With --check, writes in its place each public function that has neither an edit (or a
-test) nor a line of docs/index-exceptions.txt, and each line there that no function needs; the status is 1 if there is any.
+test) nor a line of docs/index-exceptions.txt, each line there that no function needs, and each line of docs/promises.txt
+that names no clause; the status is 1 if there is any.
 
 An edit belongs to the function whose text it changes, or to those that use the constant that it changes. Where that one is
 private, it belongs to the public functions that call it through private ones. A test calls a function itself, or through
@@ -21,9 +22,9 @@ from names import CRATES, Tree
 
 HEAD = """# Index
 
-Each public function, with the names of its clauses, the definitions that they cite, an edit of its code that the prover
-refuses, and a test that calls it. Each law, with the definition that states it. [PROOF.md](PROOF.md) says what is promised
-in words.
+First the promises, each with the clauses and laws that make it. Then each public function, with the names of its clauses,
+the definitions that they cite, an edit of its code that the prover refuses, and a test that calls it, and each law, with
+the definition that states it. [PROOF.md](PROOF.md) explains the promises, crate by crate.
 
 - `ensures` is a clause without a name.
 - A trait's method stands with each type that has it, and its clauses are also the ghost items, as `from_gives`.
@@ -109,10 +110,17 @@ class Index:
                 unused -= set() if found else fits
                 if not found and not fits:
                     yield f'{f.key} has no {kind}'
+        for words in (words for _, lines in promises() for words in lines):
+            f, clauses = self.found(words)
+            if not f or not f.is_law and len(clauses) != len(words) - 1:
+                yield f"'{' '.join(words)}' of docs/promises.txt isn't a function with these clauses"
         yield from (f"no function needs the exception '{kind} {name}'" for kind, name in sorted(unused))
 
     def page(self):
         yield HEAD
+        yield '\n## Promises\n\n| Promise | Clauses | Definitions | Edit | Test |\n|---|---|---|---|---|'
+        for promise, clauses in promises():
+            yield from self.promised(promise, clauses)
         for crate in sorted({f.module.crate for f in self.public}):
             yield f'\n## {crate}'
             functions = [f for f in self.public if f.module.crate == crate]
@@ -122,6 +130,20 @@ class Index:
             if laws := [f for f in functions if f.is_law]:
                 yield '\n| Law | Definition |\n|---|---|'
                 yield from (f'| {link(f.title, f.module.path)} | {definitions(f)} |' for f in laws)
+
+    def found(self, words):
+        """Returns the function, or the law, that a line of promises names, and those of its clauses that stand in it."""
+        f = next((f for f in self.public if f.key == words[0]), None)
+        return f, [clause for clause in f.clauses if clause[0] in words or f.is_law] if f else []
+
+    def promised(self, promise, lines):
+        """Yields the rows of a promise: one for each function or law that makes it."""
+        for words in lines:
+            f, clauses = self.found(words)
+            of = link(words[0], f.module.path) + ''.join(f' `{name}`' for name, _ in clauses if not f.is_law)
+            tests = ''.join(link(*test) for test in self.tests[f][:1])
+            yield f'| {promise} | {of} | {definitions(f, clauses)} | {self.edit(f)} | {tests} |'
+            promise = ''
 
     def row(self, f):
         name = link(f.title, f.module.path) + (f' of `{f.trait}`' if f.trait else '')
@@ -162,8 +184,20 @@ def link(name, path):
     return f'[`{name}`](../{path.relative_to(CRATES.parent)})'
 
 
-def definitions(f):
-    return ', '.join(dict.fromkeys(link(*found) for _, clause in f.clauses for found in f.module.cited(clause)))
+def definitions(f, clauses=None):
+    clauses = f.clauses if clauses is None else clauses
+    return ', '.join(dict.fromkeys(link(*found) for _, clause in clauses for found in f.module.cited(clause)))
+
+
+def promises():
+    """Returns the promises, each with the words of the lines below it."""
+    found = []
+    for line in (CRATES.parent / 'docs/promises.txt').read_text().splitlines():
+        if line.startswith('- '):
+            found[-1][1].append(line[2:].split())
+        elif line and not line.startswith(';'):
+            found.append((line, []))
+    return found
 
 
 if __name__ == '__main__':
