@@ -26,6 +26,7 @@ First the promises, each with the clauses and laws that make it. Then each publi
 the definitions that they cite, an edit of its code that the prover refuses, and a test that calls it, and each law, with
 the definition that states it. [PROOF.md](PROOF.md) explains the promises, crate by crate.
 
+- What is read and written is promised for readers and writers whose bytes are known ([PROOF.md](PROOF.md#what-isnt-proved)).
 - `ensures` is a clause without a name.
 - A trait's method stands with each type that has it, and its clauses are also the ghost items, as `from_gives`.
 - A definition of std, as that of `length`, isn't named. A cell is empty where clauses cite none of this repository.

@@ -20,7 +20,7 @@ pub struct FaultList<W: Write> {
     file: Option<Counted<W>>,
     first: Option<RowFault>,
     count: u64,
-    /// Whether a write failed. Nothing is written after that.
+    /// Whether a write or a flush failed. Nothing is written after that.
     has_failed: bool,
     noted: Noted,
 }
@@ -77,8 +77,8 @@ impl<W: Write> FaultList<W> {
         self.count
     }
 
-    /// Has the file pass on what it holds back. Returns whether all faults were written, if there
-    /// is a file. They were, unless a write or a flush failed.
+    /// Has the file pass on what it holds back. Returns true only if the lines of all faults were
+    /// written, where there is a file, and false only if a write or a flush failed.
     pub fn finish(&mut self) -> bool
         ensures lines { IsTrue result → HasLines W.contents self.new }
         ensures failed { IsFalse result → HasFailed self.new }

@@ -8,7 +8,7 @@ use Rattle.zic_io.specs.Faults.{FaultNotes, HasFailed, HasLines}
 abbrev pub notes_of : {W : Type 0} → List RowFault → Option (List ℕ) → Option (Counts W) → FaultNotes W
 notes_of noted start file = record { noted = noted; file = file; start = start }
 
--- the first fault, the number of faults, the lines of the file as long as no write fails, and why no more are written
+-- the first fault, the number of faults, the lines of the file as long as no write or flush fails, and why no more are written
 pub record AreFieldsOf {W : Type 0} (contents : W → Option (List ℕ)) (notes : FaultNotes W) (first : Option RowFault) (count : ℕ) (has_failed : Bool) : Type 0 where
   pub is_first : first ≡ slice_get notes.noted 0
   pub is_count : count ≡ min (length notes.noted) (2 ^ 64 - 1)
