@@ -111,10 +111,11 @@ class Index:
                 unused -= set() if found else fits
                 if not found and not fits:
                     yield f'{f.key} has no {kind}'
+        yield from (f"no clause makes the promise '{promise}'" for promise, lines in promises() if not lines)
         for words in (words for _, lines in promises() for words in lines):
             f, clauses = self.found(words)
-            if not f or not f.is_law and len(clauses) != len(words) - 1:
-                yield f"'{' '.join(words)}' of docs/promises.txt isn't a function with these clauses"
+            if not f or len(clauses) != max(len(words) - 1, 1) or f.is_law and len(words) > 1:
+                yield f"'{' '.join(words)}' of docs/promises.txt isn't a law, or a function with these clauses"
         yield from (f"no function needs the exception '{kind} {name}'" for kind, name in sorted(unused))
 
     def page(self):
