@@ -114,7 +114,7 @@ date_before old new date same is =
     sym (take-take 12 20 new (omega arith)) ∙ ap (take 12) same ∙ take-take 12 20 old (omega arith) ∙ is
 
 -- the rest of rows of a day and a state
-pub rest_of : (day : ℕ) (text : Shown) (state : State) (octets : List ℕ) (len : ℕ) → shown state ≡ text → IsRowState text → take 12 octets ≡ kept_date day
+pub rest_of : (day : ℕ) (text : Shown) (state : Shown) (octets : List ℕ) (len : ℕ) → state ≡ text → IsRowState text → take 12 octets ≡ kept_date day
     → take len (drop 20 octets) ≡ state_text text → len ≤ 32 → IsRestOf day state octets len
 rest_of day text state octets len is may date written fits = record {
   may = subst IsRowState (sym is) may;

@@ -10,6 +10,7 @@ pub mod laws;
 mod limit;
 mod rest;
 mod row;
+mod row_state;
 mod state_text;
 
 pub use count::{Moment, moment_of, parse_count};

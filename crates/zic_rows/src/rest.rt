@@ -2,7 +2,6 @@
 
 ghost use Rattle.std.specs.Prelude.{◌≡◌, ◌<◌, ◌++◌, OnOk};
 ghost use Rattle.zic_base.specs.Digits.{clock_text};
-ghost use Rattle.zic_base.specs.State.{shown};
 ghost use Rattle.zic_rows.specs.Instant.{IsRowOffset};
 ghost use Rattle.zic_rows.specs.Row.{state_text};
 ghost use Rattle.zic_rows.specs.Count.{fraction_text, units_of_second};
@@ -12,29 +11,29 @@ use crate::count::push_fraction;
 use crate::date::write_date;
 use crate::digits::time_text;
 use crate::limit::{DAY, DAYS, REST_ROOM};
+use crate::row_state::RowState;
 use crate::state_text::StateText;
 use std::alloc::AllocError;
-use zic_base::State;
 use zic_plan::Unit;
 
 /// The rest of a row, kept for rows of one day and one state: a comma, the date and a `T`, eight
 /// bytes for the time of day, and the text of the state.
 #[derive(Drop)]
-pub(crate) struct KeptRest<'a> {
+pub(crate) struct KeptRest {
     /// The days from 0001-01-01, below `DAYS`.
     day: u32,
-    pub(crate) state: State<'a>,
+    pub(crate) state: RowState,
     octets: [u8; REST_ROOM],
     /// The length of the state's text in bytes.
     len: usize,
     ghost is_rest: { IsRestOf day state octets len },
 }
 
-impl<'a> KeptRest<'a> {
+impl KeptRest {
     /// Returns the rest of rows of a day and a state.
-    pub(crate) fn new(day: u32, text: &StateText<'a>) -> KeptRest<'a>
+    pub(crate) fn new(day: u32, text: &StateText) -> KeptRest
         requires { day < DAYS }
-        ensures { shown result.state ≡ text.now }
+        ensures { result.state ≡ text.now }
     {
         let mut octets = [0; REST_ROOM];
         write_date(&mut octets, day);
@@ -53,12 +52,12 @@ impl<'a> KeptRest<'a> {
         ensures value { result ≡ self.now.state.offset }
         ensures may { IsRowOffset result }
     {
-        self.state.offset
+        self.state.offset()
     }
 
     /// Turns to the state of a text.
-    pub(crate) fn set_text(&mut self, text: &StateText<'a>)
-        ensures { shown self.new.state ≡ text.now }
+    pub(crate) fn set_text(&mut self, text: &StateText)
+        ensures { self.new.state ≡ text.now }
     {
         self.len = text.copy_to(&mut self.octets);
         self.state = text.state();
@@ -84,7 +83,7 @@ impl<'a> KeptRest<'a> {
     pub(crate) fn push(&self, text: &mut Vec<u8>, second: u32) -> Result<(), AllocError>
         requires { second < DAY }
         ensures { OnOk result (text.new.items ≡ text.old.items ++ (kept_date self.now.day
-            ++ (clock_text second ++ state_text (shown self.now.state)))) }
+            ++ (clock_text second ++ state_text self.now.state))) }
     {
         let start = text.len();
         text.extend_from_slice(&self.octets)?;
@@ -105,7 +104,7 @@ impl<'a> KeptRest<'a> {
         requires fraction { fraction < units_of_second unit }
         ensures { OnOk result (text.new.items ≡ text.old.items ++ (kept_date self.now.day
             ++ (clock_text second ++ (fraction_text unit fraction
-            ++ state_text (shown self.now.state))))) }
+            ++ state_text self.now.state)))) }
     {
         text.extend_from_slice(&self.octets[..12])?;
         text.extend_from_slice(&time_text(second))?;

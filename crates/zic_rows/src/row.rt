@@ -40,22 +40,22 @@ pub fn push_row(
 /// A writer of rows of one state after another, which keeps what they have in common: the date and
 /// the state's text. Clauses see the state.
 #[derive(Drop)]
-pub struct RowWriter<'a> {
-    rest: KeptRest<'a>,
+pub struct RowWriter {
+    rest: KeptRest,
 }
 
-impl<'a> Model for RowWriter<'a> {
-    ghost use Rattle.zic_base.specs.State.{Shown, shown};
+impl Model for RowWriter {
+    ghost use Rattle.zic_base.specs.State.{Shown};
 
     ghost Value = { Shown };
 
-    ghost view = { λ w. shown w.rest.state };
+    ghost view = { λ w. w.rest.state };
 }
 
-impl<'a> RowWriter<'a> {
+impl RowWriter {
     /// Returns a writer of rows of this state, whose offset is within 24:00:00 and whose
     /// abbreviation has at most 16 bytes.
-    pub fn new(state: State<'a>) -> RowWriter<'a>
+    pub fn new(state: State<'_>) -> RowWriter
         requires { IsRowState (shown state) }
         ensures { result ≡ shown state.entry }
     {
@@ -65,7 +65,7 @@ impl<'a> RowWriter<'a> {
     }
 
     /// Sets the state of the rows to come.
-    pub fn set_state(&mut self, state: State<'a>)
+    pub fn set_state(&mut self, state: State<'_>)
         requires { IsRowState (shown state) }
         ensures { self.new ≡ shown state.entry }
     {
@@ -73,7 +73,7 @@ impl<'a> RowWriter<'a> {
     }
 
     /// Sets the state of the rows to come, by its text.
-    pub fn set_text(&mut self, text: &StateText<'a>)
+    pub fn set_text(&mut self, text: &StateText)
         ensures { self.new ≡ text.now }
     {
         self.rest.set_text(text);

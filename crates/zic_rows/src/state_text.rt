@@ -7,6 +7,7 @@ ghost use Rattle.zic_rows.specs.Row.{state_text, IsRowState};
 ghost use Rattle.zic_rows.specs.code.Kept.{before_name, IsTextOf};
 
 use crate::limit::REST_ROOM;
+use crate::row_state::RowState;
 use std::marker::Model;
 use zic_base::{State, offset_text};
 
@@ -16,41 +17,41 @@ const ROOM: usize = 32;
 /// The text of a state at the end of a row, made once for many rows: the UT offset, the daylight
 /// flag and the abbreviation after a comma each, and a newline. Clauses see the state.
 #[derive(Drop)]
-pub struct StateText<'a> {
-    state: State<'a>,
+pub struct StateText {
+    state: RowState,
     octets: [u8; ROOM],
     /// The length of the text in bytes.
     len: usize,
     ghost is_text: { IsTextOf state octets len },
 }
 
-impl<'a> Model for StateText<'a> {
-    ghost use Rattle.zic_base.specs.State.{Shown, shown};
+impl Model for StateText {
+    ghost use Rattle.zic_base.specs.State.{Shown};
 
     ghost Value = { Shown };
 
-    ghost view = { λ t. shown t.state };
+    ghost view = { λ t. t.state };
 }
 
-impl<'a> StateText<'a> {
+impl StateText {
     /// Returns the text of a state whose offset is within 24:00:00 and whose abbreviation has at
     /// most 16 bytes.
-    pub fn new(state: State<'a>) -> StateText<'a>
+    pub fn new(state: State<'_>) -> StateText
         requires { IsRowState (shown state) }
         ensures { result ≡ shown state.entry }
     {
         let mut octets = [0; ROOM];
         let len = write_text(&mut octets, &state);
+        let state = RowState::new(state);
         StateText { state, octets, len }
     }
 
     /// Returns the state.
     #[inline(always)]
-    pub fn state(&self) -> State<'a>
-        ensures state { shown result ≡ self.now }
-        ensures may { IsRowState self.now }
+    pub(crate) fn state(&self) -> RowState
+        ensures { result ≡ self.now }
     {
-        self.state
+        self.state.copy()
     }
 
     /// Copies the text into the rest of a row, from byte 20 on, and returns its length, at most 32.
@@ -60,6 +61,7 @@ impl<'a> StateText<'a> {
         ensures text { take result (drop 20 rest.new) ≡ state_text self.now }
         ensures before { take 20 rest.new ≡ take 20 rest.old }
         ensures fits { result ≤ ROOM }
+        ensures may { IsRowState self.now }
     {
         rest[20..].copy_from_slice(&self.octets);
         self.len

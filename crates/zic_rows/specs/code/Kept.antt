@@ -1,8 +1,7 @@
 -- The parts of a row that a writer keeps for the next.
 use Rattle.std.specs.Prelude.{◌≡◌, ℕ, ◌≤◌, ℤ, pos, ◌-ℤ◌, Bool, if◌then◌else◌, List, [], ◌∷◌, ◌++◌, take, drop}
 use Rattle.zic_base.specs.Digits.{offset_text}
-use Rattle.zic_base.specs.State.{shown}
-use Rattle.zic_base.specs.declared.state.State.{State}
+use Rattle.zic_base.specs.State.{Shown}
 use Rattle.zic_rows.specs.declared.limit.TheConstants.{DAYS_TO_1970}
 use Rattle.zic_rows.specs.Local.{civil_of}
 use Rattle.zic_rows.specs.Row.{date_text, state_text, IsRowState}
@@ -16,14 +15,14 @@ unfoldable pub before_name : ℤ → Bool → List ℕ
 before_name offset daylight = 44 ∷ (offset_text offset ++ 44 ∷ (if daylight then 49 else 48) ∷ 44 ∷ [])
 
 -- The first of these bytes, up to this number, are the text of the state, which a row may have.
-pub record IsTextOf (state : State) (octets : List ℕ) (len : ℕ) : Type 0 where
-  pub may : IsRowState (shown state)
-  pub text : take len octets ≡ state_text (shown state)
+pub record IsTextOf (state : Shown) (octets : List ℕ) (len : ℕ) : Type 0 where
+  pub may : IsRowState state
+  pub text : take len octets ≡ state_text state
   pub fits : len ≤ 32
 
 -- In the rest of a row the date of the day stands first, and the text of the state after eight bytes for the time of day.
-pub record IsRestOf (day : ℕ) (state : State) (octets : List ℕ) (len : ℕ) : Type 0 where
-  pub may : IsRowState (shown state)
+pub record IsRestOf (day : ℕ) (state : Shown) (octets : List ℕ) (len : ℕ) : Type 0 where
+  pub may : IsRowState state
   pub date : take 12 octets ≡ kept_date day
-  pub text : take len (drop 20 octets) ≡ state_text (shown state)
+  pub text : take len (drop 20 octets) ≡ state_text state
   pub fits : len ≤ 32

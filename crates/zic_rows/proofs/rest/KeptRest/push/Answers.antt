@@ -1,5 +1,4 @@
 use Rattle.std.proofs.Common.{◌≡◌, ℕ, ◌+◌, List, ◌++◌, ◌∙◌, length, ap, rules}
-use Rattle.zic_base.specs.State.{shown}
 use Rattle.zic_rows.specs.Row.{state_text}
 use Rattle.zic_rows.specs.code.Kept.{kept_date}
 use Rattle.zic_rows.proofs.RowTexts.{rest_written}
@@ -17,4 +16,4 @@ returns c =
     c.truncate.ensures.items
     ∙ rest_written old s.octets c.deref_mut.result.now c.copy_from_slice.new.self _ c.time_text.result _ _ start s.len c.extend_from_slice.new.self.len n long s.is_rest.date time s.is_rest.text s.is_rest.fits
     (c.deref_mut.ensures.value ∙ c.in_ok-extend_from_slice.ensures.items) c.copy_from_slice.ensures.after room
-    ∙ ap (λ (time : List ℕ). old ++ (kept_date s.day ++ (time ++ state_text (shown s.state)))) c.time_text.ensures
+    ∙ ap (λ (time : List ℕ). old ++ (kept_date s.day ++ (time ++ state_text s.state))) c.time_text.ensures

@@ -2,9 +2,8 @@ use Rattle.std.proofs.Common.{◌≡◌, ◌∙◌, ap, List, ℕ, ◌++◌, pos
 use Rattle.std.proofs.lemmas.Int.{ints}
 use Rattle.std.specs.Int.{w128}
 use Rattle.std.proofs.lemmas.Result.{on_ok_weaker}
-use Rattle.zic_base.specs.State.{Shown, shown}
+use Rattle.zic_base.specs.State.{Shown}
 use Rattle.zic_base.specs.Digits.{clock_text}
-use Rattle.zic_base.specs.declared.state.State.{State}
 use Rattle.zic_rows.specs.Count.{fraction_text, second_of}
 use Rattle.zic_rows.specs.Row.{state_text}
 use Rattle.zic_rows.specs.code.Kept.{kept_date}
@@ -13,7 +12,7 @@ use Rattle.zic_rows.proofs.row.RowWriter.push_counted_rest.Goals as goal
 
 pub returns-clause-ok : goal.returns-clause-ok
 returns-clause-ok c =
-    let s : Shown = shown c.self.inside.rest.state in
+    let s : Shown = c.self.inside.rest.state in
     let u = c.args.unit in
     let old = c.args.text.now.items in
     let seconds = c.local_seconds-seconds.result in
@@ -29,7 +28,7 @@ returns-clause-ok c =
     let counted : pos seconds ≡ second_of u c.args.count +ℤ s.offset +ℤ pos (719_162 * 86_400) = omega
     (arith, ints, local, c.offset.ensures.value, second) in
     rw (← c.self.view_is) (on_ok_weaker c.push_counted.result
-    (λ pushed. pushed ∙ ap (λ (t : State). old ++ (kept_date day ++ (clock ++ (fraction_text u moment.result.fraction ++ state_text (shown t))))) c.turn_to.ensures.state
+    (λ pushed. pushed ∙ ap (λ (t : Shown). old ++ (kept_date day ++ (clock ++ (fraction_text u moment.result.fraction ++ state_text t)))) c.turn_to.ensures.state
     ∙ ap (λ (n : ℕ). old ++ (kept_date day ++ (clock ++ (fraction_text u n ++ state_text s)))) (rw (to_z-of_z whole) at moment.ensures.fraction)
     ∙ ap (λ (l : List ℕ). old ++ l) (counted_rest_kept u c.args.count s seconds day counted c.turn_to.ensures.day))
     c.push_counted.ensures)

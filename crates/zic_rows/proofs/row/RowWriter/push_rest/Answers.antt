@@ -1,9 +1,8 @@
 use Rattle.std.proofs.Common.{◌≡◌, ◌∙◌, ap, List, ℕ, ◌++◌, pos, ◌+ℤ◌, ◌*◌, ◌%◌, arith, rules}
 use Rattle.std.proofs.lemmas.Int.{ints}
 use Rattle.std.proofs.lemmas.Result.{on_ok_weaker}
-use Rattle.zic_base.specs.State.{Shown, shown}
+use Rattle.zic_base.specs.State.{Shown}
 use Rattle.zic_base.specs.Digits.{clock_text}
-use Rattle.zic_base.specs.declared.state.State.{State}
 use Rattle.zic_rows.specs.Row.{state_text}
 use Rattle.zic_rows.specs.code.Kept.{kept_date}
 use Rattle.zic_rows.proofs.RowTexts.{rest_kept}
@@ -11,11 +10,11 @@ use Rattle.zic_rows.proofs.row.RowWriter.push_rest.Goals as goal
 
 pub returns-clause-ok : goal.returns-clause-ok
 returns-clause-ok c =
-    let s : Shown = shown c.self.inside.rest.state in
+    let s : Shown = c.self.inside.rest.state in
     let seconds = c.local_seconds-seconds.result in
     let counted : pos seconds ≡ c.args.instant +ℤ s.offset +ℤ pos (719_162 * 86_400) = omega (arith, ints, c.local_seconds-seconds.ensures.value, c.offset.ensures.value) in
     rw (← c.self.view_is) (on_ok_weaker c.push.result
-    (λ pushed. pushed ∙ ap (λ (t : State). c.args.text.now.items ++ (kept_date c.turn_to.new.self.day ++ (clock_text (seconds % 86_400) ++ state_text (shown t)))) c.turn_to.ensures.state
+    (λ pushed. pushed ∙ ap (λ (t : Shown). c.args.text.now.items ++ (kept_date c.turn_to.new.self.day ++ (clock_text (seconds % 86_400) ++ state_text t))) c.turn_to.ensures.state
     ∙ ap (λ (l : List ℕ). c.args.text.now.items ++ l) (rest_kept c.args.instant s seconds c.turn_to.new.self.day counted c.turn_to.ensures.day))
     c.push.ensures)
 
