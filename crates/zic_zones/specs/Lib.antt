@@ -1,0 +1,4 @@
+pub mod Zones
+pub mod Source
+pub mod Tree
+pub mod code

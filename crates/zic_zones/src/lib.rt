@@ -1,0 +1,14 @@
+//! Zones by name, ready for rows: those of the files of a source, or of a tree of files, each read
+//! once its name is needed. The tests stand in `program_tests`.
+#![tactic(auto)]
+
+mod ready;
+mod row_zones;
+mod source_zones;
+mod tree_zones;
+mod zones;
+
+pub use row_zones::{RowSpan, RowZones};
+pub use source_zones::SourceZones;
+pub use tree_zones::TreeZones;
+pub use zones::Zones;

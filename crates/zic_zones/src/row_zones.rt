@@ -1,0 +1,90 @@
+//! Files that are ready for rows.
+
+ghost use Rattle.std.specs.Prelude.{◌≡◌, ◌<◌, ℤ, length, IfSome, slice_get};
+ghost use Rattle.zic_files.specs.Sound.{AreSoundFiles};
+ghost use Rattle.zic_posix.specs.Instants.{Includes};
+ghost use Rattle.zic_rows.specs.Row.{IsRowState};
+ghost use Rattle.zic_zones.specs.Zones.{AnswersAt, IsShownAt, ShowsThroughout, number_of};
+
+use crate::ready::Ready;
+use std::marker::Model;
+use zic_files::Files;
+use zic_rows::RowWriter;
+use zic_tzif::{Answer, Instants};
+
+/// Some instants, and the number of the state that a zone shows at each of them.
+#[derive(Clone, Copy, Drop)]
+pub struct RowSpan {
+    pub instants: Instants,
+    pub number: usize,
+}
+
+/// The files that rows are made by, with the texts of their states. Clauses see the files.
+#[derive(Drop)]
+pub struct RowZones<'a> {
+    pub(crate) files: &'a Files,
+    pub(crate) ready: &'a Ready,
+}
+
+impl<'a> Model for RowZones<'a> {
+    ghost use Rattle.std.specs.Prelude.{List};
+    ghost use Rattle.zic_files.specs.File.{File};
+    ghost use Rattle.zic_zones.specs.code.Ready.{AreReady};
+
+    ghost Value = { List File };
+
+    ghost view = { λ z. z.files.now };
+
+    ghost invariant = { λ z. AreReady z.files.now z.ready.now };
+}
+
+impl<'a> RowZones<'a> {
+    /// States that the files are sound.
+    #[inline(always)]
+    pub fn are_sound(&self)
+        ensures { AreSoundFiles self.now }
+    {
+        // `len` tells it.
+        prove!(self.files.len() <= usize::MAX);
+    }
+
+    /// Returns the number of the file of this name, or `None` where no file has it.
+    #[inline(always)]
+    pub fn find(&self, name: &[u8]) -> Option<usize>
+        ensures { result ≡ number_of self.now name.now }
+    {
+        self.files.find(name)
+    }
+
+    /// Returns the number of the state that a file shows at an instant, and the instants round it at
+    /// which it shows the same.
+    pub fn span(&self, file: usize, instant: i64) -> RowSpan
+        requires { file < length self.now }
+        ensures asked { Includes result.instants instant }
+        ensures shows { ShowsThroughout self.now file result.instants result.number }
+    {
+        let span = self.files.zone(file).span(instant);
+        match span.answer {
+            Answer::Known(_) => RowSpan {
+                instants: span.instants,
+                number: span.number,
+            },
+            Answer::Unspecified => unreachable!(),
+        }
+    }
+
+    /// Sets the state of the rows to come to that of a file with this number, which the file shows
+    /// at some instant.
+    #[inline(always)]
+    pub fn show(&self, writer: &mut RowWriter, file: usize, number: usize)
+        requires within { file < length self.now }
+        requires shown { (second : ℤ) × IsShownAt self.now file second number }
+        ensures { (second : ℤ) → IsShownAt self.now file second number
+            → AnswersAt self.now file second writer.new }
+    {
+        match self.ready.text(file, number) {
+            Some(text) => writer.set_text(text),
+            None => writer.set_state(self.files.zone(file).state(number)),
+        }
+    }
+}
