@@ -16,8 +16,8 @@ use Rattle.zic_files.specs.declared.image.Unfit.TheVariants as unfit
 use Rattle.zic_files.specs.File.{FileImage, File}
 use Rattle.zic_files.specs.Fit.{AreFit, IsFit, IsUnfit}
 use Rattle.zic_files.specs.Sound.{AreSoundFiles}
-use Rattle.zic_files.specs.Tree.{AreOfName, Reply, Gains, AreAsked, IsSettled, AreFilesOfReplies, reply_of, Learnt, IsLearntFrom}
-use Rattle.zic_files.specs.code.Tree.{IsAtMostOne, IsImageOf, AreOfNames, files_named}
+use Rattle.zic_files.specs.Tree.{Adds, AreOfName, GrowsBy, Reply, Gains, AreAsked, IsSettled, AreFilesOfReplies, reply_of, Learnt, IsLearntFrom, files_named}
+use Rattle.zic_files.specs.code.Tree.{IsAtMostOne, IsImageOf, AreOfNames}
 
 -- ---- names
 
@@ -240,3 +240,13 @@ pub settled_if_ok : {E : Type 0} (replies : List Reply) (now : Learnt) (name : L
     → IfOk result (λ _. (more : List Reply) × Gains old gave more × IsLearntFrom (replies ++ more) now × IsSettled (replies ++ more) name × AreOfName name more)
 settled_if_ok replies now name old gave (Ok x) (reply, gains, from, is) = (reply ∷ [], gains, from, settled_last replies reply name is, one_of_name name reply is)
 settled_if_ok replies now name old gave (Err e) told = tt
+
+-- the name was added
+pub added_if_ok : {E : Type 0} (learnt now : Learnt) (name : List ℕ) → is_name name ≡ true → (Contains learnt.asked name → ⊥) → (image : Option FileImage) (result : Result (Unit {0}) E)
+    → IfOk result (λ _. now.asked ≡ learnt.asked ++ name ∷ []) → IfOk result (λ _. now.files ≡ learnt.files ++ files_named name image) → IfOk result (λ _. Adds name learnt now)
+added_if_ok learnt now name proper new image (Ok x) asked files = record { named = proper; first = new; image = image; asked = asked; files = files }
+added_if_ok learnt now name proper new image (Err e) asked files = tt
+
+pub grown_if_ok : {E : Type 0} (old now : Learnt) (name : List ℕ) (result : Result (Unit {0}) E) → IfOk result (λ _. Adds name old now) → IfOk result (λ _. GrowsBy name old now)
+grown_if_ok old now name (Ok x) added = inr added
+grown_if_ok old now name (Err e) added = tt

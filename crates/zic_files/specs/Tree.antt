@@ -1,7 +1,7 @@
 -- A tree of files from outside: what it replied, and the files that rows are made of: own choice.
-use Rattle.std.specs.Prelude.{◌≡◌, ◌≢◌, ℕ, ⊤, true, List, ◌++◌, Option, Some, None, map, All, AllPairs, Any, Contains, IsSomeAnd}
+use Rattle.std.specs.Prelude.{◌≡◌, ◌≢◌, ◌⊎◌, ℕ, ⊤, true, List, [], ◌∷◌, ◌++◌, Option, Some, None, map, All, AllPairs, Any, Contains, IsSomeAnd}
 use Rattle.zic_words.specs.Name.{is_name}
-use Rattle.zic_files.specs.File.{File}
+use Rattle.zic_files.specs.File.{File, FileImage}
 use Rattle.zic_files.specs.Fit.{IsFit, AreFit}
 use Rattle.zic_files.specs.Sound.{AreSoundFiles}
 
@@ -51,3 +51,20 @@ pub record Learnt : Type 0 where
 pub record IsLearntFrom (replies : List Reply) (learnt : Learnt) : Type 0 where
   pub asked : learnt.asked ≡ map (λ reply. reply.name) replies
   pub files : AreFilesOfReplies replies learnt.files
+
+-- the file of a name, if there is an image
+abbrev pub files_named : List ℕ → Option FileImage → List File
+files_named name None = []
+files_named name (Some image) = record { name = name; image = image } ∷ []
+
+-- A name of a zone that was not asked for before comes last, and so does its file, if there is one.
+pub record Adds (name : List ℕ) (old new : Learnt) : Type 0 where
+  pub named : is_name name ≡ true
+  pub first : Contains old.asked name → ⊥
+  pub image : Option FileImage
+  pub asked : new.asked ≡ old.asked ++ name ∷ []
+  pub files : new.files ≡ old.files ++ files_named name image
+
+-- what was learnt stays as it is, or this name is added
+abbrev pub GrowsBy : List ℕ → Learnt → Learnt → Type 0
+GrowsBy name old new = (new ≡ old) ⊎ Adds name old new

@@ -4,8 +4,8 @@ ghost use Rattle.std.specs.Prelude.{◌≡◌, true, [], ◌∷◌, ◌++◌, Li
 ghost use Rattle.zic_words.specs.Name.{is_name};
 ghost use Rattle.zic_files.specs.Fit.{IsFit};
 ghost use Rattle.zic_files.specs.Sound.{AreSoundFiles};
-ghost use Rattle.zic_files.specs.Tree.{AreAsked, AreOfName, Gains, IsLearntFrom, IsSettled, Reply};
-ghost use Rattle.zic_files.specs.code.Tree.{IsAtMostOne, IsImageOf, files_named};
+ghost use Rattle.zic_files.specs.Tree.{Adds, AreAsked, AreOfName, Gains, GrowsBy, IsLearntFrom, IsSettled, Reply, files_named};
+ghost use Rattle.zic_files.specs.code.Tree.{IsAtMostOne, IsImageOf};
 
 use crate::files::Files;
 use crate::image::{Image, Unfit};
@@ -92,6 +92,7 @@ impl TreeFiles {
             → IfErr result (λ _. (more : List Reply)
             × Gains (T.replied tree.old) (T.replied tree.new) more × AreAsked (replies ++ more)
             × AreOfName name.now more) }
+        ensures grown { IfOk result (λ _. GrowsBy name.now self.old self.new) }
         ensures memory { IfErr result
             (λ _. (is_name name.now ≡ true) × (Contains self.old.asked name.now → ⊥)) }
     {
@@ -116,6 +117,7 @@ impl TreeFiles {
             → IfOk result (λ _. (reply : Reply)
             × Gains (T.replied tree.old) (T.replied tree.new) (reply ∷ [])
             × IsLearntFrom (replies ++ reply ∷ []) self.new × (reply.name ≡ name)) }
+        ensures added { IfOk result (λ _. Adds name self.old self.new) }
         ensures err { (replies : List Reply) → IsLearntFrom replies self.old
             → IfErr result (λ _. (more : List Reply)
             × Gains (T.replied tree.old) (T.replied tree.new) more × AreAsked (replies ++ more)

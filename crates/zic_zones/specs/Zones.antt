@@ -1,5 +1,5 @@
 -- Zones by name, for rows: own choice.
-use Rattle.std.specs.Prelude.{◌≡◌, ℕ, ℤ, suc, Bool, List, [], ◌∷◌, Option, Some, None, option_map, Contains, IfSome, slice_get, slice_index_or, string_bytes, bytes_eq, if◌then◌else◌}
+use Rattle.std.specs.Prelude.{ℕ, ℤ, suc, Bool, List, [], ◌∷◌, Option, Some, None, option_map, Contains, IfSome, slice_get, slice_index_or, string_bytes, bytes_eq, if◌then◌else◌}
 use Rattle.std.specs.List.{list_any}
 use Rattle.zic_base.specs.State.{Shown}
 use Rattle.zic_files.specs.File.{File}

@@ -2,7 +2,7 @@
 
 ghost use Rattle.std.specs.Prelude.{◌≡◌, [], IfOk, IfSome};
 ghost use Rattle.zic_base.specs.State.{shown};
-ghost use Rattle.zic_zones.specs.code.Ready.{AreReady, AreTextsOf};
+ghost use Rattle.zic_zones.specs.code.Ready.{AreReady, AreTextsOf, HasText};
 
 use std::alloc::{AllocError, Global};
 use std::marker::Model;
@@ -81,7 +81,7 @@ impl Ready {
     /// Returns the text of a state of a file, by their numbers, where one was made.
     #[inline(always)]
     pub(crate) fn text(&self, file: usize, number: usize) -> Option<&StateText>
-        ensures { text_at self.now file number result }
+        ensures { IfSome result (λ text. HasText self.now file number text.now) }
     {
         match self.zones.get(file)?.texts.get(number) {
             Some(Some(text)) => Some(text),

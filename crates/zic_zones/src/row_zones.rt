@@ -53,6 +53,7 @@ impl<'a> RowZones<'a> {
     pub fn find(&self, name: &[u8]) -> Option<usize>
         ensures { result ≡ number_of self.now name.now }
     {
+        self.are_sound();
         self.files.find(name)
     }
 
@@ -82,6 +83,7 @@ impl<'a> RowZones<'a> {
         ensures { (second : ℤ) → IsShownAt self.now file second number
             → AnswersAt self.now file second writer.new }
     {
+        self.are_sound();
         match self.ready.text(file, number) {
             Some(text) => writer.set_text(text),
             None => writer.set_state(self.files.zone(file).state(number)),

@@ -17,8 +17,3 @@ AreOfNames asked files = All (λ file. Contains asked file.name) files
 -- the tree gave a reply for this name, or none
 abbrev pub IsAtMostOne : Option (List Reply) → Option (List Reply) → List ℕ → Type 0
 IsAtMostOne old new name = Gains old new [] ⊎ ((reply : Reply) × Gains old new (reply ∷ []) × (reply.name ≡ name))
-
--- the file of a name, if there is an image
-abbrev pub files_named : List ℕ → Option FileImage → List File
-files_named name None = []
-files_named name (Some image) = record { name = name; image = image } ∷ []

@@ -1,5 +1,5 @@
 use Rattle.zic_files.proofs.Added.{if_err}
-use Rattle.zic_files.proofs.Learning.{asked_at_most, kept_if_ok, asked_if_err, fits_of}
+use Rattle.zic_files.proofs.Learning.{added_if_ok, asked_at_most, kept_if_ok, asked_if_err, fits_of}
 use Rattle.zic_files.proofs.tree.TreeFiles.ask.Goals as goal
 
 pub returns-in_err-image-clause-err : goal.returns-in_err-image-clause-err
@@ -19,3 +19,7 @@ pub returns-clause-err : goal.returns-clause-err
 returns-clause-err g c = λ replies from.
     asked_if_err replies c.args.self.now c.keep.new.self from c.args.name c.octets.ensures.name c.requires c.in_ok-image.image
     (g.T.ZoneTree.replied c.args.tree.now) (g.T.ZoneTree.replied c.image_of.new.tree) c.in_ok-image.ensures.ok c.keep.result
+
+pub returns-clause-added : goal.returns-clause-added
+returns-clause-added g c =
+    added_if_ok c.args.self.now c.keep.new.self c.args.name c.octets.ensures.name c.requires c.in_ok-image.image c.keep.result c.keep.ensures.asked c.keep.ensures.files

@@ -1,8 +1,8 @@
 use Rattle.std.proofs.Common.{◌≡◌, List, ◌++◌, ℕ, sym, ap, subst}
 use Rattle.std.specs.Prelude.{Contains, IfOk}
 use Rattle.zic_files.specs.File.{File}
-use Rattle.zic_files.specs.Tree.{Learnt}
-use Rattle.zic_files.specs.code.Tree.{AreOfNames, files_named}
+use Rattle.zic_files.specs.Tree.{Learnt, files_named}
+use Rattle.zic_files.specs.code.Tree.{AreOfNames}
 use Rattle.zic_files.proofs.Learning.{last_asked, of_names_more, of_others}
 use Rattle.zic_files.proofs.tree.TreeFiles.keep.Goals as goal
 

@@ -1,9 +1,9 @@
 use Rattle.std.proofs.Common.{◌≡◌, List, ℕ, [], ◌∷◌, ◌++◌, ◌∙◌, refl, sym, subst}
 use Rattle.std.specs.Prelude.{Contains, IfErr, IfOk}
 use Rattle.std.proofs.lemmas.Bool.{false≢true}
-use Rattle.zic_files.specs.Tree.{AreAsked, AreOfName, Gains, IsLearntFrom, Learnt, Reply}
+use Rattle.zic_files.specs.Tree.{Adds, AreAsked, AreOfName, Gains, IsLearntFrom, Learnt, Reply}
 use Rattle.zic_files.proofs.Added.{if_err}
-use Rattle.zic_files.proofs.Learning.{gains_none, nothing_more, asked_nothing_more, settled_nothing_more, settled_before, settled_if_ok, none_of_name}
+use Rattle.zic_files.proofs.Learning.{gains_none, grown_if_ok, nothing_more, asked_nothing_more, settled_nothing_more, settled_before, settled_if_ok, none_of_name}
 use Rattle.zic_files.proofs.tree.TreeFiles.learn.Goals as goal
 
 pub returns-then-has-clause-ok : goal.returns-then-has-clause-ok
@@ -51,3 +51,9 @@ returns-in_ok-name-in-Some-clause-memory g c =
       c.in-Some.ensures.just.0 refl,
       λ has. false≢true (sym c.if-has.false ∙ c.has.ensures.1 (subst (λ (learnt : Learnt). Contains learnt.asked c.args.name.now) (sym c.self.view_is) has)),
     )
+
+pub returns-in_ok-name-in-Some-clause-grown : goal.returns-in_ok-name-in-Some-clause-grown
+returns-in_ok-name-in-Some-clause-grown g c =
+    let same = rw c.in_ok-name-in-Some.was at c.in-Some.ensures.name in
+    let added = subst (λ (name : List ℕ). IfOk c.ask.result (λ _. Adds name c.args.self.now c.ask.new.self)) same c.ask.ensures.added in
+    grown_if_ok c.args.self.now c.ask.new.self c.args.name.now c.ask.result added
