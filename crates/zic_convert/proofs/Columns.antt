@@ -1,9 +1,9 @@
 -- Columns of a batch, each filled by those before it.
 use Rattle.std.proofs.Common.{◌≡◌, ◌≢◌, ◌+◌, ◌<◌, ◌≤◌, ◌==◌, ◌∙◌, ℕ, suc, ℤ, List, [], ◌∷◌, ◌++◌, length, map, take, Option, Some, None, inl, inr, ap, ap₂, arith, refl, subst, sym, length-take-le}
-use Rattle.std.specs.Prelude.{All, IfSome, bytes_eq, option_map, slice_index_or}
+use Rattle.std.specs.Prelude.{All, IfSome, bytes_eq, option_map, slice_get, slice_index_or}
 use Rattle.std.proofs.Math.ListN.{set}
 use Rattle.std.proofs.lemmas.Bool.{cases_Bool, cond_both, eqb-false, eqb-true}
-use Rattle.std.proofs.lemmas.List.{get_or-map, get_or-set_other, get_or-set_same, get_or-take, map-append, take_more, take_more_set}
+use Rattle.std.proofs.lemmas.List.{get_or-map, get_or-set_other, get_or-set_same, get_or-take, length-map, map-append, take_more, take_more_set}
 use Rattle.zic_columns.specs.Record.{IsSplit, field_text, record_at}
 use Rattle.zic_columns.specs.declared.fields.Field.TheVariants.{Plain}
 use Rattle.zic_columns.specs.declared.fields.Record.{Record}
@@ -11,7 +11,13 @@ use Rattle.zic_columns.specs.declared.fields.Span.{Span}
 use Rattle.zic_columns.specs.declared.fields.Wanted.{Wanted}
 use Rattle.zic_files.specs.File.{File}
 use Rattle.zic_rows.specs.Count.{count_of}
-use Rattle.zic_zones.specs.Zones.{number_of}
+use Rattle.zic_base.specs.State.{Shown}
+use Rattle.zic_posix.specs.Instants.{Includes}
+use Rattle.zic_rows.specs.Count.{second_of}
+use Rattle.zic_tzif.specs.Answer.{Answers, AnswersThroughout}
+use Rattle.zic_tzif.specs.States.{IsStateOfNumber}
+use Rattle.zic_zones.specs.Zones.{ShowsThroughout, number_of, zone_in}
+use Rattle.zic_zones.specs.declared.row_zones.RowSpan.{RowSpan}
 use Rattle.zic_convert.specs.code.Batch.{AreStates, IsFile, IsStateFor, count_at, wanted_by, zone_at}
 use Rattle.zic_convert.specs.declared.piece.Piece.{Piece}
 
@@ -70,3 +76,19 @@ number_within (file ∷ files) name = cond_both (bytes_eq file.name name) (Some 
     next : (o : Option ℕ) → IfSome o (λ n. n < length files) → IfSome (option_map (λ n. suc n) o) (λ n. n < suc (length files))
     next None is = tt
     next (Some n) is = omega (arith, is)
+
+-- the numbers of records' zones are those of files
+pub all_files : (piece : Piece) (records : List Record) (zones : List (Option ℕ)) → zones ≡ map (zone_at piece) records → All (IsFile piece) zones
+all_files piece records zones are k d lt =
+    let within : k < length records = omega (arith, lt, ap length are, length-map records (zone_at piece)) in
+    let at : slice_index_or zones k d ≡ zone_at piece (slice_index_or records k blank) = ap (λ (l : List (Option ℕ)). slice_index_or l k d) are ∙ get_or-map (zone_at piece) records k blank d within in
+    rw at (number_within piece.zones.now (zone_in piece.layout.now.zone (record_at piece.bytes.now (slice_index_or records k blank)).fields))
+
+-- the state of a span is that of each of its instants
+pub state_told : (piece : Piece) (n : ℕ) (c : ℤ) (second : ℤ) (span : RowSpan) → second ≡ second_of piece.layout.now.unit c → Includes span.instants second
+    → ShowsThroughout piece.zones.now n span.instants span.number → IsStateFor piece (Some n) (Some c) span.number
+state_told piece n c second span is within shows may = by_file (slice_get piece.zones.now n) shows where
+  by_file : (o : Option File) → IfSome o (λ f. (state : Shown) × IsStateOfNumber f.image.content span.number state × AnswersThroughout f.image.content span.instants (Some state))
+      → IfSome o (λ f. (state : Shown) × IsStateOfNumber f.image.content span.number state × Answers f.image.content (second_of piece.layout.now.unit c) (Some state))
+  by_file None shows = tt
+  by_file (Some file) (state, of, answers) = (state, of, subst (λ (t : ℤ). Answers file.image.content t (Some state)) is (answers second within))

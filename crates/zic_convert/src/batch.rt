@@ -191,7 +191,7 @@ fn count_in(text: &[u8], unit: Unit) -> Option<i128>
     ensures { result ≡ count_of unit text.now }
 {
     match unit {
-        Unit::Second => parse_instant(text).map(i128::from),
+        Unit::Second => Some(i128::from(parse_instant(text)?)),
         _ => parse_count(text, unit),
     }
 }
@@ -261,11 +261,12 @@ fn state_of(
     let Some(second) = row_second(count, piece.layout.unit) else {
         return 0;
     };
-    if last.file != file || !last.span.instants.contains(second) {
-        *last = FileSpan {
-            file,
-            span: piece.zones.span(number, second),
-        };
+    if let Some(known) = last.file {
+        if known == number && last.span.instants.contains(second) {
+            return last.span.number;
+        }
     }
-    last.span.number
+    let span = piece.zones.span(number, second);
+    *last = FileSpan { file, span };
+    span.number
 }

@@ -1,0 +1,17 @@
+-- Laws of converted columns: each is the contract of a function of the module `laws`.
+use Rattle.std.specs.Prelude.{◌≡◌, ℕ, List, Option}
+use Rattle.zic_files.specs.File.{File}
+use Rattle.zic_files.specs.Sound.{AreSoundFiles}
+use Rattle.zic_plan.specs.declared.stop.RowKind.{RowKind}
+use Rattle.zic_plan.specs.declared.layout.Layout.{Layout}
+use Rattle.zic_convert.specs.Column.{ConvertsBodyTo, ConvertsBy, ConvertsTo}
+
+-- By the files of a source a column converts to one list of texts, and one fault or none, whether its first record is a header or not,
+-- and also by each layout.
+pub record ColumnsConvertOnce : Type 0 where
+  pub all : (files : List File) (most : ℕ) (column : List ℕ) (a b : List (List ℕ)) (fault other : Option RowKind) → AreSoundFiles files
+      → ConvertsTo files most column a fault → ConvertsTo files most column b other → (a ≡ b) × (fault ≡ other)
+  pub body : (files : List File) (most : ℕ) (column : List ℕ) (a b : List (List ℕ)) (fault other : Option RowKind) → AreSoundFiles files
+      → ConvertsBodyTo files most column a fault → ConvertsBodyTo files most column b other → (a ≡ b) × (fault ≡ other)
+  pub by : (files : List File) (layout : Layout) (most : ℕ) (column : List ℕ) (a b : List (List ℕ)) (fault other : Option RowKind) → AreSoundFiles files
+      → ConvertsBy files layout most column a fault → ConvertsBy files layout most column b other → (a ≡ b) × (fault ≡ other)

@@ -1,0 +1,70 @@
+-- How a conversion ends early.
+use Rattle.std.specs.Prelude.{◌≡◌, ℕ, ◌+◌, ◌<◌, ◌≤◌, ◌⊎◌, List, Option, IfSome, IfErr, IfOk, Result, Ok, Err}
+use Rattle.zic_counted.specs.Counts.{Counts, HasFailedSince, greatest}
+use Rattle.zic_files.specs.File.{File}
+use Rattle.zic_files.specs.Tree.{Learnt, Reply}
+use Rattle.zic_plan.specs.declared.layout.Layout.{Layout}
+use Rattle.zic_plan.specs.declared.stop.RowFault.{RowFault}
+use Rattle.zic_plan.specs.declared.stop.RunStop.{RunStop}
+use Rattle.zic_plan.specs.declared.stop.RunStop.TheVariants as stop
+use Rattle.zic_convert.specs.Column.{ConvertsBy, header_text}
+use Rattle.zic_convert.specs.Convert.{Outcome, WritesAtOf, WritesPartOf}
+use Rattle.zic_convert.specs.Log.{AreFaultsBy, NotesAt, NotesPart}
+use Rattle.zic_convert.specs.Tree.{EndsByTree, HoldsByLearnt, Run}
+use Rattle.zic_convert.specs.declared.halt.Halt.{Halt}
+use Rattle.zic_convert.specs.declared.halt.Halt.TheVariants as halt
+
+-- the output where the column could not be read on, or where the conversion ends for another cause
+abbrev pub WritesAtHalt : List ℕ → Outcome → Halt → Option (List ℕ) → Option (List ℕ) → Type 0
+WritesAtHalt head Converts halt.Unread old new = WritesPartOf head Converts old new
+WritesAtHalt head Converts (halt.Stop stop) old new = WritesAtOf head Converts stop old new
+
+-- the log there
+abbrev pub NotesAtHalt : Halt → Option (List RowFault) → Option (List RowFault) → List RowFault → Type 0
+NotesAtHalt halt.Unread old new faults = NotesPart old new faults
+NotesAtHalt (halt.Stop stop) old new faults = NotesAt stop old new faults
+
+abbrev pub NotesUntilHalt : List File → Layout → ℕ → List ℕ → Halt → Option (List RowFault) → Option (List RowFault) → Type 0
+NotesUntilHalt files layout most column why old new = (faults : List RowFault) × AreFaultsBy files layout most column faults × NotesAtHalt why old new faults
+
+-- a row with a fault where the writer did not fail, a writer that failed, or memory that ran out
+abbrev pub IsOwnCause : {W : Type 0} → Counts W → Counts W → RunStop → Type 0
+IsOwnCause old new (stop.Row row kind) = new.failures ≡ old.failures
+IsOwnCause old new stop.WriteFailed = HasFailedSince new old.failures
+IsOwnCause old new stop.Memory = Unit {0}
+IsOwnCause old new _ = ⊥
+
+-- where the column can't be read on, its reader tells the cause
+abbrev pub IsCauseOfHalt : {W : Type 0} → Counts W → Counts W → Halt → Type 0
+IsCauseOfHalt old new halt.Unread = Unit {0}
+IsCauseOfHalt old new (halt.Stop stop) = IsOwnCause old new stop
+
+-- why reading a column ended, by what its reader counted since it had these counts of failures and bytes
+abbrev pub IsReadingStop : {R : Type 0} → Counts R → ℕ → ℕ → ℕ → RunStop → Type 0
+IsReadingStop reader failures taken most stop.ReadFailed = HasFailedSince reader failures
+IsReadingStop reader failures taken most stop.ColumnTooLong = (taken + most < reader.taken) ⊎ (reader.taken ≡ greatest)
+IsReadingStop reader failures taken most stop.Memory = Unit {0}
+IsReadingStop reader failures taken most _ = ⊥
+
+-- why the conversion of a column with this outcome ends early: where all was converted, or the column can't be read on, its reader tells why
+abbrev pub IsStopOf : {R : Type 0} → Counts R → ℕ → ℕ → ℕ → Result ℕ Halt → RunStop → Type 0
+IsStopOf reader failures taken most (Ok n) why = IsReadingStop reader failures taken most why
+IsStopOf reader failures taken most (Err halt.Unread) why = IsReadingStop reader failures taken most why
+IsStopOf reader failures taken most (Err (halt.Stop stop)) why = why ≡ stop
+
+-- how a conversion ends, by the outcome of its column and by what the reader counted since it had these counts
+pub record IsEnd {R : Type 0} (reader : Counts R) (failures taken most : ℕ) (outcome : Result ℕ Halt) (result : Result ℕ RunStop) : Type 0 where
+  pub rows : IfOk result (λ n. outcome ≡ Ok n)
+  pub within : IfOk result (λ _. reader.taken ≤ taken + most)
+  pub unfailed : IfOk result (λ _. HasFailedSince reader failures → ⊥)
+  pub stops : IfErr result (IsStopOf reader failures taken most outcome)
+
+-- by these files, the conversion of a column ended early
+abbrev pub EndsAtHalt : Layout → ℕ → Halt → Run → List File → Type 0
+EndsAtHalt layout most why run files = IfSome run.column (λ column.
+    WritesAtHalt (header_text layout column) (ConvertsBy files layout most column) why run.held run.held' × NotesUntilHalt files layout most column why run.log run.log')
+
+-- where the column could not be read on, the files of all replies were learnt
+abbrev pub HaltsByTree : Halt → List Reply → Option (List Reply) → Option (List Reply) → Learnt → (List File → Type 0) → Type 0
+HaltsByTree halt.Unread replies gave gives known Holds = HoldsByLearnt replies gave gives known Holds
+HaltsByTree (halt.Stop stop) replies gave gives known Holds = EndsByTree stop replies gave gives known Holds

@@ -1,0 +1,47 @@
+-- The records of a round, in pieces.
+use Rattle.std.specs.Prelude.{◌≡◌, ℕ, ◌+◌, ◌*◌, ◌≤◌, Bool, true, List, [], ◌∷◌, ◌++◌, length, slice_get, Option, Some, None, IsSome, IfSome, Result, Ok, Err}
+use Rattle.zic_columns.specs.Round.{ArePiecesOf}
+use Rattle.zic_columns.specs.declared.pieces.TheConstants.{MAX_ROUND_PIECES}
+use Rattle.zic_files.specs.File.{File}
+use Rattle.zic_plan.specs.declared.layout.Layout.{Layout}
+use Rattle.zic_plan.specs.declared.stop.RowKind.{RowKind}
+use Rattle.zic_plan.specs.declared.plan.TheConstants.{MAX_OF_PIECE, MAX_ROWS}
+use Rattle.zic_convert.specs.code.Row.{AreRowsOf, RowsOf, wholes_in}
+
+-- the layout, the files, the bytes of each piece, the number of the first record as a row, how many rows there may be, how many records a
+-- piece has (the last may have fewer), and whether a piece with a row that ends the run stops the task
+pub record Pieces : Type 0 where
+  pub layout : Layout
+  pub files : List File
+  pub pieces : List (List ℕ)
+  pub first : ℕ
+  pub most : ℕ
+  pub size : ℕ
+  pub stops : Bool
+
+-- the limits of a round's pieces
+pub record ArePieces (p : Pieces) : Type 0 where
+  pub some : 1 ≤ p.size
+  pub small : p.size ≤ MAX_OF_PIECE
+  pub cut : ArePiecesOf p.size p.pieces
+  pub few : length p.pieces ≤ MAX_ROUND_PIECES
+  pub first : p.first ≤ MAX_ROWS + 1
+
+-- the rows of a piece's records
+abbrev pub AreRowsOfPiece : Pieces → ℕ → RowsOf → Type 0
+AreRowsOfPiece p i rows = IfSome (slice_get p.pieces i) (λ piece. AreRowsOf p.layout p.files p.most (p.first + i * p.size) (wholes_in p.layout.delimiter piece) rows)
+
+-- The outcome of a piece: its rows, up to the first that ends the run, or, where that is to stop the task, a fault.
+abbrev pub IsOutcomeOf : Pieces → ℕ → Result RowsOf (Unit {0}) → Type 0
+IsOutcomeOf p i (Ok rows) = AreRowsOfPiece p i rows × (p.stops ≡ true → rows.fault ≡ None)
+IsOutcomeOf p i (Err fault) = (p.stops ≡ true) × (rows : RowsOf) × AreRowsOfPiece p i rows × IsSome rows.fault
+
+-- some rows, and the rows after them, where none of the first ends the run
+abbrev pub followed_by : RowsOf → RowsOf → Option RowKind → RowsOf
+followed_by rows others None = record { text = rows.text ++ others.text; count = rows.count + others.count; fault = others.fault; faults = rows.faults ++ others.faults }
+followed_by rows others (Some kind) = rows
+
+-- the rows of pieces one after another, up to the first that ends the run
+abbrev pub joined : List RowsOf → RowsOf
+joined [] = record { text = []; count = 0; fault = None; faults = [] }
+joined (rows ∷ others) = followed_by rows (joined others) rows.fault
