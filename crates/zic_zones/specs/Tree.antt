@@ -1,17 +1,12 @@
 -- The zones of a tree that was asked for names: own choice.
-use Rattle.std.specs.Prelude.{ℕ, true, ◌≡◌, List, ◌++◌, Option, Contains}
+use Rattle.std.specs.Prelude.{ℕ, List, ◌++◌, Option, Contains}
 use Rattle.zic_files.specs.File.{File}
-use Rattle.zic_files.specs.Tree.{AreAsked, Gains, IsLearntFrom, Learnt, Reply}
-use Rattle.zic_words.specs.Name.{is_name}
+use Rattle.zic_files.specs.Tree.{AreAsked, Gains, IsKnown, IsLearntFrom, Learnt, Reply}
 
 -- a tree, and the names and files that were learnt of it
 pub record TreeOf (T : Type 0) : Type 0 where
   pub tree : T
   pub learnt : Learnt
-
--- the name was asked for, unless no zone may have it
-abbrev pub IsKnown : Learnt → List ℕ → Type 0
-IsKnown learnt name = is_name name ≡ true → Contains learnt.asked name
 
 -- The tree was asked for names of zones, for each once, and its files were learnt: what was learnt before stays.
 pub record Grows {T : Type 0} (replied : T → Option (List Reply)) (old new : TreeOf T) : Type 0 where
