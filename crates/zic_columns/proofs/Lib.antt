@@ -14,11 +14,9 @@ pub mod Taking
 pub mod CutLaw
 pub mod Masks
 pub mod RecordCounts
-pub mod Pairs
 pub mod Passing
 pub mod PairFacts
 pub mod Exchanges
-pub mod Fields
 pub mod OwnFacts
 pub mod OwnLens
 pub mod Wholes

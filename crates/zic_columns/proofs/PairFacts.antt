@@ -15,7 +15,7 @@ use Rattle.zic_columns.specs.Column.{HasNoQuote, column_records, ends_line}
 use Rattle.zic_columns.specs.code.Block.{ends_field}
 use Rattle.zic_columns.specs.code.Line.{IsAfterLineEnds}
 use Rattle.zic_columns.specs.code.Machine.{BeginsRecord, IsEndOfRecord}
-use Rattle.zic_columns.specs.code.Pair.{IsField, IsFirstPair, IsPair, Spells}
+use Rattle.zic_columns.specs.code.Pair.{IsField, IsPair, Spells}
 use Rattle.zic_columns.proofs.MachineFacts.{before_record, from_start}
 use Rattle.zic_columns.proofs.SomeRecords.{are_read, column_records-end, only}
 use Rattle.zic_columns.proofs.StepFacts.{field-comma, field-end, field-start, field-within, records-cons}
@@ -164,31 +164,3 @@ pair_ends bytes name instant len is = record {
   within = is.within;
   ends = λ fields field. (fields ++ (field ++ name) ∷ instant ∷ [], is.after, is.before_record, λ more. is.reads fields field more);
 }
-
--- ---- the first record
-
-pub ends_passed : (skipped rest : List ℕ) → All (λ byte. ends_line byte ≡ true) skipped → column_records (skipped ++ rest) ≡ column_records rest
-ends_passed [] rest all = refl
-ends_passed (byte ∷ bytes) rest all =
-    let P = λ (b : ℕ). ends_line b ≡ true in
-    column_records-end byte (bytes ++ rest) (All-head P byte bytes all) ∙ ends_passed bytes rest (All-tail P byte bytes all)
-
-pub after_ends : (bytes rest : List ℕ) → IsAfterLineEnds bytes rest → column_records bytes ≡ column_records rest
-after_ends bytes rest after = ap column_records after.parts ∙ ends_passed after.skipped rest after.ends
-
-pub first_pair : (line name instant behind rest : List ℕ) (len : ℕ) → BeginsRecord line → IsPair line name instant len → behind ≡ drop len line → IsAfterLineEnds behind rest
-    → IsFirstPair line (name ∷ instant ∷ []) rest
-first_pair line name instant behind rest len begins is later after =
-    let fields = name ∷ instant ∷ [] in
-    let N = λ (s : State) (l : List ℕ). next_record default_config s [] [] l in
-    let starts : N st.StartRecord line ≡ N st.StartField line = ap (N st.StartRecord) (sym (append-nil line)) ∙ from_start line [] begins ∙ ap (N st.StartField) (append-nil line) in
-    let read : N st.StartRecord line ≡ Some (fields, is.after, drop len line) = starts ∙ ap (N st.StartField) (sym (take-append-drop len line)) ∙ is.reads [] [] (drop len line) in
-    let one : column_records line ≡ fields ∷ column_records (drop len line) =
-    only line (fields ∷ column_records (drop len line))
-    (records-cons st.StartRecord is.after line (drop len line) fields (column_records (drop len line)) read
-    (before_record is.after (drop len line) (column_records (drop len line)) is.before_record (are_read (drop len line)))) in
-    record {
-      records = one ∙ ap (λ (l : List ℕ). fields ∷ column_records l) (sym later) ∙ ap (λ (r : List (List (List ℕ))). fields ∷ r) (after_ends behind rest after);
-      begins = after.begins;
-      shorter = omega (arith, is.some, is.within, length-drop len line, ap length later, ap length after.parts, length-append after.skipped rest);
-    }

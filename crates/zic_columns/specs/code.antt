@@ -10,6 +10,4 @@ pub mod Own
 pub mod Pair
 pub mod Quote
 pub mod Range
-pub mod Split
-pub mod Wide
 pub mod Window

@@ -1,22 +1,16 @@
 //! Records of two fields, whose text stands as it is in the column.
 
-ghost use Rattle.std.specs.Prelude.{◌≡◌, ◌==◌, length, map, Some, IfSome, IfOk, MatchResult};
+ghost use Rattle.std.specs.Prelude.{◌==◌, length, Some, IfSome, MatchResult};
 ghost use Rattle.memchr.specs.Find.{IsFirst, Passes};
-ghost use Rattle.std.specs.Iterator.{at_most};
-ghost use Rattle.zic_columns.specs.Column.{column_records};
-ghost use Rattle.zic_columns.specs.Record.{YieldsRecord};
 ghost use Rattle.zic_columns.specs.code.Block.{ends_field};
-ghost use Rattle.zic_columns.specs.code.Machine.{BeginsRecord, IsEndOfRecord, ReadsTo, state_at};
+ghost use Rattle.zic_columns.specs.code.Machine.{IsEndOfRecord, ReadsTo, state_at};
 ghost use Rattle.zic_columns.specs.declared.machine.Place.TheVariants as place;
-ghost use Rattle.zic_columns.specs.code.Pair.{fields_in, IsField, IsPair, IsFirstPair};
+ghost use Rattle.zic_columns.specs.code.Pair.{IsField, IsPair};
 
 use crate::blocks::{near_field_end, near_quote};
-use crate::entry::Record;
-use crate::line::{after_line_ends, ends_line};
+use crate::line::ends_line;
 use crate::machine::{Place, record_end};
 use memchr::{memchr, memchr3};
-use std::alloc::{AllocError, Global};
-use std::marker::Model;
 
 /// A field: its text, and its length in bytes with its double quotes.
 #[derive(Clone, Copy, Drop)]
@@ -119,81 +113,5 @@ pub(crate) fn whole_record_end(bytes: &[u8]) -> Result<usize, Place>
     match next_pair(bytes) {
         Some(pair) => Ok(pair.len),
         None => record_end(Place::Start, bytes),
-    }
-}
-
-/// Returns the first record, where it is such a pair, and the bytes from the next record on. The
-/// first byte ends no line.
-fn first_pair(line: &[u8]) -> Option<(Pair<'_>, &[u8])>
-    requires { BeginsRecord line.now }
-    ensures { IfSome result (λ parts. IsFirstPair line.now (fields_in parts.0) parts.1.now) }
-{
-    let first = next_pair(line)?;
-    Some((first, after_line_ends(&line[first.len..])))
-}
-
-/// Returns the records of the bytes, where each is such a pair.
-pub(crate) fn pairs_of(alloc: Global, bytes: &[u8]) -> Result<Option<Vec<Pair<'_>>>, AllocError>
-    ensures { IfOk result (λ found. IfSome found
-        (λ pairs. map fields_in pairs.items ≡ column_records bytes.now)) }
-{
-    let mut pairs = Vec::new(alloc);
-    let mut rest = after_line_ends(bytes);
-    while 0 < rest.len() {
-        let Some((first, others)) = first_pair(rest) else {
-            return Ok(None);
-        };
-        pairs.push(first)?;
-        rest = others;
-    }
-    Ok(Some(pairs))
-}
-
-/// The records to come of pairs.
-#[derive(Drop)]
-pub(crate) struct PairRecords<'a> {
-    pairs: &'a [Pair<'a>],
-    /// The index of the next pair.
-    next: usize,
-}
-
-impl<'a> Model for PairRecords<'a> {
-    ghost use Rattle.std.specs.Prelude.{ℕ, ◌≤◌, List, drop, length, map};
-    ghost use Rattle.zic_columns.specs.code.Pair.{fields_in};
-
-    ghost Value = { List (List (List ℕ)) };
-
-    ghost view = { λ records. map fields_in (drop records.next records.pairs.now) };
-
-    ghost invariant = { λ records. records.next ≤ length records.pairs.now };
-}
-
-impl<'a> PairRecords<'a> {
-    /// Returns the records of pairs.
-    pub(crate) fn new(pairs: &'a [Pair<'a>]) -> PairRecords<'a>
-        ensures { result ≡ map fields_in pairs.now }
-    {
-        PairRecords { pairs, next: 0 }
-    }
-}
-
-impl<'a> Iterator for PairRecords<'a> {
-    type Item = Record<'a>;
-
-    ghost next_gives = { YieldsRecord };
-
-    ghost remaining = { λ records. at_most (length records) };
-
-    fn next(&mut self) -> Option<Record<'a>> {
-        let pairs = self.pairs;
-        if self.next == pairs.len() {
-            return None;
-        }
-        let pair = pairs[self.next];
-        self.next += 1;
-        Some(Record::Pair {
-            name: pair.name,
-            instant: pair.instant,
-        })
     }
 }

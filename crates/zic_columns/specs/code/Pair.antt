@@ -4,13 +4,7 @@ use Rattle.csv.specs.Machine.{ends_at_end, next_record}
 use Rattle.csv.specs.Reading.{default_config}
 use Rattle.csv.specs.declared.parser.State.{State}
 use Rattle.csv.specs.declared.parser.State.TheVariants as st
-use Rattle.zic_columns.specs.Column.{column_records, ends_line}
 use Rattle.zic_columns.specs.code.Block.{ends_field}
-use Rattle.zic_columns.specs.declared.pair.Pair.{Pair}
-
--- the two fields of a record
-abbrev pub fields_in : Pair → List (List ℕ)
-fields_in pair = pair.name.now ∷ pair.instant.now ∷ []
 
 -- At the start of a field, and before a byte that ends one, the machine reads these bytes as the text.
 abbrev pub Spells : List ℕ → List ℕ → Type 0
@@ -32,9 +26,3 @@ pub record IsPair (bytes name instant : List ℕ) (len : ℕ) : Type 0 where
   pub before_record : ends_at_end after ≡ false
   pub reads : (fields : List (List ℕ)) (field more : List ℕ)
       → next_record default_config st.StartField fields field (take len bytes ++ more) ≡ Some (fields ++ (field ++ name) ∷ instant ∷ [], after, more)
-
--- the first record has these fields, and the rest, which begin with no line end, have the others
-pub record IsFirstPair (bytes : List ℕ) (fields : List (List ℕ)) (rest : List ℕ) : Type 0 where
-  pub records : column_records bytes ≡ fields ∷ column_records rest
-  pub begins : 0 < length rest → ends_line (slice_index rest 0) ≡ false
-  pub shorter : length rest < length bytes
