@@ -15,9 +15,12 @@ pub mod CutLaw
 pub mod Masks
 pub mod RecordCounts
 pub mod Passing
-pub mod PairFacts
+pub mod FieldFacts
 pub mod Exchanges
 pub mod OwnFacts
 pub mod OwnLens
 pub mod Wholes
 pub mod Written
+pub mod OwnRecords
+pub mod Spans
+pub mod WalkFacts

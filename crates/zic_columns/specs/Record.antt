@@ -30,10 +30,14 @@ abbrev pub StandsIn : List ℕ → Field → Type 0
 StandsIn piece (Plain span) = IsWithin piece span
 StandsIn piece (Quoted span) = IsWithin piece span
 
--- The text of a field: its bytes, or of a field with double quotes the first field that a CSV reader gives of its bytes alone.
+-- the text of the first field that a CSV reader gives of these bytes alone, and no bytes where there is none
+abbrev pub text_alone : List ℕ → List ℕ
+text_alone bytes = first_text (first_fields (column_records bytes))
+
+-- The text of a field: its bytes, or of a field with double quotes what a CSV reader makes of them alone.
 abbrev pub field_text : List ℕ → Field → List ℕ
 field_text piece (Plain span) = bytes_at piece span
-field_text piece (Quoted span) = first_text (first_fields (column_records (bytes_at piece span)))
+field_text piece (Quoted span) = text_alone (bytes_at piece span)
 
 -- the text of a wanted field: none where the record has no such field, or none is wanted
 abbrev pub wanted_text : List (List ℕ) → Option ℕ → List ℕ

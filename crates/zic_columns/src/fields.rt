@@ -1,8 +1,10 @@
 //! Records of a piece: where their bytes stand, and the fields that rows need.
 
 ghost use Rattle.std.specs.Prelude.{◌≡◌, ◌++◌, OnOk};
-ghost use Rattle.zic_columns.specs.Record.{bytes_at, field_text, IsWithin, StandsIn};
+ghost use Rattle.zic_columns.specs.Record.{IsWithin, StandsIn, bytes_at, field_text, text_alone};
 
+use crate::line::after_line_ends;
+use crate::machine::{Place, field_byte};
 use std::alloc::AllocError;
 
 /// A range of bytes of a piece: from its start up to its end.
@@ -66,4 +68,25 @@ pub fn push_field(text: &mut Vec<u8>, piece: &[u8], field: Field) -> Result<(), 
         Field::Plain(span) => text.extend_from_slice(span.of(piece)),
         Field::Quoted(span) => push_quoted(text, span.of(piece)),
     }
+}
+
+/// Appends the text of the first field of some bytes.
+///
+/// # Errors
+///
+/// Fails where memory is refused.
+fn push_quoted(text: &mut Vec<u8>, bytes: &[u8]) -> Result<(), AllocError>
+    ensures { OnOk result (text.new.items ≡ text.old.items ++ text_alone bytes.now) }
+{
+    let mut stands = Place::Start;
+    for byte in after_line_ends(bytes) {
+        let Some(read) = field_byte(stands, *byte) else {
+            return Ok(());
+        };
+        if read.is_text {
+            text.push(*byte)?;
+        }
+        stands = read.next;
+    }
+    Ok(())
 }

@@ -20,11 +20,11 @@ mod line;
 mod machine;
 mod mark;
 mod own;
-mod pair;
 mod pieces;
 mod quote;
 mod rounds;
 mod splits;
+mod walk;
 
 pub use columns::{Column, Unread};
 pub use delimiter::{Exchanged, exchange};

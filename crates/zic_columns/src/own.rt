@@ -6,7 +6,7 @@ ghost use Rattle.zic_columns.specs.code.Machine.{BeginsRecord};
 ghost use Rattle.zic_columns.specs.code.Own.{IsOwnLen};
 
 use crate::line::after_line_ends;
-use crate::pair::whole_record_end;
+use crate::walk::whole_record_end;
 use memchr::memchr3;
 use std::alloc::{AllocError, Global};
 

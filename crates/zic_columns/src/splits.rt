@@ -3,8 +3,11 @@
 ghost use Rattle.std.specs.Prelude.{◌≡◌, ◌++◌, ◌+◌, ◌<◌, ◌≤◌, [], All, length, map, take};
 ghost use Rattle.zic_columns.specs.Own.{whole_records};
 ghost use Rattle.zic_columns.specs.Record.{IsSplit, record_at};
+ghost use Rattle.zic_columns.specs.code.Walk.{IsNext};
 
 use crate::fields::{Record, Wanted};
+use crate::line::after_line_ends;
+use crate::walk::split_record;
 use std::marker::Model;
 
 /// The most records that are split together.
@@ -78,7 +81,7 @@ impl<'a> Splitter<'a> {
     fn next_record(&mut self) -> Option<Record>
         ensures piece { self.new.piece ≡ self.old.piece }
         ensures wanted { self.new.wanted ≡ self.old.wanted }
-        ensures none { IsNext self.old result self.new }
+        ensures next { IsNext self.old result self.new }
     {
         let rest = after_line_ends(&self.bytes[self.at..]);
         let start = self.bytes.len() - rest.len();
