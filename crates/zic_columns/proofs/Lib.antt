@@ -24,3 +24,4 @@ pub mod Written
 pub mod OwnRecords
 pub mod Spans
 pub mod WalkFacts
+pub mod SplitFacts
