@@ -15,6 +15,7 @@ use Rattle.zic_columns.specs.Own.{first_text}
 use Rattle.zic_columns.specs.Record.{first_fields, text_alone}
 use Rattle.zic_columns.specs.code.Block.{ends_field}
 use Rattle.zic_columns.specs.code.Field.{EndsField, IsField, IsOfField, IsOutside, Spells}
+use Rattle.zic_columns.specs.code.Line.{IsAfterLineEnds}
 use Rattle.zic_columns.specs.code.Machine.{BeginsRecord, EndsRecord, ReadsTo, state_at}
 use Rattle.zic_columns.specs.declared.machine.FieldByte.{FieldByte}
 use Rattle.zic_columns.specs.declared.machine.Place.{Place}
@@ -23,7 +24,7 @@ use Rattle.zic_columns.proofs.MachineFacts.{at_end, before_record, from_start}
 use Rattle.zic_columns.proofs.OwnFacts.{took}
 use Rattle.zic_columns.proofs.OwnLens.{next_goes}
 use Rattle.zic_columns.proofs.OwnRecords.{read_on}
-use Rattle.zic_columns.proofs.SomeRecords.{Leaves, are_read, column_records-nil, leaves, only}
+use Rattle.zic_columns.proofs.SomeRecords.{Leaves, are_read, column_records-end, column_records-nil, leaves, only}
 use Rattle.zic_columns.proofs.StepFacts.{field-comma, field-end, field-start, field-within, records-cons}
 
 neither : (a b : Bool) → (a || b) ≡ false → (a ≡ false) × (b ≡ false)
@@ -231,3 +232,15 @@ first_read bytes text len begins is = ⊎_elim
           let none = spells_nothing text is.stands (subst (λ (n : ℕ). Spells (take n []) text is.stands) zero_len is.spells) in
           ap (λ (r : List (List (List ℕ))). first_text (first_fields r)) column_records-nil ∙ sym none
       nothing (byte ∷ bytes) few is = absurd (omega (arith, few))
+
+-- line ends before a record are passed over
+ends_passed : (skipped rest : List ℕ) → All (λ byte. ends_line byte ≡ true) skipped → column_records (skipped ++ rest) ≡ column_records rest
+ends_passed [] rest all = refl
+ends_passed (byte ∷ bytes) rest all =
+    let P = λ (b : ℕ). ends_line b ≡ true in
+    column_records-end byte (bytes ++ rest) (All-head P byte bytes all) ∙ ends_passed bytes rest (All-tail P byte bytes all)
+
+pub text_after : (bytes rest text : List ℕ) (len : ℕ) → IsAfterLineEnds bytes rest → IsField rest text len → text_alone bytes ≡ text
+text_after bytes rest text len after is =
+    ap (λ (r : List (List (List ℕ))). first_text (first_fields r)) (ap column_records after.parts ∙ ends_passed after.skipped rest after.ends)
+    ∙ first_read rest text len after.begins is

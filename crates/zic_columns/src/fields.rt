@@ -79,7 +79,8 @@ fn push_quoted(text: &mut Vec<u8>, bytes: &[u8]) -> Result<(), AllocError>
     ensures { OnOk result (text.new.items ≡ text.old.items ++ text_alone bytes.now) }
 {
     let mut stands = Place::Start;
-    for byte in after_line_ends(bytes) {
+    let rest = after_line_ends(bytes);
+    for byte in rest {
         let Some(read) = field_byte(stands, *byte) else {
             return Ok(());
         };
