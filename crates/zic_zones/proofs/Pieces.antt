@@ -1,5 +1,5 @@
 -- The zones of a piece, learnt batch by batch, and of a round.
-use Rattle.std.proofs.Common.{◌≡◌, ◌∙◌, ◌+◌, ◌<◌, ◌≤◌, ℕ, List, [], ◌∷◌, ◌++◌, length, map, take, Option, Some, append_assoc, ap, refl, sym, subst, arith}
+use Rattle.std.proofs.Common.{◌≡◌, ◌∙◌, Global, ◌+◌, ◌<◌, ◌≤◌, ℕ, List, [], ◌∷◌, ◌++◌, length, map, take, Option, Some, append_assoc, ap, refl, sym, subst, arith}
 use Rattle.std.specs.Prelude.{All, String, slice_get, string_bytes}
 use Rattle.std.proofs.lemmas.Grind.{flat_map-append}
 use Rattle.std.proofs.lemmas.List.{append-nil, map-append}
@@ -130,6 +130,6 @@ pub zones_of_fields : (index : ℕ) (records : List (List (List ℕ))) → map (
 zones_of_fields index [] = refl
 zones_of_fields index (fields ∷ records) = ap (λ (l : List (List ℕ)). field_at fields index ∷ l) (zones_of_fields index records)
 
-pub zones_of_name : (P : List ℕ → Type 0) (name : String) (records : List (List (List ℕ))) → P (string_bytes name) → All P (map (zone_in (zone.Name name)) records)
+pub zones_of_name : (P : List ℕ → Type 0) (name : String Global) (records : List (List (List ℕ))) → P (string_bytes name) → All P (map (zone_in (zone.Name name)) records)
 zones_of_name P name [] is = λ k d lt. absurd (omega (arith, lt))
 zones_of_name P name (fields ∷ records) is = All-cons P (string_bytes name) (map (zone_in (zone.Name name)) records) is (zones_of_name P name records is)

@@ -2,4 +2,5 @@ pub mod Zones
 pub mod Source
 pub mod Tree
 pub mod Growing
+pub mod Laws
 pub mod code

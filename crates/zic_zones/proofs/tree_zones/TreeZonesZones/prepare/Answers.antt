@@ -14,5 +14,6 @@ returns-in-Field-clause-settled g c =
 
 pub returns-in-Name-clause-settled : goal.returns-in-Name-clause-settled
 returns-in-Name-clause-settled g c =
-    let h = c.as_bytes.ensures.value in
-    let k = c.learn.ensures.settled in ?
+    let learnt = c.learn.new.self.learnt in
+    let known = subst (λ (name : List ℕ). OnOk c.learn.result (IsKnown learnt name)) c.as_bytes.ensures.value c.learn.ensures.settled in
+    rw c.in-Name.is (on_ok_weaker c.learn.result (zones_of_name (IsKnown learnt) c.in-Name.name (records_of c.args.round.now)) known)
