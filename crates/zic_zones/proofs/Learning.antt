@@ -1,12 +1,11 @@
 -- What is learnt of a tree.
-use Rattle.std.proofs.Common.{◌≡◌, ◌∙◌, ◌⊎◌, ℕ, inl, inr, List, [], ◌∷◌, ◌++◌, map, Option, Some, None, append_assoc, ap, refl, sym, subst, arith}
+use Rattle.std.proofs.Common.{◌≡◌, ℕ, inl, inr, List, [], ◌∷◌, ◌++◌, Option, Some, None, append_assoc, ap, refl, sym, subst, arith}
 use Rattle.std.specs.Prelude.{All, Contains, OnErr, OnOk, Ok, Err, Result}
 use Rattle.std.proofs.lemmas.Bool.{false≢true}
-use Rattle.std.proofs.lemmas.List.{append-nil}
 use Rattle.std.proofs.lemmas.List.Elements.{All-weaker, Contains-append_cases, Contains-append_left, Contains-append_right}
 use Rattle.zic_base.proofs.Elements.{only_one}
 use Rattle.zic_files.specs.File.{File, FileImage}
-use Rattle.zic_files.specs.Tree.{Adds, AreAsked, AreOfName, Gains, GrowsBy, IsKnown, IsLearntFrom, IsSettled, Learnt, Reply, files_named}
+use Rattle.zic_files.specs.Tree.{AreAsked, AreOfName, Gains, GrowsBy, IsKnown, IsLearntFrom, IsSettled, Learnt, Reply, files_named}
 use Rattle.zic_zones.specs.Growing.{gains_on}
 use Rattle.zic_zones.specs.Tree.{Breaks, Grows, TreeOf}
 use Rattle.zic_zones.specs.code.Ready.{AreReady}

@@ -1,5 +1,5 @@
 -- The zones of a piece, learnt batch by batch, and of a round.
-use Rattle.std.proofs.Common.{◌≡◌, ◌∙◌, Global, ◌+◌, ◌<◌, ◌≤◌, ℕ, List, [], ◌∷◌, ◌++◌, length, map, take, Option, Some, append_assoc, ap, refl, sym, subst, arith}
+use Rattle.std.proofs.Common.{◌≡◌, ◌∙◌, Global, ◌+◌, ◌<◌, ◌≤◌, ℕ, List, [], ◌∷◌, ◌++◌, map, take, Option, Some, append_assoc, ap, refl, sym, subst, arith}
 use Rattle.std.specs.Prelude.{All, String, slice_get, string_bytes}
 use Rattle.std.proofs.lemmas.Grind.{flat_map-append}
 use Rattle.std.proofs.lemmas.List.{append-nil, map-append}
@@ -8,7 +8,7 @@ use Rattle.zic_base.proofs.Lists.{take_next}
 use Rattle.zic_columns.proofs.Wholes.{wholes_fields}
 use Rattle.zic_columns.specs.Column.{column_records}
 use Rattle.zic_columns.specs.Own.{Whole, whole_records}
-use Rattle.zic_columns.specs.Record.{IsSplit, Splitting, StandsIn, record_at}
+use Rattle.zic_columns.specs.Record.{IsSplit, Splitting, record_at}
 use Rattle.zic_columns.specs.Round.{records_of}
 use Rattle.zic_columns.specs.declared.fields.Record.{Record}
 use Rattle.zic_columns.specs.declared.fields.Wanted.{Wanted}

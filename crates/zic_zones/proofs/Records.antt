@@ -1,24 +1,17 @@
 -- The zones of records, learnt one after another.
-use Rattle.std.proofs.Common.{◌≡◌, ◌∙◌, ◌+◌, ◌≤◌, ℕ, List, [], ◌∷◌, ◌++◌, length, map, take, Option, Some, append_assoc, ap, refl, sym, subst, arith}
+use Rattle.std.proofs.Common.{◌≡◌, ◌∙◌, ◌+◌, ℕ, List, [], ◌∷◌, ◌++◌, map, take, Option, Some, ap, sym, subst, arith}
 use Rattle.std.specs.Prelude.{All, slice_get}
-use Rattle.std.proofs.lemmas.Grind.{flat_map-append}
-use Rattle.std.proofs.lemmas.List.{append-nil, map-append}
-use Rattle.std.proofs.lemmas.List.Elements.{All-append, All-push}
+use Rattle.std.proofs.lemmas.List.{map-append}
+use Rattle.std.proofs.lemmas.List.Elements.{All-push}
 use Rattle.zic_base.proofs.Lists.{take_next}
-use Rattle.zic_columns.proofs.Wholes.{wholes_fields}
-use Rattle.zic_columns.specs.Column.{column_records}
-use Rattle.zic_columns.specs.Own.{Whole, whole_records}
-use Rattle.zic_columns.specs.Record.{IsSplit, StandsIn, field_text, record_at}
-use Rattle.zic_columns.specs.Round.{records_of}
+use Rattle.zic_columns.specs.Record.{StandsIn, field_text}
 use Rattle.zic_columns.specs.declared.fields.Field.{Field}
 use Rattle.zic_columns.specs.declared.fields.Field.TheVariants as field
 use Rattle.zic_columns.specs.declared.fields.Record.{Record}
-use Rattle.zic_columns.specs.declared.fields.Wanted.{Wanted}
 use Rattle.zic_files.specs.Tree.{IsKnown, Reply}
 use Rattle.zic_zones.specs.Growing.{grows_same, grows_then}
 use Rattle.zic_zones.specs.Tree.{Grows, TreeOf}
-use Rattle.zic_zones.specs.Zones.{field_at}
-use Rattle.zic_zones.proofs.Learning.{all_known_on, empty_known, known_on}
+use Rattle.zic_zones.proofs.Learning.{all_known_on, empty_known}
 
 -- the text of a record's field that names a zone
 abbrev pub zone_text : List ℕ → Record → List ℕ

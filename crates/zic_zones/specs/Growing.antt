@@ -1,9 +1,9 @@
 -- The laws of the zones of a tree: what was learnt grows.
 use Rattle.std.proofs.Common.{subst, sym, ap, append_assoc, ◌∙◌}
 use Rattle.std.proofs.lemmas.List.{append-nil}
-use Rattle.std.specs.Prelude.{◌≡◌, ℕ, List, [], ◌++◌, Option, None, Some, Contains}
+use Rattle.std.specs.Prelude.{List, [], ◌++◌, Option, None, Some}
 use Rattle.zic_files.specs.File.{File}
-use Rattle.zic_files.specs.Tree.{Gains, IsKnown, IsLearntFrom, Learnt, Reply}
+use Rattle.zic_files.specs.Tree.{Gains, IsKnown, IsLearntFrom, Reply}
 use Rattle.zic_zones.specs.Tree.{Grows, TreeOf}
 use Rattle.zic_zones.specs.Zones.{Agree}
 

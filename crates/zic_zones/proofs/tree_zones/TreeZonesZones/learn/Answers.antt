@@ -1,5 +1,4 @@
-use Rattle.std.proofs.Common.{ℕ, List, Option, subst}
-use Rattle.zic_files.specs.Tree.{IsKnown}
+use Rattle.std.proofs.Common.{subst}
 use Rattle.zic_zones.specs.Tree.{Grows, TreeOf}
 use Rattle.zic_zones.proofs.Learning.{grows_by, known_then, on_ok, ready_still}
 use Rattle.zic_zones.proofs.tree_zones.TreeZonesZones.learn.Goals as goal
