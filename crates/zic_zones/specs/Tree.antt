@@ -8,7 +8,8 @@ pub record TreeOf (T : Type 0) : Type 0 where
   pub tree : T
   pub learnt : Learnt
 
--- The tree was asked for names of zones, for each once, and its files were learnt: what was learnt before stays.
+-- The tree was asked for more names of zones, for each once, and its files were learnt. The names and files from before stay, and no file
+-- of a name that was known came to them.
 pub record Grows {T : Type 0} (replied : T → Option (List Reply)) (old new : TreeOf T) : Type 0 where
   pub replies : (replies : List Reply) → IsLearntFrom replies old.learnt
       → (more : List Reply) × Gains (replied old.tree) (replied new.tree) more × IsLearntFrom (replies ++ more) new.learnt
@@ -16,7 +17,7 @@ pub record Grows {T : Type 0} (replied : T → Option (List Reply)) (old new : T
   pub files : (file : File) → Contains old.learnt.files file → Contains new.learnt.files file
   pub only : (file : File) → Contains new.learnt.files file → IsKnown old.learnt file.name → Contains old.learnt.files file
 
--- The tree was asked for names of zones, for each once, and what was learnt is open.
+-- The tree was asked for more names of zones, for each once. What was learnt is open.
 abbrev pub Breaks : {T : Type 0} → (T → Option (List Reply)) → TreeOf T → TreeOf T → Type 0
 Breaks replied old new =
     (replies : List Reply) → IsLearntFrom replies old.learnt → (more : List Reply) × Gains (replied old.tree) (replied new.tree) more × AreAsked (replies ++ more)
