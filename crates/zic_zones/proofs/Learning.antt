@@ -1,6 +1,6 @@
 -- What is learnt of a tree.
 use Rattle.std.proofs.Common.{◌≡◌, ℕ, inl, inr, List, [], ◌∷◌, ◌++◌, Option, Some, None, append_assoc, ap, refl, sym, subst, arith}
-use Rattle.std.specs.Prelude.{All, Contains, OnErr, OnOk, Ok, Err, Result}
+use Rattle.std.specs.Prelude.{All, Contains, OnOk, Ok, Err, Result}
 use Rattle.std.proofs.lemmas.Bool.{false≢true}
 use Rattle.std.proofs.lemmas.List.Elements.{All-weaker, Contains-append_cases, Contains-append_left, Contains-append_right}
 use Rattle.zic_base.proofs.Elements.{only_one}
@@ -71,10 +71,6 @@ grows_by replied old new name told grows = record {
 pub on_ok : {X E : Type 0} (result : Result X E) (P : Type 0) → P → OnOk result P
 on_ok (Ok x) P p = p
 on_ok (Err e) P p = tt
-
-pub on_err : {X E : Type 0} (result : Result X E) (P : Type 0) → P → OnErr result P
-on_err (Ok x) P p = tt
-on_err (Err e) P p = p
 
 -- ---- what grew, and broke then
 
