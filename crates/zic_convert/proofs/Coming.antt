@@ -15,7 +15,6 @@ use Rattle.zic_plan.specs.declared.stop.RowKind.{RowKind}
 use Rattle.zic_plan.specs.declared.stop.RowKind.TheVariants as kinds
 use Rattle.zic_convert.specs.LayoutRows.{ComeToBy, IsRowBy, ending, ends_by, fault_by, faults_by, noted}
 use Rattle.zic_convert.specs.code.Row.{AreRowsOf, RowsOf}
-use Rattle.zic_convert.specs.code.Pieces.{followed_by}
 
 -- a record that is one too many ends each run
 pub too_many_ends : (at : AtFault) → ending at (Some kinds.TooManyRows) ≡ Some kinds.TooManyRows

@@ -1,6 +1,6 @@
 -- The rows of a column's records, by a layout: own choice. A record has an instant, and perhaps a zone's name. Its row has the text of
 -- what the file of that name answers at the instant, or a fault. A row with a fault ends the run, or has no local time.
-use Rattle.std.specs.Prelude.{◌≡◌, ℕ, ◌+◌, nat_le, ℤ, List, [], ◌∷◌, ◌++◌, length, Option, Some, None, option_map, is_some, IsSome, Contains, slice_index_or, string_bytes, if◌then◌else◌}
+use Rattle.std.specs.Prelude.{◌≡◌, ℕ, ◌+◌, nat_le, ℤ, List, [], ◌∷◌, ◌++◌, length, Option, Some, None, option_map, is_some, IsSome, Contains, if◌then◌else◌}
 use Rattle.std.specs.Fmt.{signed_decimal}
 use Rattle.csv.specs.Writing.{default_writer, row_text, with_delimiter}
 use Rattle.zic_base.specs.Check.{Check, check, first_failed}
@@ -16,21 +16,11 @@ use Rattle.zic_plan.specs.declared.layout.AtFault.TheVariants as at
 use Rattle.zic_plan.specs.declared.layout.Layout.{Layout}
 use Rattle.zic_plan.specs.declared.layout.RowStart.{RowStart}
 use Rattle.zic_plan.specs.declared.layout.RowStart.TheVariants as start
-use Rattle.zic_plan.specs.declared.layout.ZoneFrom.{ZoneFrom}
-use Rattle.zic_plan.specs.declared.layout.ZoneFrom.TheVariants as zone
 use Rattle.zic_plan.specs.declared.stop.RowFault.{RowFault}
 use Rattle.zic_plan.specs.declared.stop.RowKind.{RowKind}
 use Rattle.zic_plan.specs.declared.stop.RowKind.TheVariants as kind
-use Rattle.zic_convert.specs.Rows.{is_named, is_row_instant}
-
--- the field with this index, or no text where there is none
-abbrev pub field_at : List (List ℕ) → ℕ → List ℕ
-field_at fields index = slice_index_or fields index []
-
--- the zone's name
-abbrev pub zone_in : ZoneFrom → List (List ℕ) → List ℕ
-zone_in (zone.Field index) fields = field_at fields index
-zone_in (zone.Name name) fields = string_bytes name
+use Rattle.zic_zones.specs.Zones.{field_at, is_named, zone_in}
+use Rattle.zic_convert.specs.Rows.{is_row_instant}
 
 -- the count that the field of the instant has
 abbrev pub count_in : Layout → List (List ℕ) → Option ℤ

@@ -1,7 +1,6 @@
 -- The rows of a column's records: own choice. A record has a zone's name and an instant. Its row has the text of what the file
 -- of that name answers at the instant, or a fault.
-use Rattle.std.specs.Prelude.{◌≡◌, ℕ, ◌+◌, nat_le, ◌==◌, Bool, false, ◌&&◌, ℤ, int_le, List, [], ◌∷◌, length, Option, Some, None, is_some, IsSome, Contains, bytes_eq}
-use Rattle.std.specs.List.{list_any}
+use Rattle.std.specs.Prelude.{◌≡◌, ℕ, ◌+◌, nat_le, ◌==◌, Bool, false, ◌&&◌, ℤ, int_le, List, [], ◌∷◌, length, Option, Some, None, is_some, IsSome, Contains}
 use Rattle.zic_base.specs.Check.{Check, check, first_failed}
 use Rattle.zic_base.specs.State.{Shown}
 use Rattle.zic_tzif.specs.Answer.{Answers}
@@ -9,6 +8,7 @@ use Rattle.zic_rows.specs.Instant.{instant_of}
 use Rattle.zic_rows.specs.declared.limit.TheConstants.{FIRST_INSTANT, LAST_INSTANT}
 use Rattle.zic_rows.specs.Row.{row_text}
 use Rattle.zic_files.specs.File.{File}
+use Rattle.zic_zones.specs.Zones.{is_named}
 use Rattle.zic_plan.specs.declared.stop.RowKind.{RowKind}
 use Rattle.zic_plan.specs.declared.stop.RowKind.TheVariants as kind
 
@@ -20,10 +20,6 @@ name_in _ = []
 abbrev pub instant_in : List (List ℕ) → Option ℤ
 instant_in (name ∷ instant ∷ []) = instant_of instant
 instant_in _ = None
-
--- some file has this name
-abbrev pub is_named : List File → List ℕ → Bool
-is_named files name = list_any (λ file. bytes_eq file.name name) files
 
 -- a row may have this instant
 abbrev pub is_row_instant : Option ℤ → Bool

@@ -4,17 +4,18 @@ ghost use Rattle.std.specs.Prelude.{◌≡◌, ◌∷◌, ◌++◌, ◌≤◌, [
 ghost use Rattle.std.specs.Prelude.{false, length, take, drop, map};
 ghost use Rattle.csv.specs.Writing.{default_writer, row_text, with_delimiter};
 ghost use Rattle.zic_columns.specs.Exchange.{exchanged};
-ghost use Rattle.zic_columns.specs.Own.{whole_of};
-ghost use Rattle.zic_columns.specs.Wide.{wide_fields};
+ghost use Rattle.zic_columns.specs.Record.{IsSplit, StandsIn, field_text, record_at};
 ghost use Rattle.zic_plan.specs.declared.layout.RowStart.TheVariants as start;
-ghost use Rattle.zic_convert.specs.LayoutRows.{ending, faulty_text, field_at, timeless_text, zone_in};
+ghost use Rattle.zic_zones.specs.Zones.{zone_in};
+ghost use Rattle.zic_convert.specs.LayoutRows.{ending, faulty_text, timeless_text};
+ghost use Rattle.zic_convert.specs.code.Batch.{wanted_by};
 ghost use Rattle.zic_convert.specs.code.Row.{put_back};
 
-use crate::query::field_or_none;
+use crate::piece::Piece;
 use csv::WriterBuilder;
 use std::alloc::{AllocError, Global};
-use zic_columns::{Entry, WideRecord, exchange};
-use zic_plan::{AtFault, Layout, RowKind, RowStart, ZoneFrom};
+use zic_columns::{Field, Record, exchange, push_field};
+use zic_plan::{AtFault, RowKind, RowStart, ZoneFrom};
 
 /// Returns whether a fault ends the run.
 pub(crate) fn ends_run(at_fault: AtFault, kind: RowKind) -> bool
@@ -33,37 +34,39 @@ pub(crate) fn put_back(text: &mut Vec<u8>, start: usize, delimiter: u8)
     ensures { text.new.items
         ≡ take start text.old.items ++ exchanged delimiter (drop start text.old.items) }
 {
-    exchange(&mut text[start..], delimiter);
+    if delimiter != b',' {
+        exchange(&mut text[start..], delimiter);
+    }
 }
 
-/// Copies the field with this index, in which the delimiter and commas are put back in their
-/// places. The copy has no byte where there is no such field.
+/// Copies the text of a field, in which the delimiter and commas are put back in their places.
 fn copy_field(
     alloc: Global,
-    line: &WideRecord<'_>,
-    index: usize,
-    delimiter: u8,
+    piece: &Piece<'_, '_>,
+    field: Field,
 ) -> Result<Vec<u8>, AllocError>
-    ensures { IfOk result (λ copy.
-        copy.items ≡ field_at (map (exchanged delimiter) (wide_fields line.now)) index) }
+    requires { StandsIn piece.now.bytes.now field }
+    ensures { IfOk result (λ copy. copy.items
+        ≡ exchanged piece.now.layout.now.delimiter (field_text piece.now.bytes.now field)) }
 {
-    let mut copy = Vec::from_slice(alloc, field_or_none(line, index))?;
-    exchange(&mut copy, delimiter);
+    let mut copy = Vec::new(alloc);
+    push_field(&mut copy, piece.bytes, field)?;
+    exchange(&mut copy, piece.layout.delimiter.byte());
     Ok(copy)
 }
 
 /// Copies the name of a record's zone, as [`copy_field`] does a field.
 fn copy_zone(
     alloc: Global,
-    line: &WideRecord<'_>,
-    zone: &ZoneFrom,
-    delimiter: u8,
+    piece: &Piece<'_, '_>,
+    given: &Record,
 ) -> Result<Vec<u8>, AllocError>
-    ensures { IfOk result (λ copy.
-        copy.items ≡ zone_in zone.now (map (exchanged delimiter) (wide_fields line.now))) }
+    requires { IsSplit piece.now.bytes.now (wanted_by piece.now.layout.now) given.now }
+    ensures { IfOk result (λ copy. copy.items ≡ zone_in piece.now.layout.now.zone
+        (put_back piece.now.layout.now.delimiter (record_at piece.now.bytes.now given.now)).fields) }
 {
-    match zone {
-        ZoneFrom::Field(index) => copy_field(alloc, line, *index, delimiter),
+    match &piece.layout.zone {
+        ZoneFrom::Field(_) => copy_field(alloc, piece, given.zone),
         ZoneFrom::Name(name) => Vec::from_slice(alloc, name.as_bytes()),
     }
 }
@@ -87,16 +90,20 @@ fn csv_row(alloc: Global, delimiter: u8, fields: &[&[u8]]) -> Result<Vec<u8>, Al
 }
 
 /// Returns the row of a record by its fields, without local time.
-fn timeless_row(alloc: Global, layout: &Layout, entry: &Entry<'_>) -> Result<Vec<u8>, AllocError>
-    ensures { IfOk result (λ row. row.items ≡ timeless_text start.Fields layout.now
-        (put_back layout.now.delimiter (whole_of entry.now))) }
+fn timeless_row(
+    alloc: Global,
+    piece: &Piece<'_, '_>,
+    given: &Record,
+) -> Result<Vec<u8>, AllocError>
+    requires { IsSplit piece.now.bytes.now (wanted_by piece.now.layout.now) given.now }
+    ensures { IfOk result (λ row. row.items ≡ timeless_text start.Fields piece.now.layout.now
+        (put_back piece.now.layout.now.delimiter (record_at piece.now.bytes.now given.now))) }
 {
-    let delimiter = layout.delimiter.byte();
-    let name = copy_zone(alloc, &entry.fields, &layout.zone, delimiter)?;
-    let instant = copy_field(alloc, &entry.fields, layout.time, delimiter)?;
+    let name = copy_zone(alloc, piece, given)?;
+    let instant = copy_field(alloc, piece, given.time)?;
     csv_row(
         alloc,
-        delimiter,
+        piece.layout.delimiter.byte(),
         &[name.as_slice(), instant.as_slice(), b"", b"", b"", b""],
     )
 }
@@ -120,21 +127,23 @@ fn push_own(text: &mut Vec<u8>, own: &[u8], commas: &[u8], delimiter: u8) -> Res
 pub(crate) fn push_faulty(
     alloc: Global,
     text: &mut Vec<u8>,
-    layout: &Layout,
+    piece: &Piece<'_, '_>,
     kind: RowKind,
-    entry: &Entry<'_>,
+    given: &Record,
 ) -> Result<(), AllocError>
-    ensures { OnOk result (text.new.items ≡ text.old.items
-        ++ faulty_text layout.now kind (put_back layout.now.delimiter (whole_of entry.now))) }
+    requires { IsSplit piece.now.bytes.now (wanted_by piece.now.layout.now) given.now }
+    ensures { OnOk result (text.new.items ≡ text.old.items ++ faulty_text piece.now.layout.now kind
+        (put_back piece.now.layout.now.delimiter (record_at piece.now.bytes.now given.now))) }
 {
-    let delimiter = layout.delimiter.byte();
+    let delimiter = piece.layout.delimiter.byte();
+    let own = given.own.of(piece.bytes);
     if matches!(kind, RowKind::RowFields) {
-        return push_own(text, entry.text, b"", delimiter);
+        return push_own(text, own, b"", delimiter);
     }
-    match layout.start {
-        RowStart::Record => push_own(text, entry.text, b",,,,", delimiter),
+    match piece.layout.start {
+        RowStart::Record => push_own(text, own, b",,,,", delimiter),
         RowStart::Fields => {
-            let row = timeless_row(alloc, layout, entry)?;
+            let row = timeless_row(alloc, piece, given)?;
             text.extend_from_slice(&row)
         }
     }

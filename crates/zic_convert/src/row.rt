@@ -1,18 +1,30 @@
 //! The rows of records.
 
-ghost use Rattle.std.specs.Prelude.{◌≡◌, ◌+◌, ◌^◌, ◌<◌, IfOk, OnOk, List, length, map};
-ghost use Rattle.zic_columns.specs.Own.{Whole, whole_of};
-ghost use Rattle.zic_plan.specs.Layout.{HasPlainRows};
-ghost use Rattle.zic_plan.specs.declared.layout.Layout.{Layout};
-ghost use Rattle.zic_convert.specs.code.Row.{AreNext, AreRowsOf, fields_of_all, empty_rows, put_back};
+ghost use Rattle.std.specs.Prelude.{◌≡◌, ◌+◌, ◌^◌, ◌<◌, ◌≤◌, ◌++◌, ℤ, Some, None, IfOk, OnOk, MatchResult};
+ghost use Rattle.std.specs.Prelude.{ℕ, List, IfSome, length, slice_get};
+ghost use Rattle.std.specs.Bool.{Decides};
+ghost use Rattle.std.specs.Fmt.{signed_decimal};
+ghost use Rattle.zic_columns.specs.Own.{Whole};
+ghost use Rattle.zic_columns.specs.Record.{IsSplit, StandsIn, bytes_at, field_text, record_at};
+ghost use Rattle.zic_columns.specs.declared.splits.TheConstants.{BATCH};
+ghost use Rattle.zic_files.specs.Sound.{AreSoundFiles};
+ghost use Rattle.zic_rows.specs.Count.{count_of, counted_rest_text, second_of};
+ghost use Rattle.zic_rows.specs.Instant.{IsRowInstant};
+ghost use Rattle.zic_zones.specs.Zones.{AnswersAt, IsShownAt, zone_in};
+ghost use Rattle.zic_convert.specs.LayoutRows.{IsTextBy, fault_by};
+ghost use Rattle.zic_convert.specs.code.Batch.{AreColumns, IsAsked, IsPen, IsRowQuery, IsSoundQuery, records_of, wanted_by};
+ghost use Rattle.zic_convert.specs.code.Row.{AreNext, AreRowsOf, comma_start, empty_rows, put_back};
 
-use crate::faulty::{ends_run, push_faulty};
-use crate::row_files::RowFiles;
-use crate::zone_cache::ZoneCache;
+use crate::batch::Batch;
+use crate::faulty::{ends_run, push_faulty, put_back};
+use crate::piece::Piece;
+use itoa::Buffer;
 use std::alloc::{AllocError, Global};
 use std::marker::Model;
-use zic_columns::{Entries, Entry, Records};
-use zic_plan::{Layout, RowFault, RowKind};
+use zic_base::State;
+use zic_columns::{Field, Record};
+use zic_plan::{Layout, RowFault, RowKind, RowStart, Unit};
+use zic_rows::{FIRST_INSTANT, LAST_INSTANT, RowWriter, is_plain, moment_of};
 
 /// The rows of records up to the first that ends the run: their text, their number, its fault, and
 /// the faults of the rows before it.
@@ -32,86 +44,234 @@ impl Model for Rows {
     ghost view = { λ r. record { text = r.text.items; count = r.count; fault = r.fault; faults = r.faults.items } };
 }
 
-/// Returns the rows of plain records, by the files of a source. The first record is the row of this
-/// number, `most` is the greatest number that a row may have, and `room` the number of bytes for
-/// whose text memory is taken at once.
-pub(crate) fn rows_of<'a, 's>(
-    alloc: Global,
-    files: &'a RowFiles<'s>,
-    most: u64,
-    first: u64,
-    room: usize,
-    records: Records<'a>,
-) -> Result<Rows, AllocError>
-    requires { first + length records < 2 ^ 64 }
-    ensures { (layout : Layout) (wholes : List Whole) → HasPlainRows layout
-        → fields_of_all wholes ≡ records.entry
-        → IfOk result (AreRowsOf layout files.now most first wholes) }
-{
-    let mut text = Vec::with_capacity(alloc, room)?;
-    let mut cache = ZoneCache::new(files);
-    let mut count = 0;
-    for record in records {
-        match cache.query(most, first + count, record) {
-            Ok(query) => cache.push(&mut text, &query)?,
-            Err(kind) => {
-                return Ok(Rows {
-                    text,
-                    count,
-                    fault: Some(kind),
-                    faults: Vec::new(alloc),
-                });
-            }
-        }
-        count += 1;
-    }
-    Ok(Rows {
-        text,
-        count,
-        fault: None,
-        faults: Vec::new(alloc),
-    })
+/// A writer of rows, and the file and the number of the state that it shows.
+#[derive(Drop)]
+pub(crate) struct RowPen {
+    writer: RowWriter,
+    /// None before the first row.
+    file: Option<usize>,
+    state: usize,
 }
 
-/// What rows are made by: files, a layout, the number of the first, and the greatest that one may
-/// have.
+impl RowPen {
+    /// Returns a pen before the first row.
+    pub(crate) fn new() -> RowPen
+        ensures { result.file ≡ None }
+    {
+        let state = State {
+            offset: 0,
+            daylight: false,
+            name: b"",
+        };
+        RowPen {
+            writer: RowWriter::new(state),
+            file: None,
+            state: 0,
+        }
+    }
+
+    /// Shows the state of a file with this number, which the file shows at some second.
+    #[inline(always)]
+    fn show(&mut self, piece: &Piece<'_, '_>, file: usize, state: usize)
+        requires within { file < length piece.now.zones.now }
+        requires shown { (second : ℤ) × IsShownAt piece.now.zones.now file second state }
+        requires pen { IsPen piece.now.zones.now self.old }
+        ensures shows { (second : ℤ) → IsShownAt piece.now.zones.now file second state
+            → AnswersAt piece.now.zones.now file second self.new.writer }
+        ensures pen { IsPen piece.now.zones.now self.new }
+    {
+        if self.file == Some(file) && self.state == state {
+            return;
+        }
+        piece.zones.show(&mut self.writer, file, state);
+        self.file = Some(file);
+        self.state = state;
+    }
+}
+
+/// What a record asks for: its zone's file and its count, where they are there, and the number of the
+/// state that the file shows at the whole second of the count.
 #[derive(Clone, Copy, Drop)]
-pub(crate) struct RowOrder<'a, 's> {
-    pub(crate) files: &'a RowFiles<'s>,
-    pub(crate) layout: &'a Layout,
-    pub(crate) most: u64,
-    pub(crate) first: u64,
+struct Asked {
+    file: Option<usize>,
+    count: Option<i128>,
+    state: usize,
+}
+
+/// A file, and a count that a row may have.
+#[derive(Clone, Copy, Drop)]
+struct RowQuery {
+    file: usize,
+    count: i128,
+}
+
+/// Returns whether a row may have the whole second of a count.
+#[inline(always)]
+fn is_in_range(count: i128, unit: Unit) -> bool
+    ensures { Decides result (IsRowInstant (second_of unit count)) }
+{
+    let second = moment_of(count, unit).second;
+    i128::from(FIRST_INSTANT) <= second && second <= i128::from(LAST_INSTANT)
+}
+
+/// Returns what the row of a record is to show. The record is the row of this number.
+///
+/// # Errors
+///
+/// The first fault of the row: a number above the greatest, another number of fields, a name that no
+/// file has, no count, or a count that no row may have.
+#[inline(always)]
+fn query(
+    piece: &Piece<'_, '_>,
+    number: u64,
+    given: &Record,
+    asked: &Asked,
+) -> Result<RowQuery, RowKind>
+    requires split { IsSplit piece.now.bytes.now (wanted_by piece.now.layout.now) given.now }
+    requires asked { IsAsked piece.now given.now asked.now }
+    ensures { MatchResult result (IsSoundQuery piece.now number given.now asked.now)
+        (λ kind. fault_by piece.now.layout.now piece.now.zones.now piece.now.most number
+        (record_at piece.now.bytes.now given.now).fields ≡ Some kind) }
+{
+    if piece.most < number {
+        return Err(RowKind::TooManyRows);
+    }
+    if !piece.layout.count.admits(given.count) {
+        return Err(RowKind::RowFields);
+    }
+    let Some(file) = asked.file else {
+        return Err(RowKind::RowZone);
+    };
+    let Some(count) = asked.count else {
+        return Err(RowKind::RowInstant);
+    };
+    if !is_in_range(count, piece.layout.unit) {
+        return Err(RowKind::RowRange);
+    }
+    Ok(RowQuery { file, count })
+}
+
+/// Appends a count: the field that has it, where that is in plain decimals, or else its decimals.
+#[inline(always)]
+fn push_count(
+    text: &mut Vec<u8>,
+    piece: &Piece<'_, '_>,
+    given: &Record,
+    count: i128,
+) -> Result<(), AllocError>
+    requires stands { StandsIn piece.now.bytes.now given.now.time }
+    requires count { count_of piece.now.layout.now.unit
+        (field_text piece.now.bytes.now given.now.time) ≡ Some count }
+    ensures { OnOk result (text.new.items ≡ text.old.items ++ signed_decimal count) }
+{
+    if let (Field::Plain(span), Unit::Second) = (given.time, piece.layout.unit) {
+        let field = span.of(piece.bytes);
+        if is_plain(field) {
+            return text.extend_from_slice(field);
+        }
+    }
+    text.extend_from_slice(Buffer::new().format(count).as_bytes())
+}
+
+/// Appends what the row of a record begins with, with commas.
+#[inline(always)]
+fn push_start(
+    text: &mut Vec<u8>,
+    piece: &Piece<'_, '_>,
+    given: &Record,
+    query: RowQuery,
+) -> Result<(), AllocError>
+    requires split { IsSplit piece.now.bytes.now (wanted_by piece.now.layout.now) given.now }
+    requires query { IsRowQuery piece.now given.now query }
+    ensures { OnOk result (text.new.items ≡ text.old.items ++ comma_start
+        piece.now.layout.now.start (bytes_at piece.now.bytes.now given.now.own)
+        (zone_in piece.now.layout.now.zone (record_at piece.now.bytes.now given.now).fields)
+        query.count) }
+{
+    match piece.layout.start {
+        RowStart::Record => text.extend_from_slice(given.own.of(piece.bytes)),
+        RowStart::Fields => {
+            text.extend_from_slice(piece.zones.name(query.file))?;
+            text.push(b',')?;
+            push_count(text, piece, given, query.count)
+        }
+    }
 }
 
 impl Rows {
+    /// Returns no rows, with room for the text of some.
+    pub(crate) fn new(alloc: Global, room: usize) -> Result<Rows, AllocError>
+        ensures { IfOk result (λ rows. rows ≡ empty_rows) }
+    {
+        Ok(Rows {
+            text: Vec::with_capacity(alloc, room)?,
+            count: 0,
+            fault: None,
+            faults: Vec::new(alloc),
+        })
+    }
+
+    /// Appends the text of the row of a record. Where memory runs out, a part of the row may be there.
+    #[inline(always)]
+    fn push(
+        &mut self,
+        piece: &Piece<'_, '_>,
+        given: &Record,
+        query: RowQuery,
+        pen: &mut RowPen,
+    ) -> Result<(), AllocError>
+        requires split { IsSplit piece.now.bytes.now (wanted_by piece.now.layout.now) given.now }
+        requires query { IsRowQuery piece.now given.now query }
+        requires answers { AnswersAt piece.now.zones.now query.file
+            (second_of piece.now.layout.now.unit query.count) pen.old.writer }
+        ensures pen { pen.new.writer ≡ pen.old.writer }
+        ensures kept { (pen.new.file ≡ pen.old.file) × (pen.new.state ≡ pen.old.state) }
+        ensures rest { (self.new.count ≡ self.old.count) × (self.new.fault ≡ self.old.fault)
+            × (self.new.faults ≡ self.old.faults) }
+        ensures text { OnOk result ((row : List ℕ) × (self.new.text ≡ self.old.text ++ row)
+            × IsTextBy piece.now.layout.now piece.now.zones.now (put_back
+            piece.now.layout.now.delimiter (record_at piece.now.bytes.now given.now)) row) }
+    {
+        let start = self.text.len();
+        push_start(&mut self.text, piece, given, query)?;
+        let unit = piece.layout.unit;
+        pen.writer
+            .push_counted_rest(&mut self.text, query.count, unit)?;
+        put_back(&mut self.text, start, piece.layout.delimiter.byte());
+        Ok(())
+    }
+
     /// Adds the row of a record, or the fault that ends the run there. The record has the delimiter
     /// and the comma in each other's place.
-    fn add<'a>(
+    fn add(
         &mut self,
         alloc: Global,
-        cache: &mut ZoneCache<'a, '_>,
-        order: &RowOrder<'a, '_>,
-        entry: Entry<'a>,
+        piece: &Piece<'_, '_>,
+        given: &Record,
+        asked: &Asked,
+        pen: &mut RowPen,
     ) -> Result<(), AllocError>
-        requires files { cache.old.files ≡ order.now.files.now }
-        requires fits { order.now.first + self.old.count + 1 < 2 ^ 64 }
-        ensures files { cache.new.files ≡ cache.old.files }
-        ensures next { OnOk result (AreNext order.now.layout.now order.now.files.now order.now.most
-            (order.now.first + self.old.count)
-            (put_back order.now.layout.now.delimiter (whole_of entry.entry)) self.old self.new) }
+        requires split { IsSplit piece.now.bytes.now (wanted_by piece.now.layout.now) given.now }
+        requires asked { IsAsked piece.now given.now asked.now }
+        requires fits { piece.now.first + self.old.count + 1 < 2 ^ 64 }
+        requires pen { IsPen piece.now.zones.now pen.old }
+        ensures pen { IsPen piece.now.zones.now pen.new }
+        ensures next { OnOk result (AreNext piece.now.layout.now piece.now.zones.now piece.now.most
+            (piece.now.first + self.old.count) (put_back piece.now.layout.now.delimiter
+            (record_at piece.now.bytes.now given.now)) self.old self.new) }
     {
-        // No name of a file and no instant has a byte that can stand between fields.
-        order.files.are_sound();
-        prove!(order.layout.delimiter.byte() <= u8::MAX);
-        let number = order.first + self.count;
-        match cache.query_by(order.layout, order.most, number, entry.fields) {
-            Ok(query) => cache.push_by(&mut self.text, &query, entry.text, order.layout)?,
-            Err(kind) if ends_run(order.layout.at_fault, kind) => {
+        let number = piece.first + self.count;
+        match query(piece, number, given, asked) {
+            Ok(query) => {
+                pen.show(piece, query.file, asked.state);
+                self.push(piece, given, query, pen)?;
+            }
+            Err(kind) if ends_run(piece.layout.at_fault, kind) => {
                 self.fault = Some(kind);
                 return Ok(());
             }
             Err(kind) => {
-                push_faulty(alloc, &mut self.text, order.layout, kind, &entry)?;
+                push_faulty(alloc, &mut self.text, piece, kind, given)?;
                 self.faults.push(RowFault { row: number, kind })?;
             }
         }
@@ -119,51 +279,39 @@ impl Rows {
         Ok(())
     }
 
-    /// Adds the rows of records to none, up to the first that ends the run. The records have the
-    /// delimiter and the comma in each other's place.
-    fn add_all<'a>(
+    /// Adds the rows of the first `count` records of a batch, up to the first that ends the run. The
+    /// records have the delimiter and the comma in each other's place.
+    pub(crate) fn add_all(
         &mut self,
         alloc: Global,
-        cache: &mut ZoneCache<'a, '_>,
-        order: &RowOrder<'a, '_>,
-        entries: Entries<'a>,
+        piece: &Piece<'_, '_>,
+        batch: &Batch,
+        count: usize,
+        pen: &mut RowPen,
     ) -> Result<(), AllocError>
-        requires none { self.old ≡ empty_rows }
-        requires files { cache.old.files ≡ order.now.files.now }
-        requires fits { order.now.first + length entries < 2 ^ 64 }
-        ensures { OnOk result (AreRowsOf order.now.layout.now order.now.files.now order.now.most
-            order.now.first (map (put_back order.now.layout.now.delimiter) entries.entry)
-            self.new) }
+        requires columns { AreColumns piece.now batch.now count }
+        requires goes_on { self.old.fault ≡ None }
+        requires fits { piece.now.first + self.old.count + count < 2 ^ 64 }
+        requires pen { IsPen piece.now.zones.now pen.old }
+        ensures pen { IsPen piece.now.zones.now pen.new }
+        ensures rows { (before : List Whole) → AreRowsOf piece.now.layout.now piece.now.zones.now
+            piece.now.most piece.now.first before self.old → OnOk result (AreRowsOf
+            piece.now.layout.now piece.now.zones.now piece.now.most piece.now.first
+            (before ++ records_of piece.now batch.now count) self.new) }
+        ensures count { OnOk result
+            (self.new.fault ≡ None → self.new.count ≡ self.old.count + count) }
     {
-        for entry in entries {
-            self.add(alloc, cache, order, entry)?;
+        for i in 0..count {
+            let asked = Asked {
+                file: batch.zones[i],
+                count: batch.counts[i],
+                state: batch.states[i],
+            };
+            self.add(alloc, piece, &batch.records[i], &asked, pen)?;
             if self.fault.is_some() {
                 return Ok(());
             }
         }
         Ok(())
     }
-}
-
-/// Returns the rows of records, which have the delimiter and the comma in each other's place.
-/// `room` is the number of bytes for whose text memory is taken at once.
-pub(crate) fn rows_by<'a, 's>(
-    alloc: Global,
-    order: &RowOrder<'a, 's>,
-    room: usize,
-    entries: Entries<'a>,
-) -> Result<Rows, AllocError>
-    requires { order.now.first + length entries < 2 ^ 64 }
-    ensures { IfOk result (AreRowsOf order.now.layout.now order.now.files.now order.now.most
-        order.now.first (map (put_back order.now.layout.now.delimiter) entries.entry)) }
-{
-    let mut rows = Rows {
-        text: Vec::with_capacity(alloc, room)?,
-        count: 0,
-        fault: None,
-        faults: Vec::new(alloc),
-    };
-    let mut cache = ZoneCache::new(order.files);
-    rows.add_all(alloc, &mut cache, order, entries)?;
-    Ok(rows)
 }

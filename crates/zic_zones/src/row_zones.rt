@@ -57,6 +57,15 @@ impl<'a> RowZones<'a> {
         self.files.find(name)
     }
 
+    /// Returns the name of a file, by its number.
+    #[inline(always)]
+    pub fn name(&self, file: usize) -> &'a [u8]
+        requires { file < length self.now }
+        ensures { IfSome (slice_get self.now file) (λ f. result.now ≡ f.name) }
+    {
+        self.files.name(file)
+    }
+
     /// Returns the number of the state that a file shows at an instant, and the instants round it at
     /// which it shows the same.
     pub fn span(&self, file: usize, instant: i64) -> RowSpan

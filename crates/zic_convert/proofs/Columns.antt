@@ -1,0 +1,94 @@
+-- Columns of a batch, each filled by those before it.
+use Rattle.std.proofs.Common.{◌≡◌, ◌≢◌, ◌+◌, ◌<◌, ◌≤◌, ◌==◌, ◌∙◌, ℕ, suc, ℤ, List, [], ◌∷◌, ◌++◌, length, map, take, Option, Some, None, inl, inr, ap, ap₂, arith, refl, subst, sym, length-take-le}
+use Rattle.std.specs.Prelude.{All, IfSome, bytes_eq, option_map, slice_get, slice_index_or}
+use Rattle.std.proofs.Math.ListN.{set}
+use Rattle.std.proofs.lemmas.Bool.{cases_Bool, cond_both, eqb-false, eqb-true}
+use Rattle.std.proofs.lemmas.List.{get_or-map, get_or-set_other, get_or-set_same, get_or-take, length-map, map-append, take_more, take_more_set}
+use Rattle.zic_columns.specs.Record.{IsSplit, field_text, record_at}
+use Rattle.zic_columns.specs.declared.fields.Field.TheVariants.{Plain}
+use Rattle.zic_columns.specs.declared.fields.Record.{Record}
+use Rattle.zic_columns.specs.declared.fields.Span.{Span}
+use Rattle.zic_columns.specs.declared.fields.Wanted.{Wanted}
+use Rattle.zic_files.specs.File.{File}
+use Rattle.zic_rows.specs.Count.{count_of}
+use Rattle.zic_base.specs.State.{Shown}
+use Rattle.zic_posix.specs.Instants.{Includes}
+use Rattle.zic_rows.specs.Count.{second_of}
+use Rattle.zic_tzif.specs.Answer.{Answers, AnswersThroughout}
+use Rattle.zic_tzif.specs.States.{IsStateOfNumber}
+use Rattle.zic_zones.specs.Zones.{ShowsThroughout, number_of, zone_in}
+use Rattle.zic_zones.specs.declared.row_zones.RowSpan.{RowSpan}
+use Rattle.zic_convert.specs.code.Batch.{AreStates, IsFile, IsStateFor, count_at, wanted_by, zone_at}
+use Rattle.zic_convert.specs.declared.piece.Piece.{Piece}
+
+-- a record of no bytes
+abbrev pub blank : Record
+blank = record { own = nowhere; count = 0; zone = Plain nowhere; time = Plain nowhere } where
+  nowhere : Span
+  nowhere = record { start = 0; end = 0 }
+
+-- a column that is filled one place further
+pub filled : {A B : Type 0} (f : A → B) (a : List A) (b : List B) (i : ℕ) (d : A) (v : B) → i < length a → i < length b
+    → take i b ≡ map f (take i a) → v ≡ f (slice_index_or a i d) → take (i + 1) (set b i v) ≡ map f (take (i + 1) a)
+filled {A} {B} f a b i d v lt lt' so is =
+    take_more_set b i v lt'
+    ∙ ap₂ (λ (xs : List B) (x : B). xs ++ x ∷ []) so is
+    ∙ sym (ap (map f) (take_more a i d lt) ∙ map-append f (take i a) (slice_index_or a i d ∷ []))
+
+-- one of the first elements, all of which are so
+pub one_of : {A : Type 0} (P : A → Type 0) (xs : List A) (count i : ℕ) (d : A) → count ≤ length xs → i < count → All P (take count xs) → P (slice_index_or xs i d)
+one_of P xs count i d few lt all =
+    let within : i < length (take count xs) = omega (arith, length-take-le count xs few, lt) in
+    subst P (get_or-take count xs i d lt) (all i d within)
+
+-- and of what a column is by another
+pub one_told : {A B : Type 0} (f : A → B) (a : List A) (b : List B) (count i : ℕ) (d : A) (e : B) → count ≤ length a → i < count → take count b ≡ map f (take count a)
+    → slice_index_or b i e ≡ f (slice_index_or a i d)
+one_told {A} {B} f a b count i d e few lt are =
+    let within : i < length (take count a) = omega (arith, length-take-le count a few, lt) in
+    sym (get_or-take count b i e lt) ∙ ap (λ (l : List B). slice_index_or l i e) are ∙ get_or-map f (take count a) i d e within ∙ ap f (get_or-take count a i d lt)
+
+-- the states of one record more
+pub states_filled : (piece : Piece) (i : ℕ) (zones : List (Option ℕ)) (counts : List (Option ℤ)) (states : List ℕ) (v : ℕ) → i < length states
+    → AreStates piece i zones counts states → IsStateFor piece (slice_index_or zones i None) (slice_index_or counts i None) v → AreStates piece (i + 1) zones counts (set states i v)
+states_filled piece i zones counts states v within are is = λ j lt. elim (cases_Bool (j == i)) [
+  | inl same ↦
+      let e = eqb-true j i same in
+      let at = subst (λ (k : ℕ). slice_index_or (set states i v) k 0 ≡ v) (sym e) (get_or-set_same states i v 0 within) in
+      rw (at, e) is
+  | inr other ↦
+      let ne = eqb-false j i other in
+      let before : j < i = omega (arith, lt, ne) in
+      rw (get_or-set_other states i j v 0 ne) (are j before)
+]
+
+-- the field of a record's instant has its count
+pub count_told : (piece : Piece) (given : Record) → IsSplit piece.bytes.now (wanted_by piece.layout.now) given
+    → count_of piece.layout.now.unit (field_text piece.bytes.now given.time) ≡ count_at piece given
+count_told piece given is = ap (count_of piece.layout.now.unit) is.time
+
+-- a number that a name has is that of a file
+pub number_within : (files : List File) (name : List ℕ) → IfSome (number_of files name) (λ n. n < length files)
+number_within [] name = tt
+number_within (file ∷ files) name = cond_both (bytes_eq file.name name) (Some 0) (option_map (λ n. suc n) (number_of files name)) (λ (o : Option ℕ). IfSome o (λ n. n < suc (length files)))
+    (λ _. omega arith) (λ _. next (number_of files name) (number_within files name))
+  where
+    next : (o : Option ℕ) → IfSome o (λ n. n < length files) → IfSome (option_map (λ n. suc n) o) (λ n. n < suc (length files))
+    next None is = tt
+    next (Some n) is = omega (arith, is)
+
+-- the numbers of records' zones are those of files
+pub all_files : (piece : Piece) (records : List Record) (zones : List (Option ℕ)) → zones ≡ map (zone_at piece) records → All (IsFile piece) zones
+all_files piece records zones are k d lt =
+    let within : k < length records = omega (arith, lt, ap length are, length-map records (zone_at piece)) in
+    let at : slice_index_or zones k d ≡ zone_at piece (slice_index_or records k blank) = ap (λ (l : List (Option ℕ)). slice_index_or l k d) are ∙ get_or-map (zone_at piece) records k blank d within in
+    rw at (number_within piece.zones.now (zone_in piece.layout.now.zone (record_at piece.bytes.now (slice_index_or records k blank)).fields))
+
+-- the state of a span is that of each of its instants
+pub state_told : (piece : Piece) (n : ℕ) (c : ℤ) (second : ℤ) (span : RowSpan) → second ≡ second_of piece.layout.now.unit c → Includes span.instants second
+    → ShowsThroughout piece.zones.now n span.instants span.number → IsStateFor piece (Some n) (Some c) span.number
+state_told piece n c second span is within shows may = by_file (slice_get piece.zones.now n) shows where
+  by_file : (o : Option File) → IfSome o (λ f. (state : Shown) × IsStateOfNumber f.image.content span.number state × AnswersThroughout f.image.content span.instants (Some state))
+      → IfSome o (λ f. (state : Shown) × IsStateOfNumber f.image.content span.number state × Answers f.image.content (second_of piece.layout.now.unit c) (Some state))
+  by_file None shows = tt
+  by_file (Some file) (state, of, answers) = (state, of, subst (λ (t : ℤ). Answers file.image.content t (Some state)) is (answers second within))

@@ -1,0 +1,64 @@
+//! A piece of a round, and the rows of its records.
+
+ghost use Rattle.std.specs.Prelude.{◌≡◌, ◌+◌, ◌^◌, ◌<◌, ◌≤◌, [], List, IfOk, OnOk, length};
+ghost use Rattle.zic_columns.specs.Own.{Whole, whole_records};
+ghost use Rattle.zic_convert.specs.code.Batch.{wanted_by};
+ghost use Rattle.zic_convert.specs.code.Row.{AreRowsOf, wholes_in};
+
+use crate::batch::Batch;
+use crate::row::{RowPen, Rows};
+use std::alloc::{AllocError, Global};
+use zic_columns::{Splitter, Wanted};
+use zic_plan::{Layout, ZoneFrom};
+use zic_zones::RowZones;
+
+/// A piece of a round, and what the rows of its records are made by.
+#[derive(Clone, Copy, Drop)]
+pub(crate) struct Piece<'a, 's> {
+    pub(crate) bytes: &'a [u8],
+    pub(crate) zones: &'a RowZones<'s>,
+    pub(crate) layout: &'a Layout,
+    /// The number of the first row.
+    pub(crate) first: u64,
+    /// The greatest number that a row may have.
+    pub(crate) most: u64,
+}
+
+/// Returns which fields of a record rows need by a layout.
+fn wanted_by(layout: &Layout) -> Wanted
+    ensures { result ≡ wanted_by layout.now }
+{
+    let zone = match &layout.zone {
+        ZoneFrom::Field(index) => Some(*index),
+        ZoneFrom::Name(_) => None,
+    };
+    Wanted {
+        zone,
+        time: layout.time,
+    }
+}
+
+/// Returns the rows of a piece, up to the first that ends the run: batch by batch, the fields of its
+/// records, their zones, their counts, the states of these, and then the text. `room` is the number
+/// of bytes for whose text memory is taken at once.
+pub(crate) fn rows_of_piece(
+    alloc: Global,
+    piece: &Piece<'_, '_>,
+    room: usize,
+) -> Result<Rows, AllocError>
+    requires { piece.now.first + length piece.now.bytes.now + 1 < 2 ^ 64 }
+    ensures { IfOk result (AreRowsOf piece.now.layout.now piece.now.zones.now piece.now.most
+        piece.now.first (wholes_in piece.now.layout.now.delimiter piece.now.bytes.now)) }
+{
+    let mut rows = Rows::new(alloc, room)?;
+    let mut pen = RowPen::new();
+    let mut batch = Batch::new();
+    let mut splitter = Splitter::new(piece.bytes, wanted_by(piece.layout));
+    let mut count = splitter.fill(&mut batch.records);
+    while 0 < count && rows.fault.is_none() {
+        batch.fill(alloc, piece, count)?;
+        rows.add_all(alloc, piece, &batch, count, &mut pen)?;
+        count = splitter.fill(&mut batch.records);
+    }
+    Ok(rows)
+}
