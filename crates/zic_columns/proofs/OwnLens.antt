@@ -41,7 +41,7 @@ unfolding own_from
 own_nil = refl
 
 -- a record that begins is read as a field that begins
-starts : (byte : ℕ) (bytes : List ℕ) → ends_line byte ≡ false → own_texts (byte ∷ bytes) ≡ own_from default_config st.StartField [] (byte ∷ bytes)
+pub starts : (byte : ℕ) (bytes : List ℕ) → ends_line byte ≡ false → own_texts (byte ∷ bytes) ≡ own_from default_config st.StartField [] (byte ∷ bytes)
 unfolding own_from
 starts byte bytes within = rw within refl
 
@@ -51,7 +51,7 @@ from_start (byte ∷ bytes) more begins = starts byte (bytes ++ more) begins.beg
 
 -- ---- by the machine
 
-in_end : (s : State) → in_record s ≡ true → ends_at_end s ≡ true
+pub in_end : (s : State) → in_record s ≡ true → ends_at_end s ≡ true
 in_end st.StartRecord is = absurd (cc is)
 in_end st.StartField is = refl
 in_end st.InField is = refl
@@ -66,28 +66,28 @@ one_more : (s : State) (byte : ℕ) (own : List ℕ) → in_record s ≡ true �
 one_more s byte own is goes = rw (in_end (step default_config s byte).0 (stays s byte is goes)) refl
 
 -- one byte, by what it does
-next_ends : (s : State) (byte : ℕ) (fields : List (List ℕ)) (field bytes : List ℕ) → is_end (step default_config s byte).1 ≡ true
+pub next_ends : (s : State) (byte : ℕ) (fields : List (List ℕ)) (field bytes : List ℕ) → is_end (step default_config s byte).1 ≡ true
     → next_record default_config s fields field (byte ∷ bytes) ≡ took (fields_after (step default_config s byte).1 fields field) (step default_config s byte).0 bytes
 unfolding next_record
 next_ends s byte fields field bytes ends = rw ends refl
 
-next_goes : (s : State) (byte : ℕ) (fields : List (List ℕ)) (field bytes : List ℕ) → is_end (step default_config s byte).1 ≡ false
+pub next_goes : (s : State) (byte : ℕ) (fields : List (List ℕ)) (field bytes : List ℕ) → is_end (step default_config s byte).1 ≡ false
     → next_record default_config s fields field (byte ∷ bytes)
     ≡ next_record default_config (step default_config s byte).0 (fields_after (step default_config s byte).1 fields field) (field_after (step default_config s byte).1 byte field) bytes
 unfolding next_record
 next_goes s byte fields field bytes goes = rw goes refl
 
-own_then : (s : State) (byte : ℕ) (own bytes : List ℕ) → is_end (step default_config s byte).1 ≡ true
+pub own_then : (s : State) (byte : ℕ) (own bytes : List ℕ) → is_end (step default_config s byte).1 ≡ true
     → own_from default_config s own (byte ∷ bytes) ≡ own ∷ own_from default_config (step default_config s byte).0 [] bytes
 unfolding own_from
 own_then s byte own bytes ends = rw ends refl
 
-own_more : (s : State) (byte : ℕ) (own bytes : List ℕ) → in_record s ≡ true → is_end (step default_config s byte).1 ≡ false
+pub own_more : (s : State) (byte : ℕ) (own bytes : List ℕ) → in_record s ≡ true → is_end (step default_config s byte).1 ≡ false
     → own_from default_config s own (byte ∷ bytes) ≡ own_from default_config (step default_config s byte).0 (own ++ byte ∷ []) bytes
 unfolding own_from
 own_more s byte own bytes is goes = rw (goes, one_more s byte own is goes) refl
 
-own_last : (s : State) (own : List ℕ) → in_record s ≡ true → own_from default_config s own [] ≡ own ∷ []
+pub own_last : (s : State) (own : List ℕ) → in_record s ≡ true → own_from default_config s own [] ≡ own ∷ []
 unfolding own_from
 own_last s own is = rw (in_end s is) refl
 
@@ -111,7 +111,7 @@ field_line byte = cond_both (byte == 44) (st.StartField, act.EndField) (cond (en
     (λ _ no. absurd (cc no))
     (λ _. cond_both (ends_with term.CRLF byte) (after_end term.CRLF byte, act.EndRecord) (st.InField, act.Copy) (EndsLine byte) (λ yes _. yes) (λ _ no. absurd (cc no)))
 
-line_ends : (s : State) (byte : ℕ) → in_record s ≡ true → EndsLine byte (step default_config s byte)
+pub line_ends : (s : State) (byte : ℕ) → in_record s ≡ true → EndsLine byte (step default_config s byte)
 line_ends st.StartRecord byte is = absurd (cc is)
 line_ends st.StartField byte is = cond_both (byte == 34) (st.InQuoted, act.Skip) (in_field default_config byte) (EndsLine byte) (λ _ no. absurd (cc no)) (λ _. field_line byte)
 line_ends st.InField byte is = field_line byte
