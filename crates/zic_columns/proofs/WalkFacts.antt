@@ -39,9 +39,6 @@ comma_ends byte is = subst (λ (b : ℕ). ends_field b ≡ true) (sym is) refl
 pub line_end_ends : (byte : ℕ) → ends_line byte ≡ true → ends_field byte ≡ true
 line_end_ends byte ends = or_right (byte == 44) (ends_line byte) ends
 
-pub end_near : (bytes : List ℕ) (at stop : ℕ) → IsFirst (Passes ends_field bytes) at (length bytes) (Some stop) → IsFieldEnd bytes at stop
-end_near bytes at stop found = record { low = found.0.low; high = omega (arith, found.0.high); before = found.0.before; ends = inr found.1 }
-
 or_three : (a b c : Bool) → (a || b || c) ≡ (a || (b || c))
 or_three true b c = refl
 or_three false true c = refl
