@@ -185,12 +185,6 @@ own_unended s own fields all field (byte ∷ a) t is reads =
     ∙ ap (λ (b : List ℕ). b ∷ []) (append_assoc own (byte ∷ []) a))
     (cases_Bool (is_end to.1))
 
-place_in : (p : Place) → in_record (state_at p) ≡ true
-place_in place.Start = refl
-place_in place.Plain = refl
-place_in place.Quoted = refl
-place_in place.QuoteSeen = refl
-
 -- a letter after the bytes of a record is read with it
 letter_last : (p : Place) (fields : List (List ℕ)) (field : List ℕ) → (all : List (List ℕ)) × (next_record default_config (state_at p) fields field (97 ∷ []) ≡ took all st.StartRecord [])
 unfolding next_record
