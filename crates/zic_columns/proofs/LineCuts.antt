@@ -1,15 +1,15 @@
 -- Lines and their records.
-use Rattle.std.proofs.Common.{◌≡◌, ◌⊎◌, ℕ, ◌+◌, ◌<◌, true, false, All, List, [], ◌∷◌, ◌++◌, map, filter, length, take, drop, get_or, slice_index, Some, None, inl, inr, refl, sym, ap, ◌∙◌, arith, append_assoc, length-append, ⊎_elim, zero, suc}
+use Rattle.std.proofs.Common.{◌≡◌, ℕ, ◌+◌, ◌<◌, true, false, All, List, [], ◌∷◌, ◌++◌, map, filter, length, take, drop, get_or, slice_index, Some, None, refl, sym, ap, ◌∙◌, arith, length-append, zero, suc}
 use Rattle.std.proofs.lemmas.Bool.{both_ways}
-use Rattle.std.proofs.lemmas.List.{append-nil, get_or-take, get_or_push, length-drop, length-take-le, take-append-drop}
+use Rattle.std.proofs.lemmas.List.{get_or-take, get_or_push, length-take-le, take-append-drop}
 use Rattle.std.proofs.lemmas.List.Elements.{All-head, All-tail}
 use Rattle.std.proofs.lemmas.List.Splits.{slice_split_at, slice_split_none}
-use Rattle.memchr.specs.Find.{IsFirstByte, IsLastByte}
+use Rattle.memchr.specs.Find.{IsLastByte}
 use Rattle.zic_columns.specs.Column.{ends_line, fields_of, has_byte, plain_records}
 use Rattle.zic_columns.specs.code.Line.{AreWholeLines}
 use Rattle.zic_columns.specs.code.Cut.{AreCutAfterLines}
-use Rattle.zic_columns.proofs.FoundBytes.{at_first, none_after, none_before, none_within}
-use Rattle.zic_columns.proofs.LineFacts.{plain_records-end, plain_records-nil, plain_records_join}
+use Rattle.zic_columns.proofs.FoundBytes.{none_after, none_within}
+use Rattle.zic_columns.proofs.LineFacts.{plain_records-end}
 
 -- line ends make no record
 pub ends_skipped : (skipped rest : List ℕ) → All (λ byte. ends_line byte ≡ true) skipped → plain_records (skipped ++ rest) ≡ plain_records rest

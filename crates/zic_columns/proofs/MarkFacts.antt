@@ -28,15 +28,6 @@ unmarked (a ∷ []) is = refl
 unmarked (a ∷ b ∷ []) is = refl
 unmarked (a ∷ b ∷ c ∷ rest) is = cond-false (is_bom a b c) rest (a ∷ b ∷ c ∷ rest) (sym (same_tests (a == 0xEF) (b == 0xBB) (c == 0xBF)) ∙ is)
 
--- without a mark there are no more bytes
-pub no_longer : (bytes : List ℕ) → length (strip_bom bytes) ≤ length bytes
-unfolding strip_bom
-no_longer [] = omega arith
-no_longer (a ∷ []) = omega arith
-no_longer (a ∷ b ∷ []) = omega arith
-no_longer (a ∷ b ∷ c ∷ rest) =
-    cond_both (is_bom a b c) rest (a ∷ b ∷ c ∷ rest) (λ bytes. length bytes ≤ length (a ∷ b ∷ c ∷ rest)) (λ _. omega arith) (λ _. omega arith)
-
 pub mark_shown : (bytes rest : List ℕ) → 3 ≤ length bytes → strip_bom (bytes ++ rest) ≡ strip_bom bytes ++ rest
 unfolding strip_bom
 mark_shown [] rest le = absurd (omega arith)
@@ -47,10 +38,3 @@ mark_shown (a ∷ b ∷ c ∷ bytes) rest le = cond_over (is_bom a b c) bytes (a
     cond_over : (test : Bool) (xs ys zs : List ℕ) → cond test (xs ++ zs) (ys ++ zs) ≡ cond test xs ys ++ zs
     cond_over true xs ys zs = refl
     cond_over false xs ys zs = refl
-
--- a line feed is no mark
-pub feed_kept : (bytes : List ℕ) → strip_bom (10 ∷ bytes) ≡ 10 ∷ bytes
-unfolding strip_bom
-feed_kept [] = refl
-feed_kept (b ∷ []) = refl
-feed_kept (b ∷ c ∷ rest) = refl

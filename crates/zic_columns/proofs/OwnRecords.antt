@@ -1,9 +1,9 @@
 -- The own bytes of a record, by themselves, are that record alone.
-use Rattle.std.proofs.Common.{◌≡◌, ◌+◌, ◌-◌, ◌<◌, ℕ, zero, suc, true, false, All, List, [], ◌∷◌, ◌++◌, length, map, refl, sym, ap, ◌∙◌, subst, ⊎_elim, append_assoc, arith}
+use Rattle.std.proofs.Common.{◌≡◌, ◌+◌, ◌<◌, ℕ, zero, suc, true, false, All, List, [], ◌∷◌, ◌++◌, length, map, refl, sym, ap, ◌∙◌, subst, ⊎_elim, append_assoc, arith}
 use Rattle.std.proofs.lemmas.Bool.{both_ways, cases_Bool}
 use Rattle.std.proofs.lemmas.List.{append-nil}
 use Rattle.std.proofs.lemmas.List.Elements.{All-cons, All-nil}
-use Rattle.csv.specs.Machine.{ends_at_end, field_after, fields_after, is_end, next_record, step}
+use Rattle.csv.specs.Machine.{field_after, fields_after, is_end, next_record, step}
 use Rattle.csv.specs.Reading.{default_config}
 use Rattle.csv.specs.declared.parser.Action.{Action}
 use Rattle.csv.specs.declared.parser.Action.TheVariants as act
@@ -16,7 +16,7 @@ use Rattle.zic_columns.proofs.CutLaw.{in_record, stays}
 use Rattle.zic_columns.proofs.MachineFacts as Machine
 use Rattle.zic_columns.proofs.OwnFacts.{own_before, took}
 use Rattle.zic_columns.proofs.OwnLens.{in_end, line_ends, next_ends, next_goes, own_end, own_last, own_more, own_nil, own_then, starts}
-use Rattle.zic_columns.proofs.SomeRecords.{Leaves, are_read, column_records-end, column_records-nil, leaves, only}
+use Rattle.zic_columns.proofs.SomeRecords.{Leaves, are_read, column_records-end, leaves, only}
 use Rattle.zic_columns.proofs.StepFacts.{records-cons, records-nil}
 
 -- ---- the rest of a record

@@ -1,8 +1,8 @@
 -- The next record of a piece.
-use Rattle.std.proofs.Common.{◌≡◌, ◌+◌, ◌-◌, ◌<◌, ◌≤◌, ℕ, List, [], ◌∷◌, ◌++◌, length, map, take, drop, sym, ap, ◌∙◌, subst, append_assoc, arith}
+use Rattle.std.proofs.Common.{◌≡◌, ◌-◌, ◌<◌, ℕ, List, [], ◌∷◌, ◌++◌, length, map, take, drop, sym, ap, ◌∙◌, subst, append_assoc, arith}
 use Rattle.std.proofs.lemmas.List.{drop_at, length-append, take-append-drop}
 use Rattle.zic_columns.specs.Own.{Whole, own_texts, whole_records}
-use Rattle.zic_columns.specs.Record.{bytes_at, record_at, whole_of}
+use Rattle.zic_columns.specs.Record.{record_at, whole_of}
 use Rattle.zic_columns.specs.code.Line.{IsAfterLineEnds}
 use Rattle.zic_columns.specs.code.Machine.{BeginsRecord}
 use Rattle.zic_columns.specs.code.Walk.{IsRecordFrom}

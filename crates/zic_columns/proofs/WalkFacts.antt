@@ -1,9 +1,8 @@
 -- A record of a piece, field by field.
-use Rattle.std.proofs.Common.{◌≡◌, ◌≢◌, ◌⊎◌, ℕ, ◌+◌, ◌-◌, ◌<◌, ◌≤◌, ◌==◌, ◌||◌, Bool, true, false, All, List, [], ◌∷◌, ◌++◌, length, take, drop, get_or, slice_range, Option, Some, None, inl, inr, refl, sym, ap, ap₂, subst, ◌∙◌, ⊎_elim, arith, append_assoc}
-use Rattle.std.specs.Prelude.{slice_index_or}
-use Rattle.std.proofs.Math.ListN.{get_or-append, get_or-eq_default}
-use Rattle.std.proofs.lemmas.Bool.{cases_lt, or_right}
-use Rattle.std.proofs.lemmas.List.{append-nil, drop-drop, get_or-drop, get_or_push, length-append, length-drop, take_all, take_more}
+use Rattle.std.proofs.Common.{◌≡◌, ◌≢◌, ◌⊎◌, ℕ, ◌+◌, ◌-◌, ◌<◌, ◌≤◌, ◌==◌, ◌||◌, Bool, true, false, List, [], ◌∷◌, ◌++◌, length, take, drop, get_or, slice_range, Option, Some, None, inl, inr, refl, sym, ap, ap₂, subst, ◌∙◌, ⊎_elim, arith, append_assoc}
+use Rattle.std.proofs.Math.ListN.{get_or-eq_default}
+use Rattle.std.proofs.lemmas.Bool.{or_right}
+use Rattle.std.proofs.lemmas.List.{append-nil, drop-drop, get_or-drop, length-drop, take_all, take_more}
 use Rattle.csv.specs.Machine.{next_record}
 use Rattle.csv.specs.Reading.{default_config}
 use Rattle.csv.specs.declared.parser.State.{State}
@@ -11,7 +10,7 @@ use Rattle.csv.specs.declared.parser.State.TheVariants as st
 use Rattle.memchr.specs.Find.{IsFirst, IsFirstByte, Nowhere, Passes, is_byte3}
 use Rattle.zic_columns.specs.Column.{HasNoQuote, column_records, ends_line}
 use Rattle.zic_columns.specs.Own.{own_texts}
-use Rattle.zic_columns.specs.Record.{IsSplit, StandsIn, bytes_at, field_text, first_fields, record_at, text_alone, wanted_text}
+use Rattle.zic_columns.specs.Record.{IsSplit, StandsIn, bytes_at, field_text, first_fields, record_at, wanted_text}
 use Rattle.zic_columns.specs.code.Block.{ends_field}
 use Rattle.zic_columns.specs.code.Field.{EndsField, IsField, IsFieldAt, Spells}
 use Rattle.zic_columns.specs.code.Machine.{BeginsRecord, EndsWith, IsEndOfRecord, ReadsTo, state_at}
@@ -21,7 +20,6 @@ use Rattle.zic_columns.specs.declared.fields.Field.{Field}
 use Rattle.zic_columns.specs.declared.fields.Field.TheVariants.{Plain, Quoted}
 use Rattle.zic_columns.specs.declared.fields.Record.{Record}
 use Rattle.zic_columns.specs.declared.fields.Wanted.{Wanted}
-use Rattle.zic_columns.specs.declared.machine.Place.{Place}
 use Rattle.zic_columns.specs.declared.machine.Place.TheVariants as place
 use Rattle.zic_columns.specs.declared.walk.FoundField.{FoundField}
 use Rattle.zic_columns.proofs.FieldFacts.{ends_record, first_read, outside, plain_spells, quoted_spells, spells_read}
@@ -40,9 +38,6 @@ comma_ends byte is = subst (λ (b : ℕ). ends_field b ≡ true) (sym is) refl
 
 pub line_end_ends : (byte : ℕ) → ends_line byte ≡ true → ends_field byte ≡ true
 line_end_ends byte ends = or_right (byte == 44) (ends_line byte) ends
-
-pub end_near : (bytes : List ℕ) (at stop : ℕ) → IsFirst (Passes ends_field bytes) at (length bytes) (Some stop) → IsFieldEnd bytes at stop
-end_near bytes at stop found = record { low = found.0.low; high = omega (arith, found.0.high); before = found.0.before; ends = inr found.1 }
 
 or_three : (a b c : Bool) → (a || b || c) ≡ (a || (b || c))
 or_three true b c = refl

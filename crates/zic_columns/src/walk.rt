@@ -5,6 +5,7 @@ ghost use Rattle.memchr.specs.Find.{IsFirst, Passes};
 ghost use Rattle.zic_columns.specs.Record.{StandsIn, field_text};
 ghost use Rattle.zic_columns.specs.code.Field.{IsFieldAt};
 ghost use Rattle.zic_columns.specs.code.Machine.{BeginsRecord, IsEndOfRecord, ReadsTo, state_at};
+ghost use Rattle.zic_columns.specs.code.Own.{IsOwnLen};
 ghost use Rattle.zic_columns.specs.code.Walk.{HasFields, IsFieldEnd, IsQuoteAt, IsRecordFrom};
 ghost use Rattle.zic_columns.specs.declared.machine.Place.TheVariants as place;
 
@@ -152,6 +153,20 @@ pub(crate) fn split_record(piece: &[u8], start: usize, wanted: Wanted) -> Record
     }
 }
 
+/// Returns the number of the own bytes of the record at the start of the bytes.
+pub(crate) fn own_len(bytes: &[u8]) -> usize
+    requires { BeginsRecord bytes.now }
+    ensures own { IsOwnLen bytes.now result }
+    ensures ended { result < length bytes.now
+        → IsEndOfRecord (state_at place.Start) bytes.now (result + 1) }
+{
+    let none = Wanted {
+        zone: None,
+        time: usize::MAX,
+    };
+    split_record(bytes, 0, none).own.end
+}
+
 /// Returns the number of bytes up to the end of a record and with its line end, as [`record_end`]
 /// does at the start of a record.
 ///
@@ -163,13 +178,9 @@ pub(crate) fn whole_record_end(bytes: &[u8]) -> Result<usize, Place>
     ensures { MatchResult result (IsEndOfRecord (state_at place.Start) bytes.now)
         (λ next. ReadsTo (state_at place.Start) bytes.now (state_at next)) }
 {
-    let none = Wanted {
-        zone: None,
-        time: usize::MAX,
-    };
-    let stop = split_record(bytes, 0, none).own.end;
-    if stop == bytes.len() {
+    let len = own_len(bytes);
+    if len == bytes.len() {
         return record_end(Place::Start, bytes);
     }
-    Ok(stop + 1)
+    Ok(len + 1)
 }

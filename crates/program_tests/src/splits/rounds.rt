@@ -1,28 +1,59 @@
 //! Rounds of columns that come in reads of each length, and readers that fail.
 
+ghost use Rattle.zic_columns.specs.Record.{StandsIn};
+
 use crate::samples::{Device, count_of, expect, expect_text, must};
 use std::alloc::Global;
 use std::io::ErrorKind;
 use std::process::Abort;
-use zic_columns::{Column, Record, Round, Split};
+use zic_columns::{BATCH, Column, Field, Record, Round, Span, Splitter, Wanted, push_field};
+
+/// The fields of a record that are shown.
+const SHOWN: Wanted = Wanted {
+    zone: Some(0),
+    time: 1,
+};
 
 /// The greatest numbers of bytes that a read gives.
 const STEPS: [usize; 6] = [1, 2, 3, 5, 8, 1000];
 
-/// Adds the records of a piece to a text, each as its two fields with `=` between them, or nothing
-/// for another number of fields, and `|`. Returns their number.
-fn push_records(rt: &impl Abort, text: &mut Vec<u8>, split: &Split<'_>) -> usize {
-    let mut count = 0usize;
-    for record in split.records() {
-        count = count.wrapping_add(1);
-        if let Record::Pair { name, instant } = record {
-            must(rt, text.extend_from_slice(name));
-            must(rt, text.push(b'='));
-            must(rt, text.extend_from_slice(instant));
-        }
-        must(rt, text.push(b'|'));
+/// Adds a record of a piece to a text: its two fields with `=` between them, or nothing for another
+/// number of fields, and `|`.
+fn push_record(rt: &impl Abort, text: &mut Vec<u8>, piece: &[u8], given: Record)
+    requires zone { StandsIn piece.now given.zone }
+    requires time { StandsIn piece.now given.time }
+{
+    if given.count == 2 {
+        must(rt, push_field(text, piece, given.zone));
+        must(rt, text.push(b'='));
+        must(rt, push_field(text, piece, given.time));
     }
-    count
+    must(rt, text.push(b'|'));
+}
+
+/// Adds the records of a piece to a text, as [`push_record`] does. Returns their number.
+pub(super) fn push_records(rt: &impl Abort, text: &mut Vec<u8>, piece: &[u8]) -> usize {
+    let none = Span { start: 0, end: 0 };
+    let missing = Field::Plain(none);
+    let mut records = [Record {
+        own: none,
+        count: 0,
+        zone: missing,
+        time: missing,
+    }; BATCH];
+    let mut splitter = Splitter::new(piece, SHOWN);
+    let mut total = 0usize;
+    for _ in 0..1_000_000 {
+        let count = splitter.fill(&mut records);
+        for given in &records[..count] {
+            push_record(rt, text, piece, *given);
+        }
+        total = total.wrapping_add(count);
+        if count < BATCH {
+            break;
+        }
+    }
+    total
 }
 
 /// Adds the records of the next round to a text. Returns whether there was one, or `None` where the
@@ -38,7 +69,7 @@ fn push_round(
     if !column.turn(alloc, wanted, size).ok()? {
         return Some(false);
     }
-    if size < push_pieces(rt, alloc, text, &column.round()) {
+    if size < push_pieces(rt, text, &column.round()) {
         return None;
     }
     Some(true)
@@ -46,11 +77,10 @@ fn push_round(
 
 /// Adds the records of the pieces of a round to a text. Returns the greatest number of records of a
 /// piece.
-fn push_pieces(rt: &impl Abort, alloc: Global, text: &mut Vec<u8>, round: &Round<'_>) -> usize {
+fn push_pieces(rt: &impl Abort, text: &mut Vec<u8>, round: &Round<'_>) -> usize {
     let mut most = 0;
     for index in 0..round.len() {
-        let split = must(rt, round.split(alloc, index));
-        most = push_records(rt, text, &split).max(most);
+        most = push_records(rt, text, round.piece(index)).max(most);
     }
     most
 }

@@ -6,7 +6,7 @@ use Rattle.csv.specs.declared.parser.State.TheVariants as st
 use Rattle.zic_columns.specs.Own.{own_texts}
 use Rattle.zic_columns.specs.Record.{IsSplit, Splitting, StandsIn, bytes_at, field_text, record_at, wanted_text}
 use Rattle.zic_columns.specs.code.Block.{ends_field}
-use Rattle.zic_columns.specs.code.Machine.{BeginsRecord, IsEndOfRecord, ReadsTo}
+use Rattle.zic_columns.specs.code.Machine.{IsEndOfRecord, ReadsTo}
 use Rattle.zic_columns.specs.declared.fields.Record.{Record}
 use Rattle.zic_columns.specs.declared.fields.Wanted.{Wanted}
 use Rattle.memchr.specs.Find.{Nowhere, Passes}

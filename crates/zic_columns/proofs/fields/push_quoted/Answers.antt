@@ -1,4 +1,4 @@
-use Rattle.std.proofs.Common.{◌≡◌, ◌∙◌, ◌+◌, ◌++◌, ℕ, List, length, take, get_or, inl, inr, refl, sym, ap, subst, append_assoc, arith}
+use Rattle.std.proofs.Common.{◌≡◌, ◌∙◌, ◌+◌, ◌++◌, ℕ, List, length, take, get_or, inl, inr, sym, ap, subst, append_assoc, arith}
 use Rattle.std.proofs.lemmas.List.{append-nil, take_more}
 use Rattle.zic_columns.specs.code.Field.{Spells}
 use Rattle.zic_columns.specs.declared.machine.Place.{Place}
@@ -11,7 +11,7 @@ returns-in_default c =
     let loop = c.loop-byte.invariant in
     let after = c.after_line_ends-rest in
     let text = text_after c.args.bytes.now after.result.now loop.0 c.loop-byte.byte-index after.ensures
-        (record { within = omega arith; stands = c.loop-byte.stands; spells = loop.2; ends = inr c.in_default.ensures }) in
+    (record { within = omega arith; stands = c.loop-byte.stands; spells = loop.2; ends = inr c.in_default.ensures }) in
     loop.1 ∙ ap (λ (t : List ℕ). c.args.text.now.items ++ t) (sym text)
 
 pub loop-byte-preserved : goal.loop-byte-preserved
@@ -29,13 +29,12 @@ loop-byte-preserved c =
     let stands : read.next ≡ c.if-read.stands = elim c.if-read.branch [
       | then-read+in_ok-push w ↦ sym w.stands-is
       | else-read w ↦ sym w.stands-is
-    ] in
-    (
+    ] in (
       loop.0 ++ more,
       items ∙ ap (λ (t : List ℕ). t ++ more) loop.1 ∙ append_assoc c.args.text.now.items loop.0 more,
       subst (λ (p : Place). Spells (take (index + 1) rest) (loop.0 ++ more) p) stands
-      (subst (λ (b : List ℕ). Spells b (loop.0 ++ more) read.next) (sym (take_more rest index 0 c.loop-byte-test.true))
-      (spells_byte (take index rest) loop.0 c.loop-byte.stands byte read loop.2 c.in-Some.ensures)),
+          (subst (λ (b : List ℕ). Spells b (loop.0 ++ more) read.next) (sym (take_more rest index 0 c.loop-byte-test.true))
+          (spells_byte (take index rest) loop.0 c.loop-byte.stands byte read loop.2 c.in-Some.ensures)),
     )
 
 pub returns : goal.returns
@@ -44,5 +43,5 @@ returns c =
     let after = c.after_line_ends-rest in
     let all : c.loop-byte.byte-index ≡ length after.result.now = omega arith in
     let text = text_after c.args.bytes.now after.result.now loop.0 c.loop-byte.byte-index after.ensures
-        (record { within = omega arith; stands = c.loop-byte.stands; spells = loop.2; ends = inl all }) in
+    (record { within = omega arith; stands = c.loop-byte.stands; spells = loop.2; ends = inl all }) in
     loop.1 ∙ ap (λ (t : List ℕ). c.args.text.now.items ++ t) (sym text)

@@ -1,4 +1,4 @@
-use Rattle.std.proofs.Common.{◌≡◌, ◌⊎◌, ◌+◌, ◌-◌, ◌≤◌, ◌∙◌, true, length, take, drop, get_or, inl, inr, sym, arith}
+use Rattle.std.proofs.Common.{◌≡◌, ◌⊎◌, ◌+◌, ◌-◌, ◌≤◌, ◌∙◌, true, length, drop, get_or, inl, inr, sym, arith}
 use Rattle.std.proofs.lemmas.List.{length-drop, length-take, take_rest}
 use Rattle.zic_columns.specs.code.Block.{ends_field}
 use Rattle.zic_columns.proofs.WalkFacts.{comma_ends, line_end_ends, near_at}

@@ -1,8 +1,6 @@
-use Rattle.std.proofs.Common.{◌≡◌, ◌⊎◌, ◌∙◌, ◌<◌, ◌≤◌, ◌==◌, ◌++◌, ℕ, false, List, [], ◌∷◌, length, get_or, inl, inr, refl, ap, arith}
+use Rattle.std.proofs.Common.{◌≡◌, ◌⊎◌, ◌∙◌, ◌<◌, ◌==◌, ℕ, false, length, get_or, inl, inr, refl, ap, arith}
 use Rattle.std.proofs.lemmas.Bool.{ne_eqb}
 use Rattle.std.proofs.lemmas.List.{length-drop}
-use Rattle.zic_columns.specs.Record.{field_text}
-use Rattle.zic_columns.specs.code.Walk.{HasFields}
 use Rattle.zic_columns.specs.declared.fields.Span.{Span}
 use Rattle.zic_columns.proofs.WalkFacts.{record_out, walked_none, walked_on}
 use Rattle.zic_columns.proofs.walk.split_record.Goals.{then-found-piece-via-then-found-piece, then-found-piece-via-else-found-piece+then-piece-found-ne44}

@@ -11,7 +11,7 @@ returns-then-is_empty-clause-next c =
     let at = c.self.inside.at in
     let rest = c.after_line_ends-rest.result.now in
     let none = none_next piece rest at (rw (take_rest piece at) at c.after_line_ends-rest.ensures)
-        (nil_from_length rest (eqb-true (length rest) 0 (sym c.is_empty.ensures ∙ c.if-is_empty.true))) in
+    (nil_from_length rest (eqb-true (length rest) 0 (sym c.is_empty.ensures ∙ c.if-is_empty.true))) in
     (ap (λ (s : Splitting). s.left) (sym c.self.view_is) ∙ none.0, none.1)
 
 pub split_record-given-requires : goal.split_record-given-requires
