@@ -6,6 +6,7 @@ pub mod Cutting
 pub mod Hand
 pub mod Line
 pub mod Machine
+pub mod Mark
 pub mod Own
 pub mod Pair
 pub mod Quote
