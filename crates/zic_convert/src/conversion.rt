@@ -84,7 +84,7 @@ fn convert_rounds<T: Threads + Wait + Sync, R: Read, W: Write, G: Gate + Sync, L
     let wanted = round_len(setting.plan);
     let size = setting.plan.row_piece() as usize;
     let mut count = 0;
-    while column.turn(setting.alloc, wanted, size)? {
+    while column.next_round(setting.alloc, wanted, size)? {
         let pieces = RowPieces::new(layout, files, column.round(), count + 1, setting.plan);
         count += convert_round(setting, &pieces, writer, log)?;
     }

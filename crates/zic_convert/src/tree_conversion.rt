@@ -104,7 +104,7 @@ fn turn_learnt<T, Z: ZoneTree, R: Read>(
         (HaltsAtTurn (Z.replied tree.old) (Z.replied tree.new) files.old files.new) }
 {
     let plan = setting.plan;
-    let some = column.turn(setting.alloc, round_len(plan), plan.row_piece() as usize)?;
+    let some = column.next_round(setting.alloc, round_len(plan), plan.row_piece() as usize)?;
     let zone = &setting.layout.zone;
     learn_round(setting.alloc, files, tree, zone, &column.round())?;
     Ok(some)

@@ -17,8 +17,8 @@ loop-column-init g c = record {
       c.args.files.now;
 }
 
-pub returns-in_err-turn-clause-halt : goal.returns-in_err-turn-clause-halt
-returns-in_err-turn-clause-halt g c =
+pub returns-in_err-next_round-clause-halt : goal.returns-in_err-next_round-clause-halt
+returns-in_err-next_round-clause-halt g c =
     let l = c.loop-column in
     let p = err_from_is_err_and c.from_residual.result c.from_residual.ensures.1 in
     rw (p.1, p.2) (halts_unread g.W.Write.contents c.files_answer_once.ensures c.args.layout.now c.args.setting.now.plan.now (unread g.R.Read.remaining c.args.column.now) (unread g.R.Read.remaining l.column)
@@ -31,7 +31,7 @@ returns-in_err-count-clause-halt g c =
     let p = err_from_is_err_and c.from_residual-in_err-count.result c.from_residual-in_err-count.ensures.1 in
     rw (p.1, p.2) (halts_in_round g.W.Write.contents c.files_answer_once.ensures c.args.layout.now c.args.setting.now.plan.now (unread g.R.Read.remaining c.args.column.now) (unread g.R.Read.remaining l.column)
     l.count (g.W.Write.contents c.args.writer.now.inner) l.writer (g.L.FaultLog.noted c.args.log.now) (g.L.FaultLog.noted l.log) c.args.files.now c.are_sound.ensures l.invariant.far
-    c.turn.new.self.round (unread g.R.Read.remaining c.turn.new.self) c.in_ok-turn.ensures.takes c.convert_round.new.writer (g.L.FaultLog.noted c.convert_round.new.log)
+    c.next_round.new.self.round (unread g.R.Read.remaining c.next_round.new.self) c.in_ok-next_round.ensures.takes c.convert_round.new.writer (g.L.FaultLog.noted c.convert_round.new.log)
     (halt.Stop c.in_err-count.field-0.0) ends)
 
 pub overflow_add-count-in-loop-column : goal.overflow_add-count-in-loop-column
@@ -39,7 +39,7 @@ overflow_add-count-in-loop-column g c =
     let l = c.loop-column in
     let layout = c.args.layout.now in
     let (rows, are, wrote) = rw (c.new-pieces.ensures.pieces, c.round.ensures) at c.in_ok-count.ensures.ok in
-    let within = no_more layout c.args.files.now c.args.setting.now.plan.now.max_rows l.count (wholes_of_all layout.delimiter c.turn.new.self.round) rows are wrote.0 l.invariant.within in
+    let within = no_more layout c.args.files.now c.args.setting.now.plan.now.max_rows l.count (wholes_of_all layout.delimiter c.next_round.new.self.round) rows are wrote.0 l.invariant.within in
     let fits : l.count + c.in_ok-count.field-0 < 18446744073709551616 = omega (arith, wrote.1, within, c.row_piece-size.ensures.plan.max_rows) in
     search (rules, fits)
 
@@ -47,11 +47,11 @@ pub loop-column-smaller : goal.loop-column-smaller
 loop-column-smaller g c =
     let l = c.loop-column in
     let layout = c.args.layout.now in
-    let taken = c.turn.new.self.round in
+    let taken = c.next_round.new.self.round in
     let (rows, are, wrote) = rw (c.new-pieces.ensures.pieces, c.round.ensures) at c.in_ok-count.ensures.ok in
     let many = as_many layout c.args.files.now c.args.setting.now.plan.now.max_rows (l.count + 1) (wholes_of_all layout.delimiter taken) rows are wrote.0 in
-    let filled = some_records layout.delimiter c.row_piece-size.result taken (c.in_ok-turn.ensures.some.0 c.if-branch.true)
-    (omega (arith, c.row_piece-size.ensures.size, c.row_piece-size.ensures.plan.row_piece.0)) c.in_ok-turn.ensures.cut in
+    let filled = some_records layout.delimiter c.row_piece-size.result taken (c.in_ok-next_round.ensures.some.0 c.if-branch.true)
+    (omega (arith, c.row_piece-size.ensures.size, c.row_piece-size.ensures.plan.row_piece.0)) c.in_ok-next_round.ensures.cut in
     omega (arith, wrote.1, many, filled, l.invariant.within)
 
 pub loop-column-preserved : goal.loop-column-preserved
@@ -59,7 +59,7 @@ loop-column-preserved g c =
     let l = c.loop-column in
     let layout = c.args.layout.now in
     let plan = c.args.setting.now.plan.now in
-    let taken = c.turn.new.self.round in
+    let taken = c.next_round.new.self.round in
     let ok = rw (c.new-pieces.ensures.pieces, c.round.ensures) at c.in_ok-count.ensures.ok in
     let (rows, are, wrote) = ok in
     let within = no_more layout c.args.files.now plan.max_rows l.count (wholes_of_all layout.delimiter taken) rows are wrote.0 l.invariant.within in
@@ -68,7 +68,7 @@ loop-column-preserved g c =
       failures = wrote.2.1 ∙ l.invariant.failures;
       far = far_after_round g.W.Write.contents c.files_answer_once.ensures layout plan (unread g.R.Read.remaining c.args.column.now) (unread g.R.Read.remaining l.column)
           l.count (g.W.Write.contents c.args.writer.now.inner) l.writer (g.L.FaultLog.noted c.args.log.now) (g.L.FaultLog.noted l.log) c.args.files.now c.are_sound.ensures l.invariant.far
-          taken (unread g.R.Read.remaining c.turn.new.self) c.in_ok-turn.ensures.takes c.convert_round.new.writer (g.L.FaultLog.noted c.convert_round.new.log) c.in_ok-count.field-0 ok;
+          taken (unread g.R.Read.remaining c.next_round.new.self) c.in_ok-next_round.ensures.takes c.convert_round.new.writer (g.L.FaultLog.noted c.convert_round.new.log) c.in_ok-count.field-0 ok;
     }
 
 pub returns-in_err-flush-clause-halt : goal.returns-in_err-flush-clause-halt
@@ -84,9 +84,9 @@ returns-clause-all g c =
     let l = c.loop-column in
     let layout = c.args.layout.now in
     let left = unread g.R.Read.remaining l.column in
-    let last = unread g.R.Read.remaining c.turn.new.self in
-    let none : 0 < length c.turn.new.self.round → ⊥ = λ filled. (let yes = rw c.if-branch.false at (c.in_ok-turn.ensures.some.1 filled) in cc yes) in
-    let takes = no_piece layout.delimiter left last c.turn.new.self.round none (round_taken layout.delimiter left last c.turn.new.self.round c.in_ok-turn.ensures.takes) in
+    let last = unread g.R.Read.remaining c.next_round.new.self in
+    let none : 0 < length c.next_round.new.self.round → ⊥ = λ filled. (let yes = rw c.if-branch.false at (c.in_ok-next_round.ensures.some.1 filled) in cc yes) in
+    let takes = no_piece layout.delimiter left last c.next_round.new.self.round none (round_taken layout.delimiter left last c.next_round.new.self.round c.in_ok-next_round.ensures.takes) in
     all_done_by g.W.Write.contents c.files_answer_once.ensures layout c.args.setting.now.plan.now (unread g.R.Read.remaining c.args.column.now) left
     l.count (g.W.Write.contents c.args.writer.now.inner) l.writer (g.L.FaultLog.noted c.args.log.now) (g.L.FaultLog.noted l.log) c.args.files.now c.are_sound.ensures l.invariant.far
-    last takes (c.in_ok-turn.ensures.end c.if-branch.false) c.flush.new.writer c.in_ok-flush.ensures.ok
+    last takes (c.in_ok-next_round.ensures.end c.if-branch.false) c.flush.new.writer c.in_ok-flush.ensures.ok
