@@ -1,9 +1,11 @@
 -- The byte order mark at the start of some bytes.
-use Rattle.std.proofs.Common.{◌≡◌, ◌==◌, ◌≤◌, ◌&&◌, ℕ, Bool, true, false, List, [], ◌∷◌, ◌++◌, cond, length, take, drop, refl, sym, ◌∙◌, arith}
+use Rattle.std.proofs.Common.{◌≡◌, ◌==◌, ◌<◌, ◌≤◌, ◌&&◌, ℕ, Bool, true, false, List, [], ◌∷◌, ◌++◌, cond, length, take, drop, refl, sym, ◌∙◌, arith}
 use Rattle.std.specs.Prelude.{nat_eq}
 use Rattle.std.specs.Cmp.Lexicographic.{pointwise}
-use Rattle.std.proofs.lemmas.Bool.{and_right, both_ways, cond-true, cond-false, cond_both}
+use Rattle.std.proofs.Math.Bool.{and-true}
+use Rattle.std.proofs.lemmas.Bool.{and_left, and_right, both_ways, cond-true, cond-false, cond_both}
 use Rattle.csv.specs.Reading.{is_bom, strip_bom}
+use Rattle.zic_columns.specs.code.Mark.{ShowsMark}
 
 abbrev pub mark : List ℕ
 mark = 0xEF ∷ 0xBB ∷ 0xBF ∷ []
@@ -38,3 +40,36 @@ mark_shown (a ∷ b ∷ c ∷ bytes) rest le = cond_over (is_bom a b c) bytes (a
     cond_over : (test : Bool) (xs ys zs : List ℕ) → cond test (xs ++ zs) (ys ++ zs) ≡ cond test xs ys ++ zs
     cond_over true xs ys zs = refl
     cond_over false xs ys zs = refl
+
+-- the test whether the mark begins with bytes
+abbrev pub begins : List ℕ → Bool
+begins bytes = pointwise nat_eq bytes (take (length bytes) mark)
+
+two_tests : (x y : Bool) → (x && (y && true)) ≡ (x && y)
+two_tests false y = refl
+two_tests true false = refl
+two_tests true true = refl
+
+no_bom : (a b c : ℕ) (rest : List ℕ) → ((a == 0xEF) && (b == 0xBB)) ≡ false → strip_bom (a ∷ b ∷ c ∷ rest) ≡ a ∷ b ∷ c ∷ rest
+unfolding strip_bom
+no_bom a b c rest none = cond-false (is_bom a b c) rest (a ∷ b ∷ c ∷ rest) (and_left ((a == 0xEF) && (b == 0xBB)) (c == 0xBF) none)
+
+-- bytes that the mark does not begin with show that there is none
+pub shown : (bytes : List ℕ) → length bytes < 3 → begins bytes ≡ false → ShowsMark bytes
+unfolding strip_bom
+shown [] few not rest = absurd (cc not)
+shown (a ∷ []) few not [] = refl
+shown (a ∷ []) few not (b ∷ []) = refl
+shown (a ∷ []) few not (b ∷ c ∷ rest) = no_bom a b c rest (and_left (a == 0xEF) (b == 0xBB) (sym (and-true (a == 0xEF)) ∙ not))
+shown (a ∷ b ∷ []) few not [] = refl
+shown (a ∷ b ∷ []) few not (c ∷ rest) = no_bom a b c rest (sym (two_tests (a == 0xEF) (b == 0xBB)) ∙ not)
+shown (a ∷ b ∷ c ∷ bytes) few not rest = absurd (omega (arith, few))
+
+-- a proper beginning of the mark does not show it: the rest of the mark may follow, or not
+pub not_shown : (bytes : List ℕ) → length bytes < 3 → begins bytes ≡ true → ShowsMark bytes → ⊥
+unfolding strip_bom
+not_shown [] few is shows = cc (shows mark)
+not_shown (a ∷ []) few is shows = cc (sym (cond-true (is_bom a 0xBB 0xBF) [] (a ∷ 0xBB ∷ 0xBF ∷ []) (and-true _ ∙ is)) ∙ shows (0xBB ∷ 0xBF ∷ []))
+not_shown (a ∷ b ∷ []) few is shows =
+    cc (sym (cond-true (is_bom a b 0xBF) [] (a ∷ b ∷ 0xBF ∷ []) (and-true _ ∙ sym (two_tests (a == 0xEF) (b == 0xBB)) ∙ is)) ∙ shows (0xBF ∷ []))
+not_shown (a ∷ b ∷ c ∷ bytes) few is shows = absurd (omega (arith, few))

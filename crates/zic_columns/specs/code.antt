@@ -7,6 +7,7 @@ pub mod Field
 pub mod Hand
 pub mod Line
 pub mod Machine
+pub mod Mark
 pub mod Own
 pub mod Quote
 pub mod Range

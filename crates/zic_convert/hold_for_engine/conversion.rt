@@ -36,10 +36,10 @@ use zic_pieces::{Gate, Open};
 use zic_plan::{FaultLog, Header, Layout, Plan, RunStop, Unnoted};
 use zic_tzif::laws::files_answer_once;
 
-/// The least number of bytes of a round, if the column has them at once.
+/// The least number of bytes that a read for a round asks for.
 const SHORTEST_ROUND: u64 = 65_536;
 
-/// The greatest number of bytes that a round is read to have.
+/// The greatest number of bytes that a read for a round asks for.
 const LONGEST_ROUND: u64 = 4_194_304;
 
 /// The number of pieces that a round has for each worker, so that none waits long for the others.
@@ -48,8 +48,8 @@ const PIECES_FOR_EACH: u64 = 16;
 /// The number of bytes that a record usually has.
 const USUAL_RECORD: u64 = 48;
 
-/// Returns the number of bytes that a round is to have: some pieces for each worker, of usual
-/// records.
+/// Returns the number of bytes that a read for a round asks for, once reads give all that was asked
+/// for: some pieces for each worker, of usual records.
 pub(crate) fn round_len(plan: &Plan) -> usize {
     let usual = PIECES_FOR_EACH * plan.workers() * plan.row_piece() * USUAL_RECORD;
     usual.clamp(SHORTEST_ROUND, LONGEST_ROUND) as usize
@@ -84,7 +84,7 @@ fn convert_rounds<T: Threads + Wait + Sync, R: Read, W: Write, G: Gate + Sync, L
     let wanted = round_len(setting.plan);
     let size = setting.plan.row_piece() as usize;
     let mut count = 0;
-    while column.turn(setting.alloc, wanted, size)? {
+    while column.next_round(setting.alloc, wanted, size)? {
         let pieces = RowPieces::new(layout, files, column.round(), count + 1, setting.plan);
         count += convert_round(setting, &pieces, writer, log)?;
     }
@@ -318,12 +318,13 @@ pub(crate) fn ended<R>(
 /// `-` and 1 to 18 digits: seconds from 1970-01-01T00:00:00 UT without leap seconds, from
 /// -62,135,510,400 to 253,402,214,399.
 ///
-/// The column is read in rounds. A round is all whole records in hand, as soon as there are some
-/// pieces for each worker, or a read gives fewer than 64 KiB. The plan's workers convert the pieces
-/// of a round, which have the number of records that the plan says, and pass the gate before each.
-/// The calling thread is one of them. The rows of a round are written and flushed before the column
-/// is read on. None of this changes an answer. Where all is converted, the reader's count of bytes
-/// rose by no more than the plan allows, and the writer failed nowhere.
+/// The column is read in rounds. A round is what one read gave, together with what was in hand: all
+/// whole records of these bytes. A read asks for some pieces for each worker, once reads give all
+/// that was asked for. The plan's workers convert the pieces of a round, which have the number of
+/// records that the plan says, and pass the gate before each. The calling thread is one of them. The
+/// rows of a round are written and flushed before the column is read on. None of this changes an
+/// answer. Where all is converted, the reader's count of bytes rose by no more than the plan allows,
+/// and the writer failed nowhere.
 ///
 /// # Errors
 ///

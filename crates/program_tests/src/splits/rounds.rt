@@ -66,7 +66,7 @@ fn push_round(
     (wanted, size): (usize, usize),
 ) -> Option<bool> {
     let size = size.max(1);
-    if !column.turn(alloc, wanted, size).ok()? {
+    if !column.next_round(alloc, wanted, size).ok()? {
         return Some(false);
     }
     if size < push_pieces(rt, text, &column.round()) {
@@ -229,21 +229,43 @@ fn a_slow_reader_is_not_waited_for(rt: HostRuntime) {
     }
 }
 
-/// Returns a column of equal rows.
-fn rows_of(rt: &impl Abort, alloc: Global, count: u32) -> Vec<u8> {
+/// Returns a column of equal rows, of so many bytes and 3 more each.
+fn rows_of(rt: &impl Abort, alloc: Global, count: u32, len: usize) -> Vec<u8> {
     let mut column = Vec::new(alloc);
     for _ in 0..count {
-        must(rt, column.extend_from_slice(b"a,0\n"));
+        must(rt, column.resize(column.len().saturating_add(len), b'a'));
+        must(rt, column.extend_from_slice(b",0\n"));
     }
     column
 }
 
 #[test]
-fn a_full_read_ends_no_round(rt: HostRuntime) {
-    // A full read has 65,536 bytes, and the column has twice as many.
-    let column = rows_of(&rt, rt.alloc(), 32_768);
-    for (wanted, want) in [(131_072, 1), (65_536, 2)] {
-        expect_rounds(&rt, rt.alloc(), &column, 65_536, ((wanted, 1_024), want));
+fn a_round_is_what_one_read_gave(rt: HostRuntime) {
+    // A column of 131,072 bytes. The first read asks for 65,536 bytes, and so does each other one
+    // where no more are wanted.
+    let column = rows_of(&rt, rt.alloc(), 2_048, 61);
+    for (step, wanted, want) in [
+        (65_536, 131_072, 2),
+        (131_072, 65_536, 2),
+        (32_768, 131_072, 4),
+        (16_384, 65_536, 8),
+    ] {
+        expect_rounds(&rt, rt.alloc(), &column, step, ((wanted, 1_024), want));
+    }
+}
+
+#[test]
+fn reads_that_are_full_ask_for_more(rt: HostRuntime) {
+    // A column of 1 MiB, in reads of 64 KiB, 256 KiB and 1 MiB, as far as these are wanted.
+    let column = rows_of(&rt, rt.alloc(), 1_024, 1_021);
+    for (wanted, want) in [(1_048_576, 3), (262_144, 5), (65_536, 16)] {
+        expect_rounds(
+            &rt,
+            rt.alloc(),
+            &column,
+            1_048_576,
+            ((wanted, 65_536), want),
+        );
     }
 }
 
@@ -358,14 +380,27 @@ fn no_read_is_made_in_vain(rt: HostRuntime) {
             expect_few_reads(&rt, rt.alloc(), *column, step);
         }
     }
-    for (step, want) in [(1, 3), (2, 2), (3, 1), (1000, 1)] {
-        expect_first_reads(&rt, rt.alloc(), step, want);
+    for (column, step, want) in &FIRST_READS {
+        expect_first_reads(&rt, rt.alloc(), *column, *step, *want);
     }
 }
 
+/// Columns, the lengths of their reads, and the number of reads that show whether there is a mark.
+static FIRST_READS: [(&[u8], usize, usize); 9] = [
+    (b"0\n", 2, 1),
+    (b"a,0\nb,1\n", 1, 1),
+    (b"\xEF,0\n", 1, 2),
+    (b"\xEF\xBB,0\n", 1, 3),
+    (b"\xEF\xBB,0\n", 2, 2),
+    (b"\xEF\xBB\xBFa,0\n", 1, 3),
+    (b"\xEF\xBB\xBFa,0\n", 2, 2),
+    (b"\xEF\xBB\xBFa,0\n", 3, 1),
+    (b"\xEF\xBB\xBF", 3, 1),
+];
+
 /// Ends the test where a column in reads of this length isn't begun, or in another number of reads.
-fn expect_first_reads(rt: &impl Abort, alloc: Global, step: usize, want: usize) {
-    let mut device = Device::new(b"a,0\nb,1\n", step, Ok(()));
+fn expect_first_reads(rt: &impl Abort, alloc: Global, column: &[u8], step: usize, want: usize) {
+    let mut device = Device::new(column, step, Ok(()));
     let begun = Column::new(alloc, &mut device, 100).is_ok();
     expect(rt, begun && device.reads() == want, "the first reads");
 }

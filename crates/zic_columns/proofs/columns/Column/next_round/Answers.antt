@@ -4,7 +4,7 @@ use Rattle.zic_columns.specs.Round.{ColumnOf, unread}
 use Rattle.zic_columns.specs.code.Hand.{to_come}
 use Rattle.zic_columns.proofs.Cuts.{none_from, pieces_cut}
 use Rattle.zic_columns.proofs.Taking.{none_left, takes_cut, takes_next}
-use Rattle.zic_columns.proofs.columns.Column.turn.Goals as goal
+use Rattle.zic_columns.proofs.columns.Column.next_round.Goals as goal
 
 pub returns-clause-takes : goal.returns-clause-takes
 returns-clause-takes g c =
