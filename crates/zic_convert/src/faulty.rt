@@ -13,8 +13,9 @@ ghost use Rattle.zic_convert.specs.code.Row.{put_back};
 use crate::query::field_or_none;
 use csv::WriterBuilder;
 use std::alloc::{AllocError, Global};
+use zic_base::RowKind;
 use zic_columns::{Entry, WideRecord, exchange};
-use zic_plan::{AtFault, Layout, RowKind, RowStart, ZoneFrom};
+use zic_plan::{AtFault, Layout, RowStart, ZoneFrom};
 
 /// Returns whether a fault ends the run.
 pub(crate) fn ends_run(at_fault: AtFault, kind: RowKind) -> bool

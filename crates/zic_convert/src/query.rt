@@ -6,8 +6,9 @@ ghost use Rattle.zic_rows.specs.Count.{second_of};
 ghost use Rattle.zic_rows.specs.Instant.{IsRowInstant};
 ghost use Rattle.zic_convert.specs.code.Query.{IsAsked, IsCounted, IsFaultOfCount, IsFaultOfField};
 
+use zic_base::RowKind;
 use zic_columns::WideRecord;
-use zic_plan::{RowKind, Unit};
+use zic_plan::Unit;
 use zic_rows::{FIRST_INSTANT, LAST_INSTANT, moment_of, parse_count, parse_instant};
 
 /// The query of a record: local time of the zone of a name, at an instant that a row may have. The

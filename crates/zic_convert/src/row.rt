@@ -11,8 +11,9 @@ use crate::row_files::RowFiles;
 use crate::zone_cache::ZoneCache;
 use std::alloc::{AllocError, Global};
 use std::marker::Model;
+use zic_base::{RowFault, RowKind};
 use zic_columns::{Entries, Entry, Records};
-use zic_plan::{Layout, RowFault, RowKind};
+use zic_plan::Layout;
 
 /// The rows of records up to the first that ends the run: their text, their number, its fault, and
 /// the faults of the rows before it.

@@ -27,13 +27,14 @@ use std::alloc::Global;
 use std::io::{Read, Write};
 use std::sync::Wait;
 use std::thread::Threads;
+use zic_base::{FaultLog, RunStop};
 use zic_columns::laws::{records_are_exchanged, texts_are_exchanged};
 use zic_columns::{Column, Exchanged, Round};
 use zic_counted::Counted;
 use zic_files::laws::files_stay;
 use zic_files::{Files, TreeFiles, ZoneTree};
 use zic_pieces::Open;
-use zic_plan::{FaultLog, Layout, Plan, RunStop};
+use zic_plan::{Layout, Plan};
 use zic_tzif::laws::files_answer_once;
 
 /// What a column is converted with, but for its files: threads, memory, how work is shared and how

@@ -15,9 +15,8 @@ use crate::row_files::RowFiles;
 pub(crate) use counted::zone_name;
 use std::alloc::AllocError;
 use std::marker::Model;
-use zic_base::State;
+use zic_base::{RowKind, State};
 use zic_columns::Record;
-use zic_plan::RowKind;
 use zic_rows::{RowWriter, is_plain};
 use zic_tzif::{Answer, Instants};
 

@@ -12,8 +12,9 @@ use super::ZoneCache;
 use crate::faulty::put_back;
 use crate::query::{CountQuery, field_or_none, row_count};
 use std::alloc::AllocError;
+use zic_base::RowKind;
 use zic_columns::WideRecord;
-use zic_plan::{Layout, RowKind, RowStart, ZoneFrom};
+use zic_plan::{Layout, RowStart, ZoneFrom};
 use zic_rows::moment_of;
 
 /// Returns the name of a record's zone.

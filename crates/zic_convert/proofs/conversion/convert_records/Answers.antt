@@ -1,7 +1,7 @@
 use Rattle.std.proofs.Common.{refl}
 use Rattle.std.proofs.lemmas.Result.{err_from_is_err_and}
 use Rattle.zic_columns.specs.Round.{unread}
-use Rattle.zic_plan.specs.declared.stop.RunStop.TheVariants as stop
+use Rattle.zic_base.specs.declared.run_stop.RunStop.TheVariants as stop
 use Rattle.zic_convert.specs.declared.halt.Halt.TheVariants as halt
 use Rattle.zic_convert.proofs.Heads.{cause_at_head, converts_records, halts_at_head, halts_in_records}
 use Rattle.zic_convert.proofs.Joining.{on_err, on_ok}

@@ -1,7 +1,7 @@
 use Rattle.std.proofs.Common.{◌+◌, ◌∙◌, ℕ, List, ap, ap₂, refl, sym}
 use Rattle.zic_columns.specs.Exchange.{exchanged}
 use Rattle.zic_columns.specs.Wide.{wide_fields}
-use Rattle.zic_plan.specs.declared.stop.RowFault.{RowFault}
+use Rattle.zic_base.specs.declared.row_fault.RowFault.{RowFault}
 use Rattle.zic_convert.specs.code.Row.{RowsOf}
 use Rattle.zic_convert.proofs.Delimited.{fault_same, outside, text_same}
 use Rattle.zic_convert.proofs.NextRows.{next_end, next_faulty, next_row}

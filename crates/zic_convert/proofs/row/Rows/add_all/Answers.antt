@@ -1,7 +1,7 @@
 use Rattle.std.proofs.Common.{◌≡◌, ◌∙◌, Option, Some, None, ap, arith, length, map, refl, subst, sym}
 use Rattle.std.specs.Prelude.{IsSome}
 use Rattle.std.proofs.lemmas.List.{length-map}
-use Rattle.zic_plan.specs.declared.stop.RowKind.{RowKind}
+use Rattle.zic_base.specs.declared.row_fault.RowKind.{RowKind}
 use Rattle.zic_convert.specs.code.Row.{AreRowsOf, RowsOf, put_back}
 use Rattle.zic_convert.proofs.SoFar.{all_made, made_so_far, next_ends, next_more, none_made}
 use Rattle.zic_convert.proofs.row.Rows.add_all.Goals as goal
