@@ -1,4 +1,3 @@
 pub mod Plan
-pub mod Word
 pub mod Delimiter
 pub mod Layout

@@ -5,9 +5,7 @@
 mod delimiter;
 mod layout;
 mod plan;
-mod word;
 
 pub use delimiter::Delimiter;
 pub use layout::{AtFault, FieldCount, Header, Layout, RowStart, Unit, ZoneFrom};
 pub use plan::{MAX_BYTES, MAX_OF_PIECE, MAX_ROWS, MAX_WORKERS, Plan};
-pub use word::{STANDARD_INPUT, parse_instant_word};
