@@ -7,10 +7,10 @@ use crate::pieces::room_for;
 use crate::row::rows_of;
 use crate::row_files::RowFiles;
 use std::alloc::{AllocError, Global};
+use zic_base::RowKind;
 use zic_columns::Split;
 use zic_columns::laws::column_records_are_read;
 use zic_files::Files;
-use zic_plan::RowKind;
 
 /// The rows of a column up to the first that has a fault: their text, their number, and that fault.
 #[derive(Drop)]

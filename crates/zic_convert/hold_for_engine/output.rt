@@ -14,8 +14,9 @@ use crate::log::note_all;
 use crate::row::Rows;
 use std::alloc::AllocError;
 use std::io::Write;
+use zic_base::{FaultLog, RowKind, RunStop};
 use zic_counted::{Counted, WriteFailed};
-use zic_plan::{FaultLog, Layout, RowKind, RowStart, RunStop};
+use zic_plan::{Layout, RowStart};
 
 /// The names of the fields that a row adds to its record.
 const ADDED_NAMES: &[u8; 35] = b",local,offset,daylight,abbreviation";

@@ -6,7 +6,7 @@ use Rattle.std.proofs.lemmas.List.{map-append, take-append-drop, take-take, get_
 use Rattle.zic_columns.specs.Own.{Whole}
 use Rattle.zic_files.specs.File.{File}
 use Rattle.zic_plan.specs.declared.layout.Layout.{Layout}
-use Rattle.zic_plan.specs.declared.stop.RowKind.{RowKind}
+use Rattle.zic_base.specs.declared.row_fault.RowKind.{RowKind}
 use Rattle.zic_convert.specs.LayoutRows.{ends_by}
 use Rattle.zic_convert.specs.code.Row.{AreNext, AreRowsOf, RowsOf}
 use Rattle.zic_convert.proofs.Coming.{one_fault, one_more}

@@ -29,7 +29,7 @@ use Rattle.zic_plan.specs.declared.layout.RowStart.TheVariants as starts
 use Rattle.zic_plan.specs.declared.layout.Unit.{Unit}
 use Rattle.zic_plan.specs.declared.layout.ZoneFrom.{ZoneFrom}
 use Rattle.zic_plan.specs.declared.layout.ZoneFrom.TheVariants as zone
-use Rattle.zic_plan.specs.declared.stop.RowKind.{RowKind}
+use Rattle.zic_base.specs.declared.row_fault.RowKind.{RowKind}
 use Rattle.zic_rows.specs.Count.{count_of, counted_rest_text, second_of}
 use Rattle.zic_rows.specs.Instant.{decimal_value, number}
 use Rattle.zic_zones.specs.Zones.{AnswersAt, field_at, is_named, zone_in}

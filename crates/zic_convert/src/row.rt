@@ -21,9 +21,9 @@ use crate::piece::Piece;
 use itoa::Buffer;
 use std::alloc::{AllocError, Global};
 use std::marker::Model;
-use zic_base::State;
+use zic_base::{RowFault, RowKind, State};
 use zic_columns::{Field, Record};
-use zic_plan::{Layout, RowFault, RowKind, RowStart, Unit};
+use zic_plan::{Layout, RowStart, Unit};
 use zic_rows::{FIRST_INSTANT, LAST_INSTANT, RowWriter, is_plain, moment_of};
 
 /// The rows of records up to the first that ends the run: their text, their number, its fault, and

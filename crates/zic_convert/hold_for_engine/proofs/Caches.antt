@@ -3,7 +3,7 @@ use Rattle.std.proofs.Common.{◌≡◌, ◌≤◌, ◌∙◌, ℕ, ℤ, List, �
 use Rattle.std.specs.Result.{IsErrAnd, MatchResult}
 use Rattle.zic_base.specs.State.{Shown}
 use Rattle.zic_files.specs.File.{File}
-use Rattle.zic_plan.specs.declared.stop.RowKind.{RowKind}
+use Rattle.zic_base.specs.declared.row_fault.RowKind.{RowKind}
 use Rattle.zic_rows.specs.Row.{IsRowState}
 use Rattle.zic_tzif.specs.Content.{Content}
 use Rattle.zic_tzif.specs.Answer.{Answers}

@@ -13,8 +13,8 @@ use Rattle.zic_plan.specs.Layout.{has_count}
 use Rattle.zic_plan.specs.declared.layout.Layout.{Layout}
 use Rattle.zic_plan.specs.declared.layout.RowStart.{RowStart}
 use Rattle.zic_plan.specs.declared.layout.RowStart.TheVariants as starts
-use Rattle.zic_plan.specs.declared.stop.RowKind.{RowKind}
-use Rattle.zic_plan.specs.declared.stop.RowKind.TheVariants as kind
+use Rattle.zic_base.specs.declared.row_fault.RowKind.{RowKind}
+use Rattle.zic_base.specs.declared.row_fault.RowKind.TheVariants as kind
 use Rattle.zic_rows.specs.Count.{count_of, second_of}
 use Rattle.zic_rows.specs.declared.limit.TheConstants.{FIRST_INSTANT, LAST_INSTANT}
 use Rattle.zic_tzif.specs.Answer.{Answers}

@@ -13,9 +13,9 @@ use Rattle.zic_files.specs.File.{File}
 use Rattle.zic_plan.specs.Delimiter.{is_delimiter}
 use Rattle.zic_plan.specs.Layout.{records_before}
 use Rattle.zic_plan.specs.declared.layout.Layout.{Layout}
-use Rattle.zic_plan.specs.declared.stop.RowFault.{RowFault}
-use Rattle.zic_plan.specs.declared.stop.RunStop.{RunStop}
-use Rattle.zic_plan.specs.declared.stop.RunStop.TheVariants as stop
+use Rattle.zic_base.specs.declared.row_fault.RowFault.{RowFault}
+use Rattle.zic_base.specs.declared.run_stop.RunStop.{RunStop}
+use Rattle.zic_base.specs.declared.run_stop.RunStop.TheVariants as stop
 use Rattle.zic_convert.specs.Column.{ConvertsBy, header_of, header_text, own_header}
 use Rattle.zic_convert.specs.Convert.{WritesAllOf, WritesPartOf}
 use Rattle.zic_convert.specs.LayoutRows.{faults_by}

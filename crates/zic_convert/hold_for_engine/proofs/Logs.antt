@@ -6,8 +6,8 @@ use Rattle.zic_columns.specs.Own.{Whole}
 use Rattle.zic_columns.specs.Round.{HasNoRecord}
 use Rattle.zic_files.specs.File.{File}
 use Rattle.zic_plan.specs.declared.layout.Layout.{Layout}
-use Rattle.zic_plan.specs.declared.stop.RowFault.{RowFault}
-use Rattle.zic_plan.specs.declared.stop.RowKind.{RowKind}
+use Rattle.zic_base.specs.declared.row_fault.RowFault.{RowFault}
+use Rattle.zic_base.specs.declared.row_fault.RowKind.{RowKind}
 use Rattle.zic_convert.specs.LayoutRows.{faults_by}
 use Rattle.zic_convert.specs.Log.{Notes, NotesPart}
 use Rattle.zic_convert.specs.code.Progress.{ComeNext, IsSoFar}

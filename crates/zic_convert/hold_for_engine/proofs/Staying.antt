@@ -11,9 +11,9 @@ use Rattle.zic_files.specs.Laws.{FilesStay}
 use Rattle.zic_files.specs.Tree.{AreFilesOfReplies, IsSettled, Reply}
 use Rattle.zic_plan.specs.Layout.{has_count}
 use Rattle.zic_plan.specs.declared.layout.Layout.{Layout}
-use Rattle.zic_plan.specs.declared.stop.RowFault.{RowFault}
-use Rattle.zic_plan.specs.declared.stop.RowKind.{RowKind}
-use Rattle.zic_plan.specs.declared.stop.RowKind.TheVariants as kind
+use Rattle.zic_base.specs.declared.row_fault.RowFault.{RowFault}
+use Rattle.zic_base.specs.declared.row_fault.RowKind.{RowKind}
+use Rattle.zic_base.specs.declared.row_fault.RowKind.TheVariants as kind
 use Rattle.zic_rows.specs.Count.{second_of}
 use Rattle.zic_convert.specs.Rows.{is_named, is_row_instant}
 use Rattle.zic_convert.specs.LayoutRows.{ComeToBy, IsRowAt, IsTextBy, count_in, ending, ends_by, fault_by, faults_by, noted, zone_in}

@@ -13,7 +13,7 @@ use Rattle.zic_columns.specs.Exchange.{exchanged}
 use Rattle.zic_columns.specs.Own.{Whole}
 use Rattle.zic_files.specs.File.{File}
 use Rattle.zic_plan.specs.declared.layout.Layout.{Layout}
-use Rattle.zic_plan.specs.declared.stop.RowKind.{RowKind}
+use Rattle.zic_base.specs.declared.row_fault.RowKind.{RowKind}
 use Rattle.zic_convert.specs.Rows.{is_named, is_row_instant}
 use Rattle.zic_convert.specs.LayoutRows.{ComeToBy, IsRowAt, IsRowBy, IsTextBy, count_in, ends_by, fault_by, faulty_text, start_text, zone_in}
 use Rattle.zic_convert.specs.code.Row.{AreRowsOf, RowsOf}

@@ -4,9 +4,9 @@ use Rattle.std.specs.Prelude.{ℕ, List, ◌++◌, Option, IfSome}
 use Rattle.zic_files.specs.File.{File}
 use Rattle.zic_files.specs.Tree.{AreAsked, AreFilesOfReplies, Gains, IsLearntFrom, Learnt, Reply}
 use Rattle.zic_plan.specs.declared.layout.Layout.{Layout}
-use Rattle.zic_plan.specs.declared.stop.RowFault.{RowFault}
-use Rattle.zic_plan.specs.declared.stop.RunStop.{RunStop}
-use Rattle.zic_plan.specs.declared.stop.RunStop.TheVariants as stop
+use Rattle.zic_base.specs.declared.row_fault.RowFault.{RowFault}
+use Rattle.zic_base.specs.declared.run_stop.RunStop.{RunStop}
+use Rattle.zic_base.specs.declared.run_stop.RunStop.TheVariants as stop
 use Rattle.zic_convert.specs.Column.{ConvertsBy, header_text}
 use Rattle.zic_convert.specs.Convert.{WritesAllOf, WritesAtOf}
 use Rattle.zic_convert.specs.Log.{NotesAll, NotesUntil}

@@ -4,9 +4,9 @@ use Rattle.zic_counted.specs.Counts.{Counts, HasFailedSince, greatest}
 use Rattle.zic_files.specs.File.{File}
 use Rattle.zic_files.specs.Tree.{Learnt, Reply}
 use Rattle.zic_plan.specs.declared.layout.Layout.{Layout}
-use Rattle.zic_plan.specs.declared.stop.RowFault.{RowFault}
-use Rattle.zic_plan.specs.declared.stop.RunStop.{RunStop}
-use Rattle.zic_plan.specs.declared.stop.RunStop.TheVariants as stop
+use Rattle.zic_base.specs.declared.row_fault.RowFault.{RowFault}
+use Rattle.zic_base.specs.declared.run_stop.RunStop.{RunStop}
+use Rattle.zic_base.specs.declared.run_stop.RunStop.TheVariants as stop
 use Rattle.zic_convert.specs.Column.{ConvertsBy, header_text}
 use Rattle.zic_convert.specs.Convert.{Outcome, WritesAtOf, WritesPartOf}
 use Rattle.zic_convert.specs.Log.{AreFaultsBy, NotesAt, NotesPart}

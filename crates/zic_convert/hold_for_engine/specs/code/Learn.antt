@@ -4,7 +4,7 @@ use Rattle.zic_columns.specs.Round.{ArePiecesOf, ColumnOf, HasNoRecord, TakesRou
 use Rattle.zic_columns.specs.declared.pieces.TheConstants.{MAX_ROUND_PIECES}
 use Rattle.zic_convert.specs.declared.halt.Halt.{Halt}
 use Rattle.zic_convert.specs.declared.halt.Halt.TheVariants as halt
-use Rattle.zic_plan.specs.declared.stop.RunStop.TheVariants as stop
+use Rattle.zic_base.specs.declared.run_stop.RunStop.TheVariants as stop
 use Rattle.zic_files.specs.Tree.{AreAsked, Gains, IsLearntFrom, IsSettled, Learnt, Reply}
 
 -- more replies, the files of all replies, and that each of these names is settled by them

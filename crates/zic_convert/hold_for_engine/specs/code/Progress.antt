@@ -8,7 +8,7 @@ use Rattle.zic_columns.specs.Own.{Whole, own_texts, whole_records}
 use Rattle.zic_plan.specs.Layout.{records_before}
 use Rattle.zic_plan.specs.declared.layout.Header.{Header}
 use Rattle.zic_plan.specs.declared.layout.Layout.{Layout}
-use Rattle.zic_plan.specs.declared.stop.RowFault.{RowFault}
+use Rattle.zic_base.specs.declared.row_fault.RowFault.{RowFault}
 use Rattle.zic_files.specs.File.{File}
 use Rattle.zic_convert.specs.Column.{header_of, own_header}
 use Rattle.zic_convert.specs.LayoutRows.{ComeToBy, faults_by}

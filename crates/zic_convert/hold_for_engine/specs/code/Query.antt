@@ -1,7 +1,7 @@
 -- The query of a record.
 use Rattle.std.specs.Prelude.{◌≡◌, ℕ, ℤ, false, List, [], ◌∷◌, Some, None, IsSomeAnd}
-use Rattle.zic_plan.specs.declared.stop.RowKind.{RowKind}
-use Rattle.zic_plan.specs.declared.stop.RowKind.TheVariants as kind
+use Rattle.zic_base.specs.declared.row_fault.RowKind.{RowKind}
+use Rattle.zic_base.specs.declared.row_fault.RowKind.TheVariants as kind
 use Rattle.zic_columns.specs.declared.entry.Record.{Record}
 use Rattle.zic_columns.specs.declared.entry.Record.TheVariants.{Pair, Other}
 use Rattle.zic_rows.specs.Instant.{IsRowInstant, instant_of}

@@ -1,5 +1,5 @@
 use Rattle.std.proofs.Common.{ℕ, List, drop}
-use Rattle.zic_plan.specs.declared.stop.RowFault.{RowFault}
+use Rattle.zic_base.specs.declared.row_fault.RowFault.{RowFault}
 use Rattle.zic_convert.specs.Log.{Notes}
 use Rattle.zic_convert.specs.code.Pieces.{joined}
 use Rattle.zic_convert.specs.code.Written.{Wrote}

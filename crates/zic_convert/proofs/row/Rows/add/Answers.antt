@@ -1,6 +1,6 @@
 use Rattle.std.proofs.Common.{◌+◌, ◌∙◌, ◌++◌, ℕ, List, ap, ap₂, refl, sym}
 use Rattle.zic_columns.specs.Record.{record_at}
-use Rattle.zic_plan.specs.declared.stop.RowFault.{RowFault}
+use Rattle.zic_base.specs.declared.row_fault.RowFault.{RowFault}
 use Rattle.zic_zones.specs.Zones.{zone_in}
 use Rattle.zic_convert.specs.code.Row.{RowsOf, put_back}
 use Rattle.zic_convert.proofs.Columns.{number_within}

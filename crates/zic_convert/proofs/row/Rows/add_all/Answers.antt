@@ -2,7 +2,7 @@ use Rattle.std.proofs.Common.{◌≡◌, ◌∷◌, [], ◌++◌, ◌∙◌, ◌
 use Rattle.std.specs.Prelude.{IsSome, slice_index_or}
 use Rattle.std.proofs.lemmas.List.{map-append, take_more}
 use Rattle.zic_columns.specs.Own.{Whole}
-use Rattle.zic_plan.specs.declared.stop.RowKind.{RowKind}
+use Rattle.zic_base.specs.declared.row_fault.RowKind.{RowKind}
 use Rattle.zic_convert.specs.code.Batch.{record_of}
 use Rattle.zic_convert.specs.code.Row.{AreRowsOf, RowsOf}
 use Rattle.zic_convert.proofs.Columns.{blank}

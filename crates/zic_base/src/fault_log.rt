@@ -1,11 +1,11 @@
 //! Where the faults of rows are noted.
 
-use crate::stop::RowFault;
+use crate::row_fault::RowFault;
 
 /// Takes note of the faults of rows, in their order.
 pub trait FaultLog {
     ghost use Rattle.std.specs.Prelude.{◌≡◌, ◌++◌, [], ◌∷◌, List, Option, None, Some, IfSome};
-    ghost use Rattle.zic_plan.specs.declared.stop.RowFault.{RowFault};
+    ghost use Rattle.zic_base.specs.declared.row_fault.RowFault.{RowFault};
 
     // the faults that were noted, in order, where they are known
     ghost noted: { Self → Option (List RowFault) } = { λ _. None };

@@ -1,11 +1,8 @@
-//! Words of the command line.
+//! The word for an instant.
 
 ghost use Rattle.std.specs.Prelude.{◌≡◌, ◌↔◌, IsSome, IfSome};
 ghost use Rattle.std.specs.Str.Parse.{signed_digits_value};
-ghost use Rattle.zic_plan.specs.Word.{IsInstant};
-
-/// The word for standard input.
-pub const STANDARD_INPUT: &str = "-";
+ghost use Rattle.zic_command_line.specs.Instant.{IsInstant};
 
 /// Returns the instant that a word says, in seconds from 1970-01-01T00:00:00 UT without leap
 /// seconds, or `None` where the word isn't an optional `-` and digits, within `i64`. A `+` is

@@ -1,4 +1,4 @@
--- The words for instants.
+-- The words for instants: own choice.
 use Rattle.std.specs.Prelude.{◌≢◌, ℕ, List, slice_index, FitsSigned}
 use Rattle.std.specs.Int.{w64}
 use Rattle.std.specs.Str.Parse.{IsNumeral, without_leading_sign, signed_digits_value}
