@@ -4,3 +4,4 @@ pub mod NextRows
 pub mod RowFaults
 pub mod PutBack
 pub mod MoreRows
+pub mod PieceRows
