@@ -2,7 +2,7 @@
 use Rattle.std.proofs.Common.{◌≡◌, ◌==◌, ◌≤◌, ◌&&◌, ℕ, Bool, true, false, List, [], ◌∷◌, ◌++◌, cond, length, take, drop, refl, sym, ◌∙◌, arith}
 use Rattle.std.specs.Prelude.{nat_eq}
 use Rattle.std.specs.Cmp.Lexicographic.{pointwise}
-use Rattle.std.proofs.lemmas.Bool.{and_right, both_ways, cond-true, cond-false, cond_both}
+use Rattle.std.proofs.lemmas.Bool.{and_right, both_ways, cond-true, cond-false}
 use Rattle.csv.specs.Reading.{is_bom, strip_bom}
 
 abbrev pub mark : List ℕ
