@@ -9,6 +9,7 @@ mod limit;
 mod place;
 mod short_text;
 mod state;
+mod zone_stop;
 
 pub use byte::{are_abbreviation_bytes, is_abbreviation_byte};
 pub use digits::{clock_text, offset_text, two_digits};
@@ -17,3 +18,4 @@ pub use limit::{FARTHEST_FILE_OFFSET, LONGEST_ABBREVIATION, LONGEST_FILE, SHORTE
 pub use place::Place;
 pub use short_text::ShortText;
 pub use state::State;
+pub use zone_stop::ZoneStop;

@@ -8,7 +8,7 @@ use Rattle.zic_source.specs.Source.{SourceLines}
 use Rattle.zic_source.proofs.faults.FirstFault.{one_first_fault, source_has_no_fault}
 use Rattle.zic_source.proofs.reading.Once.{read_once}
 use Rattle.zic_source.proofs.sound.Sources.{source_is_sound}
-use Rattle.zic_rules.specs.Period.{zone_of}
+use Rattle.zic_rules.specs.Timeline.{zone_of}
 use Rattle.zic_table.specs.Image.{IsFaultOfZone}
 use Rattle.zic_table.proofs.OneFault.{one_fault}
 use Rattle.zic_table.proofs.OneImage.{images_without_fault}

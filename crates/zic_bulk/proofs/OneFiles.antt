@@ -17,7 +17,7 @@ use Rattle.zic_source.proofs.faults.Order.{before_before, not_before_itself}
 use Rattle.zic_source.proofs.reading.Once.{read_once}
 use Rattle.zic_source.proofs.sound.Sources.{source_is_sound}
 use Rattle.zic_states.proofs.Lines.{orderly}
-use Rattle.zic_rules.specs.Period.{zone_of}
+use Rattle.zic_rules.specs.Timeline.{zone_of}
 use Rattle.zic_rules.specs.Timeline.{IsWholeZone}
 use Rattle.zic_files.specs.File.{FileImage, File}
 use Rattle.zic_table.specs.Image.{IsImageOf}

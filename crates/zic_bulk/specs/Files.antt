@@ -9,7 +9,7 @@ use Rattle.zic_lines.specs.declared.link.Link.{Link}
 use Rattle.zic_source.specs.Links.{EndsAt}
 use Rattle.zic_source.specs.Source.{SourceLines, zone_at}
 use Rattle.zic_states.specs.Zone.{Zone}
-use Rattle.zic_rules.specs.Period.{zone_of}
+use Rattle.zic_rules.specs.Timeline.{zone_of}
 use Rattle.zic_files.specs.File.{FileImage, File}
 use Rattle.zic_table.specs.Image.{IsImageOf, ReadsAs, IsFaultOfZone, ImageNeedsMemory}
 

@@ -9,7 +9,7 @@ use Rattle.zic_source.specs.Source.{SourceLines, ZoneLines, zone_at, lines_of_zo
 use Rattle.zic_base.proofs.Elements.{got}
 use Rattle.zic_states.specs.Fault.{IsSound}
 use Rattle.zic_states.specs.Zone.{Zone}
-use Rattle.zic_rules.specs.Period.{zone_of}
+use Rattle.zic_rules.specs.Timeline.{zone_of}
 use Rattle.zic_table.specs.Image.{IsFaultOfImage, IsFaultOfZone}
 
 -- by the line that the source gives for the zone's first

@@ -7,7 +7,7 @@ use Rattle.zic_states.specs.Fault.{HasOffsetOutOfRange, IsSound}
 use Rattle.zic_states.specs.Zone.{Zone}
 use Rattle.zic_posix.specs.Footer.{TzString}
 use Rattle.zic_footer.specs.Making.{IsMade}
-use Rattle.zic_rules.specs.Period.{IsFixed}
+use Rattle.zic_rules.specs.Timeline.{IsFixed}
 use Rattle.zic_table.specs.Image.{ImageNeedsMemory}
 
 -- once its footer is made

@@ -7,7 +7,7 @@ use Rattle.zic_states.specs.Fault.{HasOffsetOutOfRange, IsFaultOfStates, IsSound
 use Rattle.zic_states.specs.Zone.{Zone, Shows, lines_of}
 use Rattle.zic_posix.specs.Footer.{TzString}
 use Rattle.zic_footer.specs.Making.{IsMade, IsFaultOfFooter}
-use Rattle.zic_rules.specs.Period.{IsFixed}
+use Rattle.zic_rules.specs.Timeline.{IsFixed}
 use Rattle.zic_files.specs.File.{FileImage}
 use Rattle.zic_table.specs.ContentOf.{IsContentOf, IsFaultOfTable}
 use Rattle.zic_tzif.specs.Answer.{Gives}

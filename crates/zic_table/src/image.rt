@@ -3,7 +3,7 @@
 ghost use Rattle.std.specs.Prelude.{◌≡◌, ◌<◌, length, IfOk};
 ghost use Rattle.zic_base.specs.Fault.{fault_of};
 ghost use Rattle.zic_base.specs.Memory.{IfRefusal, OnOutOfMemory};
-ghost use Rattle.zic_rules.specs.Period.{zone_of};
+ghost use Rattle.zic_rules.specs.Timeline.{zone_of};
 ghost use Rattle.zic_tzif.specs.Reading.{IsFile, IsSomeFile};
 ghost use Rattle.zic_tzif.specs.Writing.{written};
 ghost use Rattle.zic_table.specs.Image.{IsImageOf, ReadsAs, IsFaultOfZone, ImageNeedsMemory};

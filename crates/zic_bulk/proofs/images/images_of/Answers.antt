@@ -2,7 +2,7 @@ use Rattle.std.proofs.Common.{arith, rules}
 use Rattle.std.proofs.lemmas.Result.{err_from_is_err_and}
 use Rattle.zic_base.specs.Fault.{fault_of}
 use Rattle.zic_base.proofs.MemoryLemmas.{on_want}
-use Rattle.zic_rules.specs.Period.{zone_of}
+use Rattle.zic_rules.specs.Timeline.{zone_of}
 use Rattle.zic_table.specs.Image.{ImageNeedsMemory}
 use Rattle.zic_bulk.specs.Files.{IsReadImage}
 use Rattle.zic_bulk.specs.code.Zones.{NeedsMemoryWithin}

@@ -4,7 +4,7 @@ use Rattle.zic_base.specs.Fault.{fault_of}
 use Rattle.zic_base.proofs.MemoryLemmas.{on_want}
 use Rattle.zic_source.specs.Sound.{IsSoundSource}
 use Rattle.zic_states.specs.Zone.{Zone}
-use Rattle.zic_rules.specs.Period.{zone_of}
+use Rattle.zic_rules.specs.Timeline.{zone_of}
 use Rattle.zic_tzif.specs.Writing.{written}
 use Rattle.zic_table.specs.Image.{IsImageOf, ReadsAs}
 use Rattle.zic_table.proofs.Faults.{fault_of_image}

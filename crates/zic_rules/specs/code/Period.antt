@@ -1,20 +1,16 @@
 -- The periods of a zone: which of its lines governs, and what its RULES keep, from an instant on up to the next.
-use Rattle.std.specs.Prelude.{◌≡◌, ◌+◌, ◌<◌, ℕ, ℤ, ◌<ℤ◌, ◌≤ℤ◌, ◌⊎◌, List, [], All, AllPairs, Option, Some, None, IfSome, IsSomeAnd, slice_get, length}
+use Rattle.std.specs.Prelude.{◌≡◌, ◌+◌, ◌<◌, ℕ, ℤ, ◌<ℤ◌, ◌≤ℤ◌, ◌⊎◌, List, All, AllPairs, Option, Some, None, IfSome, slice_get, length}
 use Rattle.std.specs.Option.{ForSome}
-use Rattle.zic_base.specs.declared.fault.Fault.{Fault}
+use Rattle.zic_base.specs.declared.fault.Kind.{Kind}
 use Rattle.zic_base.specs.declared.fault.Kind.TheVariants as kind
 use Rattle.zic_lines.specs.declared.zone_line.ZoneLine.{ZoneLine}
-use Rattle.zic_source.specs.Source.{SourceLines, lines_of_zone}
+use Rattle.zic_source.specs.Source.{lines_of_zone}
 use Rattle.zic_states.specs.Fault.{HasRulesOutOfOrder, HasUntilNotRising}
 use Rattle.zic_states.specs.Kept.{Kept, IsKeptBy, IsRuleOf}
-use Rattle.zic_states.specs.Tail.{HasNoSet}
 use Rattle.zic_states.specs.Zone.{Zone, lines_of, Governs, Keeps}
 use Rattle.zic_rules.specs.declared.period.Period.{Period}
 use Rattle.zic_rules.specs.declared.zone.Zone as zones
-
--- the zone of this number of a source
-abbrev pub zone_of : SourceLines → ℕ → Zone
-zone_of source number = record { source = source; number = number }
+use Rattle.zic_rules.specs.Timeline.{zone_of}
 
 -- a zone of the code, without where its source lies in memory
 abbrev pub the_zone : zones.Zone → Zone
@@ -39,12 +35,8 @@ pub record ArePeriods (zone : Zone) (end : ℤ) (periods : List Period) : Type 0
   pub each : (k : ℕ) (s : Period) (t : ℤ) → slice_get periods k ≡ Some s → s.from ≤ℤ t → t <ℤ end
       → IfSome (slice_get periods (k + 1)) (λ next. t <ℤ next.from) → Holds zone t s.line s.rule
 
--- The zone has one line, whose RULES name no set.
-abbrev pub IsFixed : Zone → Type 0
-IsFixed zone = IsSomeAnd (lines_of zone) (λ lines. (lines.continuations ≡ []) × HasNoSet lines.first.rules)
-
 -- why a zone has no periods: a set is out of order, or else an UNTIL doesn't rise
-pub record IsFaultOfPeriods (zone : Zone) (fault : Fault) : Type 0 where
-  pub place : IsSomeAnd (lines_of zone) (λ lines. fault.place ≡ lines.first.place)
-  pub kind : ((fault.kind ≡ kind.RulesOutOfOrder) × HasRulesOutOfOrder zone)
-      ⊎ ((fault.kind ≡ kind.UntilNotRising) × HasUntilNotRising zone × (HasRulesOutOfOrder zone → ⊥))
+abbrev pub IsFaultOfPeriods : Zone → Kind → Type 0
+IsFaultOfPeriods zone fault =
+    ((fault ≡ kind.RulesOutOfOrder) × HasRulesOutOfOrder zone)
+    ⊎ ((fault ≡ kind.UntilNotRising) × HasUntilNotRising zone × (HasRulesOutOfOrder zone → ⊥))
