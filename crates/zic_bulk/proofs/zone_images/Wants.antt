@@ -8,7 +8,7 @@ use Rattle.zic_states.specs.Zone.{Zone}
 use Rattle.zic_posix.specs.Footer.{TzString}
 use Rattle.zic_footer.specs.Making.{IsMade}
 use Rattle.zic_rules.specs.Timeline.{IsFixed}
-use Rattle.zic_table.specs.Image.{ImageNeedsMemory}
+use Rattle.zic_bulk.specs.Image.{ImageNeedsMemory}
 
 -- once its footer is made
 pub may_want : (states zone : Zone) → states ≡ zone → IsSound states → (footer : TzString) → IsMade states footer → ImageNeedsMemory zone

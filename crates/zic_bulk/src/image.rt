@@ -6,15 +6,15 @@ ghost use Rattle.zic_base.specs.Memory.{IfRefusal, OnOutOfMemory};
 ghost use Rattle.zic_rules.specs.Timeline.{zone_of};
 ghost use Rattle.zic_tzif.specs.Reading.{IsFile, IsSomeFile};
 ghost use Rattle.zic_tzif.specs.Writing.{written};
-ghost use Rattle.zic_table.specs.Image.{IsImageOf, ReadsAs, IsFaultOfZone, ImageNeedsMemory};
+ghost use Rattle.zic_bulk.specs.Image.{IsImageOf, ReadsAs, IsFaultOfZone, ImageNeedsMemory};
 
-use crate::maker::table;
 use std::alloc::{AllocError, Global};
 use zic_base::Stop;
 use zic_files::Image;
 use zic_footer::make;
 use zic_rules::timeline;
 use zic_source::Source;
+use zic_table::table;
 use zic_tzif::{ReadStop, Table, Zone, read, write};
 
 /// Compiles the file of a zone, by the zone's number from 0 in the order of texts and lines: its

@@ -6,11 +6,11 @@ use Rattle.zic_source.specs.Sound.{IsSoundSource}
 use Rattle.zic_states.specs.Zone.{Zone}
 use Rattle.zic_rules.specs.Timeline.{zone_of}
 use Rattle.zic_tzif.specs.Writing.{written}
-use Rattle.zic_table.specs.Image.{IsImageOf, ReadsAs}
-use Rattle.zic_table.proofs.Faults.{fault_of_image}
-use Rattle.zic_table.proofs.Instants.{gives_shows}
-use Rattle.zic_table.proofs.Wants.{may_want, at_states, never}
-use Rattle.zic_table.proofs.image.image_of.Goals as goal
+use Rattle.zic_bulk.specs.Image.{IsImageOf, ReadsAs}
+use Rattle.zic_bulk.proofs.zone_images.Faults.{fault_of_image}
+use Rattle.zic_bulk.proofs.zone_images.Instants.{gives_shows}
+use Rattle.zic_bulk.proofs.zone_images.Wants.{may_want, at_states, never}
+use Rattle.zic_bulk.proofs.image.image_of.Goals as goal
 
 pub returns-in_err-states-clause-memory : goal.returns-in_err-states-clause-memory
 returns-in_err-states-clause-memory c =

@@ -32,8 +32,8 @@ use Rattle.zic_tzif.specs.Content.{Content}
 use Rattle.zic_table.specs.ContentOf.{content_of, limits, IsContentOf, IsFaultOfTable}
 use Rattle.zic_tzif.specs.Writing.{written}
 use Rattle.zic_files.specs.File.{FileImage}
-use Rattle.zic_table.specs.Image.{IsImageOf, IsFaultOfImage, IsFaultOfZone}
-use Rattle.zic_table.specs.Laws.{OneImage, ImagesHaveNoFault}
+use Rattle.zic_bulk.specs.Image.{IsImageOf, IsFaultOfImage, IsFaultOfZone}
+use Rattle.zic_bulk.specs.Laws.{OneImage, ImagesHaveNoFault}
 
 no_set : (says : Rules) (name : List ℕ) → HasNoSet says → says ≡ Set name → ⊥
 no_set says name none e = subst HasNoSet e none

@@ -10,7 +10,7 @@ use Rattle.zic_base.proofs.Elements.{got}
 use Rattle.zic_states.specs.Fault.{IsSound}
 use Rattle.zic_states.specs.Zone.{Zone}
 use Rattle.zic_rules.specs.Timeline.{zone_of}
-use Rattle.zic_table.specs.Image.{IsFaultOfImage, IsFaultOfZone}
+use Rattle.zic_bulk.specs.Image.{IsFaultOfImage, IsFaultOfZone}
 
 -- by the line that the source gives for the zone's first
 module _ (source : SourceLines) (number : ℕ) (line : ZoneLine) (is_zone : number < length source.zones)

@@ -30,7 +30,7 @@ use Rattle.zic_tzif.specs.Content.{Content, IsFooter, IsStateOfType, IsWritable,
 use Rattle.zic_table.specs.ContentOf.{before, states_of, names_of, local_type, transition, content_of, IsContentOf}
 use Rattle.zic_tzif.specs.Answer.{IsLastChange, IsBeforeAll, IsBeforeLast, IsTypeAt, Gives, Answers}
 use Rattle.zic_tzif.proofs.AnswerLemmas.{answer_at}
-use Rattle.zic_table.proofs.Types.{is_state, type_at_number, state_of_type}
+use Rattle.zic_bulk.proofs.zone_images.Types.{is_state, type_at_number, state_of_type}
 
 -- ---- lists
 

@@ -24,9 +24,9 @@ use Rattle.zic_rules.specs.declared.tail.TailRule.{TailRule}
 use Rattle.zic_posix.specs.Footer.{TzString}
 use Rattle.zic_footer.specs.Making.{IsMade, IsFaultOfFooter}
 use Rattle.zic_table.specs.ContentOf.{limits, IsFaultOfTable}
-use Rattle.zic_table.specs.Image.{IsFaultOfImage}
-use Rattle.zic_table.specs.Laws.{OneFaultOfZone}
-use Rattle.zic_table.proofs.OneImage.{not_both, no_fault_of_footer, one_list, one_first}
+use Rattle.zic_bulk.specs.Image.{IsFaultOfImage}
+use Rattle.zic_bulk.specs.Laws.{OneFaultOfZone}
+use Rattle.zic_bulk.proofs.zone_images.OneImage.{not_both, no_fault_of_footer, one_list, one_first}
 
 -- a kind of fault of a zone's states is known by its number
 by_number : (zone : Zone) (a b : Kind) → Applies zone a → kind_number a ≡ kind_number b → a ≡ b

@@ -21,10 +21,10 @@ use Rattle.zic_table.specs.code.Transitions.{AreTransitions}
 use Rattle.zic_table.proofs.Tables.{is_footer, is_writable}
 use Rattle.zic_tzif.specs.Reading.{IsFile}
 use Rattle.zic_tzif.proofs.WriteFile.{written_is_file}
-use Rattle.zic_table.specs.Laws.{ImagesReadAsZones}
-use Rattle.zic_table.proofs.ChangeBounds.{change_fits}
+use Rattle.zic_bulk.specs.Laws.{ImagesReadAsZones}
+use Rattle.zic_bulk.proofs.zone_images.ChangeBounds.{change_fits}
 use Rattle.zic_table.proofs.Footers.{footer_goes_on}
-use Rattle.zic_table.proofs.Instants.{gives_shows}
+use Rattle.zic_bulk.proofs.zone_images.Instants.{gives_shows}
 
 module _ (zone : Zone) (whole : IsWholeZone zone) (f : TzString) (made : IsMade zone f) (content : Content) (of : IsContentOf zone f content) where
   abbrev states : List Shown

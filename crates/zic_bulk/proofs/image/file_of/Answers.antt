@@ -1,8 +1,8 @@
 use Rattle.std.proofs.Common.{ℕ, List, subst, ◌∙◌}
 use Rattle.zic_tzif.specs.Reading.{IsFile}
 use Rattle.zic_tzif.specs.Writing.{written}
-use Rattle.zic_table.proofs.Images.{read_again}
-use Rattle.zic_table.proofs.image.file_of.Goals as goal
+use Rattle.zic_bulk.proofs.zone_images.Images.{read_again}
+use Rattle.zic_bulk.proofs.image.file_of.Goals as goal
 
 pub returns-clause-is : goal.returns-clause-is
 returns-clause-is c =
