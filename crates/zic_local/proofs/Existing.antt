@@ -83,9 +83,6 @@ module _ (local : ℤ) where
 -- ---- second by second
 
 module _ (content : Content) (local : ℤ) (near : HaveOffsets content) (answer_at : (t : ℤ) → (answer : Option Shown) × Answers content t answer) where
-  start : ℤ
-  start = local -ℤ pos FARTHEST_FILE_OFFSET
-
   second_throughout : (t : ℤ) → AnswersThroughout content (second t) (answer_at t).0
   second_throughout t = λ u there.
       let from = there.from in

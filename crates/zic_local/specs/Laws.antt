@@ -1,7 +1,6 @@
 -- Laws about the instants of local times.
 use Rattle.std.specs.Prelude.{◌≡◌, ℕ, ℤ, ◌+ℤ◌, ◌-ℤ◌, ◌≤◌, List, Contains, Some, unsigned_abs, Result, MatchResult}
 use Rattle.zic_base.specs.State.{Shown}
-use Rattle.zic_base.specs.declared.limit.TheConstants.{FARTHEST_FILE_OFFSET}
 use Rattle.zic_tzif.specs.Content.{Content}
 use Rattle.zic_tzif.specs.Answer.{Answers, IsUnspecified}
 use Rattle.zic_tzif.specs.Reading.{IsFile}
@@ -9,14 +8,14 @@ use Rattle.zic_local.specs.declared.disambiguation.Disambiguation.{Disambiguatio
 use Rattle.zic_local.specs.declared.disambiguation.Unresolved.{Unresolved}
 use Rattle.zic_local.specs.declared.local_instants.LocalInstants.{LocalInstants}
 use Rattle.zic_local.specs.declared.local_instants.LocalInstants.TheVariants as instants
-use Rattle.zic_local.specs.LocalTime.{IsInstantOf, AreInstantsOf, HaveOffsets, Tells}
+use Rattle.zic_local.specs.LocalTime.{IsInstantOf, AreInstantsOf, HaveOffsets, HaveOffsetsWithin, Tells}
 use Rattle.zic_local.specs.Choice.{Means, IsUnresolved}
 
--- a file's UT offsets are within 25:59:59, so that each instant is so near its local time
+-- a file's UT offsets are within 25:59:59, and an instant is as near its local time as UT offsets are to 0
 pub record InstantsAreNear : Type 0 where
   pub offsets : (octets : List ℕ) (content : Content) → IsFile octets content → HaveOffsets content
-  pub near : (content : Content) (local t : ℤ) → HaveOffsets content → IsInstantOf content local t
-      → unsigned_abs (local -ℤ t) ≤ FARTHEST_FILE_OFFSET
+  pub near : (most : ℕ) (content : Content) → HaveOffsetsWithin most content
+      → (local t : ℤ) → IsInstantOf content local t → unsigned_abs (local -ℤ t) ≤ most
 
 -- the instants of a local time are one list
 pub record InstantsAreListedOnce : Type 0 where

@@ -1,6 +1,6 @@
 -- The instants of a local time. Both are in seconds: an instant since 1970-01-01 00:00 UT, and a local time since 1970-01-01 00:00 on
 -- the clocks of the place.
-use Rattle.std.specs.Prelude.{◌≡◌, ◌↔◌, ◌+◌, ◌≤◌, ℤ, pos, ◌+ℤ◌, ◌-ℤ◌, ◌<ℤ◌, ◌≤ℤ◌, List, [], ◌∷◌, ◌++◌, length, unsigned_abs, Some, AllPairs, Contains}
+use Rattle.std.specs.Prelude.{◌≡◌, ◌↔◌, ℕ, ◌+◌, ◌≤◌, ℤ, pos, ◌+ℤ◌, ◌-ℤ◌, ◌<ℤ◌, ◌≤ℤ◌, List, [], ◌∷◌, ◌++◌, length, unsigned_abs, Some, AllPairs, Contains}
 use Rattle.zic_base.specs.State.{Shown}
 use Rattle.zic_base.specs.declared.limit.TheConstants.{FARTHEST_FILE_OFFSET}
 use Rattle.zic_posix.specs.declared.instants.TheConstants.{MIN_INSTANT, MAX_INSTANT}
@@ -59,11 +59,15 @@ Tells content local (instants.One t) = AreInstantsOf content local (t ∷ [])
 Tells content local (instants.Fold fold) = IsFoldOf content local fold
 Tells content local instants.Unspecified = AreInstantsOf content local [] × ((gap : Gap) → PassesOver content local gap → ⊥)
 
--- each UT offset is within 25:59:59 either way, as in each file
-abbrev pub HaveOffsets : Content → Type 0
-HaveOffsets content = (t offset : ℤ) → IsOffsetAt content t offset → unsigned_abs offset ≤ FARTHEST_FILE_OFFSET
+-- each UT offset is at most so many seconds, either way
+abbrev pub HaveOffsetsWithin : ℕ → Content → Type 0
+HaveOffsetsWithin most content = (t offset : ℤ) → IsOffsetAt content t offset → unsigned_abs offset ≤ most
 
--- every instant that is 25:59:59 or less away from the local time is in 64 bits, as for each year that a calendar has
+-- each UT offset is within 25:59:59, as in each file
+abbrev pub HaveOffsets : Content → Type 0
+HaveOffsets = HaveOffsetsWithin FARTHEST_FILE_OFFSET
+
+-- every instant within 25:59:59 of the local time is in 64 bits, as for all local times but the first and the last 26 hours of 64 bits
 pub record IsInRange (local : ℤ) : Type 0 where
   pub low : MIN_INSTANT ≤ℤ (local -ℤ pos FARTHEST_FILE_OFFSET)
   pub high : (local +ℤ pos FARTHEST_FILE_OFFSET) ≤ℤ MAX_INSTANT

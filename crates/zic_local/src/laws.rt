@@ -5,8 +5,8 @@ ghost use Rattle.zic_local.specs.Laws.{InstantsAreNear, InstantsAreListedOnce, L
 
 use zic_tzif::laws::files_answer_once;
 
-/// States that a file's UT offsets are within 25:59:59, so that each instant is so near its local
-/// time.
+/// States that a file's UT offsets are within 25:59:59, and that an instant is as near its local
+/// time as UT offsets are to 0.
 pub fn instants_are_near()
     ensures { InstantsAreNear }
 {}

@@ -1,6 +1,6 @@
-//! Local times to instants: the instants at which a TZif file's clocks show a local time, which has
-//! none in a gap and several in a fold, and the instant that is meant by a choice. The tests stand
-//! in `program_tests`.
+//! Local times to instants: the instants at which the clocks of a TZif file show a local time, none
+//! in a gap and several in a fold, and the instant that is meant by a choice. The rows of
+//! `witness/rows` test it.
 #![tactic(auto)]
 
 mod disambiguation;

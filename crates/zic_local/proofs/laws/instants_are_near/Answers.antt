@@ -6,5 +6,5 @@ use Rattle.zic_local.proofs.laws.instants_are_near.Goals as goal
 pub returns : goal.returns
 returns c = record {
   offsets = have_offsets;
-  near = λ content local t near is. let within = near t is.offset is.at in let here = is.is in omega (arith, ints, within, here);
+  near = λ most content near local t is. let within = near t is.offset is.at in let here = is.is in omega (arith, ints, within, here);
 }

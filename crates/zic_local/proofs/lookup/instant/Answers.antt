@@ -32,6 +32,9 @@ returns-in-Later c =
     let last = last_of c.args.zone.now c.args.local (fold.first ∷ told.between) fold.last told.are in
     rw (to_z-of_z fits) (subst (λ (choice : Disambiguation). Means c.args.zone.now c.args.local choice fold.last) (sym c.in-Later.is) (inl last))
 
+pub returns-in-Reject-disambiguation : goal.returns-in-Reject-disambiguation
+returns-in-Reject-disambiguation c = search rules
+
 pub returns-in-Earlier-disambiguation : goal.returns-in-Earlier-disambiguation
 returns-in-Earlier-disambiguation c =
     let t = c.read_by.result in
