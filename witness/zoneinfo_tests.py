@@ -1,0 +1,90 @@
+"""Runs CPython's own tests of zoneinfo over the Python package, by a class that has the constructors of
+zoneinfo.ZoneInfo: `zoneinfo_tests.py`. What is left out stands in LEFT_OUT, with the reason.
+"""
+
+import re
+import sys
+import types
+import unittest
+import zoneinfo
+from collections import Counter
+
+import pzic
+
+#: What is left out: classes and tests of them by name, and why.
+LEFT_OUT = {
+    r"V1Test\.": "the files are of version 1, which the library refuses",
+    r"TzPathTest\.": "they ask the module zoneinfo for its paths, and no zone",
+    r"TestModule\.": "they ask the module zoneinfo for its names, and no zone",
+    r"ExtensionBuiltTest\.": "they look for the C code of zoneinfo",
+    r"\.test_bad_keys_paths$": "a tree is a mapping: a name such as ../x is a KeyError, as any that no file has",
+    r"CacheTest\.test_(no_cache|clear_cache.*|cache_reset_tzpath)$": "no cache is cleared or gone round: one "
+    "object has the same bytes and the same name",
+    r"PickleTest\.test_no_cache$": "one object has the same bytes and the same name",
+    r"PickleTest\.test_(pickle_after_)?from_file$": "a zone of bytes is pickled by them, and not refused",
+}
+
+
+class ZoneInfo(pzic.TimeZone):
+    """The constructors of zoneinfo.ZoneInfo: all else is the package's."""
+
+    __module__ = "zoneinfo"
+
+    def __new__(cls, key_or_zone, key=None):
+        if isinstance(key_or_zone, pzic.Zone):
+            return super().__new__(cls, key_or_zone, key)
+        tree = pzic.Tree(zoneinfo.TZPATH[0])
+        return super().__new__(cls, tree[key_or_zone], key_or_zone)
+
+    @classmethod
+    def no_cache(cls, key):
+        return cls(key)
+
+    @classmethod
+    def clear_cache(cls, *, only_keys=None):
+        pass
+
+    @classmethod
+    def from_file(cls, file, /, key=None):
+        return cls(pzic.Zone(file.read()), key)
+
+
+class Module(types.ModuleType):
+    """A module with this class and, for the rest, what zoneinfo has."""
+
+    def __getattr__(self, name):
+        return getattr(zoneinfo, name)
+
+
+def tests_of(suite):
+    """Yield the tests of a suite."""
+    for test in suite:
+        if isinstance(test, unittest.TestSuite):
+            yield from tests_of(test)
+        else:
+            yield test
+
+
+def main():
+    module = Module("zoneinfo")
+    module.ZoneInfo = ZoneInfo
+    module.ZoneInfoNotFoundError = pzic.NoSuchZone
+    from test.test_zoneinfo import _support
+    _support.get_modules = lambda: (module, module)
+    from test.test_zoneinfo import test_zoneinfo
+    kept, left = unittest.TestSuite(), Counter()
+    for test in tests_of(unittest.defaultTestLoader.loadTestsFromModule(test_zoneinfo)):
+        rules = [rule for rule in LEFT_OUT if re.search(rule, test.id())]
+        left.update(rules[:1])
+        if not rules:
+            kept.addTest(test)
+    unused = [rule for rule in LEFT_OUT if not left[rule]]
+    if unused:
+        sys.exit(f"library: Python: no test is left out by {unused}")
+    result = unittest.TextTestRunner(stream=sys.stderr, verbosity=0).run(kept)
+    passed = result.testsRun - len(result.skipped)
+    print(f"library: {passed} tests of CPython's zoneinfo pass, {sum(left.values())} are left out, {len(result.skipped)} skipped")
+    sys.exit(not result.wasSuccessful())
+
+
+main()
