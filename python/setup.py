@@ -4,7 +4,7 @@
 import os
 import subprocess
 
-from setuptools import setup
+from setuptools import Distribution, setup
 from setuptools.command.build_py import build_py
 from wheel.bdist_wheel import bdist_wheel
 
@@ -28,12 +28,17 @@ class BuildWithLibrary(build_py):
 class WheelOfMachine(bdist_wheel):
     """A wheel for any Python 3 on one kind of machine."""
 
-    def finalize_options(self):
-        super().finalize_options()
-        self.root_is_pure = False
-
     def get_tag(self):
         return "py3", "none", super().get_tag()[2]
 
 
-setup(cmdclass={"build_py": BuildWithLibrary, "bdist_wheel": WheelOfMachine})
+class WithLibrary(Distribution):
+    """What isn't of Python alone."""
+
+    def has_ext_modules(self):
+        return True
+
+
+setup(
+    cmdclass={"build_py": BuildWithLibrary, "bdist_wheel": WheelOfMachine}, distclass=WithLibrary
+)

@@ -219,8 +219,7 @@ def keep_manners(tree, data):
     check((dublin.utcoffset(None), dublin.tzname(None), dublin.dst(None)) == (None, None, None), "not fixed")
     check(str(dublin) == "Europe/Dublin" and repr(dublin) == "pzic.TimeZone(key='Europe/Dublin')", "shown")
     bare = pzic.Zone(data).tzinfo()
-    check(str(bare) == repr(bare) and repr(bare).startswith("pzic.TimeZone(pzic.Zone(b'TZif") and bare.key is None, "shown")
-    check(eval(repr(bare)) is bare, "shown")
+    check(str(bare) == repr(bare) == f"pzic.TimeZone(<pzic.Zone of {len(data)} bytes>)" and bare.key is None, "shown")
 
     class Mine(pzic.TimeZone):
         pass

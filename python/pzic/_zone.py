@@ -80,7 +80,8 @@ class Zone:
         return self._key
 
     def __repr__(self) -> str:
-        return f"pzic.Zone(key={self._key!r})" if self._key else f"pzic.Zone({self._data!r})"
+        what = f"of {len(self._data)} bytes" if self._key is None else repr(self._key)
+        return f"<pzic.Zone {what}>"
 
     def __eq__(self, other: object) -> bool:
         if not isinstance(other, Zone):
