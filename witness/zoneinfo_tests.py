@@ -1,5 +1,6 @@
 """Runs CPython's own tests of zoneinfo over the Python package, by a class that has the constructors of
-zoneinfo.ZoneInfo: `zoneinfo_tests.py`. What is left out stands in LEFT_OUT, with the reason.
+zoneinfo.ZoneInfo: `zoneinfo_tests.py`. What is left out stands in LEFT_OUT and PARTS_LEFT_OUT,
+with the reason.
 """
 
 import re
@@ -19,8 +20,6 @@ LEFT_OUT = {
     r"TzPathTest\.": "they ask the module zoneinfo for its paths, and no zone",
     r"TestModule\.": "they ask the module zoneinfo for its names, and no zone",
     r"ExtensionBuiltTest\.": "they look for the C code of zoneinfo",
-    r"TZStrTest\.test_invalid_tzstr$": "some of its texts are taken: minutes and seconds may have one digit",
-    r"WeirdZoneTest\.test_no_tz_str$": "without a footer, local time is open after the last transition: RFC 9636, 3.3",
     r"\.test_bad_keys_paths$": "a tree is a mapping: a name such as ../x is a KeyError, as any that no file has",
     r"CacheTest\.test_(no_cache|clear_cache.*|cache_reset_tzpath)$": "no cache is cleared or gone round: one "
     "object has the same bytes and the same name",
@@ -28,6 +27,11 @@ LEFT_OUT = {
     r"PickleTest\.test_(pickle_after_)?from_file$": "a zone of bytes is pickled by them, and not refused",
 }
 
+#: Parts of tests that are left out, as unittest shows them, and why.
+PARTS_LEFT_OUT = {
+    r"test_invalid_tzstr .*tzstr='[^']*:\d\D": "minutes and seconds of a footer may have one digit",
+    r"test_no_tz_str .*dt=datetime.datetime\(2001": "without a footer, local time is open after the last transition",
+}
 
 #: The names of the zones that were made.
 made = set()
@@ -71,6 +75,18 @@ class Module(types.ModuleType):
         return getattr(zoneinfo, name)
 
 
+class Result(unittest.TextTestResult):
+    """The results without the parts that are left out."""
+
+    parts = 0
+
+    def addSubTest(self, test, subtest, error):
+        if error and any(re.search(rule, str(subtest)) for rule in PARTS_LEFT_OUT):
+            self.parts += 1
+        else:
+            super().addSubTest(test, subtest, error)
+
+
 def tests_of(suite):
     """Yield the tests of a suite."""
     for test in suite:
@@ -95,11 +111,12 @@ def main():
     unused = [rule for rule in LEFT_OUT if not left[rule]]
     if unused:
         sys.exit(f"library: Python: no test is left out by {unused}")
-    result = unittest.TextTestRunner(stream=sys.stderr, verbosity=0).run(kept)
+    result = unittest.TextTestRunner(stream=sys.stderr, verbosity=0, resultclass=Result).run(kept)
     passed = result.testsRun - len(result.skipped)
     if not made:
         sys.exit("library: Python: the tests made no zone of the package")
-    print(f"library: {passed} tests of CPython's zoneinfo pass, {sum(left.values())} are left out, {len(result.skipped)} skipped")
+    print(f"library: {passed} tests of CPython's zoneinfo pass, without {result.parts} parts of them; "
+          f"{sum(left.values())} are left out, {len(result.skipped)} skipped")
     sys.exit(not result.wasSuccessful())
 
 

@@ -74,8 +74,9 @@ def _plain(instants: Any) -> Tuple[Any, Any]:
         return numpy.asarray(instants), None
     if not isinstance(instants, numpy.ndarray):
         # pandas gives UT where it is asked for numpy's times.
-        unit = getattr(instants.dtype, "unit", None) or numpy.datetime_data(instants.dtype)[0]
-        instants = instants.to_numpy(dtype=f"datetime64[{unit}]")
+        unit = getattr(instants.dtype, "unit", "ns")
+        is_plain = isinstance(instants.dtype, numpy.dtype)
+        instants = instants.to_numpy(instants.dtype if is_plain else f"datetime64[{unit}]")
     missing = numpy.isnat(instants)
     seconds = numpy.ascontiguousarray(instants.astype("datetime64[s]")).view("int64")
     return seconds, missing if missing.any() else None
@@ -165,17 +166,17 @@ def convert_columns(zones: Mapping[str, Zone], names: Any, instants: Any) -> Col
     codes, found = _numbered(names)
     if len(codes) != len(times):
         raise ValueError("the columns differ in length")
-    told = _Told(len(times))
+    answers = _Answers(len(times))
     # Rows of one zone lie together, from starts[i] to starts[i + 1]. Short numbers are sorted by
     # their digits.
     codes = codes.astype("uint16" if len(found) <= 1 << 16 else "int64")
     order = codes.argsort(kind="stable")
     starts = codes[order].searchsorted(numpy.arange(len(found) + 1))
     for name, start, end in zip(found, starts, starts[1:]):
-        told.write(zones[name], times, order[start:end])
+        answers.write(zones[name], times, order[start:end])
     if missing is not None:
-        told.numbers[missing] = 0
-    return told.columns(times)
+        answers.numbers[missing] = 0
+    return answers.columns(times)
 
 
 def _numbered(names: Any) -> Tuple[Any, List[str]]:
@@ -193,7 +194,7 @@ def _numbered(names: Any) -> Tuple[Any, List[str]]:
     return codes, list(found.tolist())
 
 
-class _Told:
+class _Answers:
     """What is told of rows: for each the number of a state, among those that were met."""
 
     def __init__(self, count: int) -> None:

@@ -117,7 +117,7 @@ _Key = Tuple[Type["TimeZone"], bytes, Optional[str]]
 
 #: All that are in use, by class, bytes of the file, and name.
 _all: weakref.WeakValueDictionary[_Key, TimeZone] = weakref.WeakValueDictionary()
-_all_lock = threading.Lock()
+_all_lock = threading.RLock()
 
 
 class TimeZone(tzinfo):

@@ -185,6 +185,6 @@ def _read(data: bytes) -> Owned:
     reason = ctypes.c_uint32()
     if c.zone_read(data, len(data), handle, reason) == c.BAD_FILE:
         name = c.text_of(c.name_of_reason, reason.value).decode("ascii")
-        footer = data.rsplit(b"\n", 2)[1:2] if name == "Footer" else []
-        raise BadFile(name, b"".join(footer).decode("ascii", "backslashreplace"))
+        footer = b"".join(data.rsplit(b"\n", 2)[1:2]) if name == "Footer" else b""
+        raise BadFile(name, footer[:100].decode("ascii", "backslashreplace"))
     return Owned(handle)
