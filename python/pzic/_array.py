@@ -113,7 +113,8 @@ def _places(views: List[memoryview]) -> List[int]:
     places = [_address(view) for view in views]
     if any(place % view.itemsize for place, view in zip(places, views)):
         raise ValueError("the arrays aren't aligned")
-    extents = sorted((place, place + view.nbytes) for place, view in zip(places, views) if view.nbytes)
+    ends = [place + view.nbytes for place, view in zip(places, views)]
+    extents = sorted((place, end) for place, end in zip(places, ends) if place < end)
     if any(end > begin for (_, end), (begin, _) in zip(extents, extents[1:])):
         raise ValueError("the arrays overlap")
     return places
