@@ -20,6 +20,7 @@ import zoneinfo
 from datetime import date, datetime, time, timedelta, timezone
 
 import pzic
+from pzic import _library as c
 
 UTC = timezone.utc
 ZERO, HOUR = timedelta(0), timedelta(hours=1)
@@ -256,6 +257,15 @@ def days_of_2024():
     return [edge + timedelta(minutes=minutes) for edge in edges for minutes in (-1, 0, 30, 60)]
 
 
+def look_at_statuses(zone):
+    """No status of the library goes unseen."""
+    nothing, count, one = c.Handle(), ctypes.c_size_t(), ctypes.create_string_buffer(8)
+    refuses(RuntimeError, c.files_len, nothing, count)
+    refuses(RuntimeError, c.zone_span, nothing, 0, c.CState(), ctypes.c_int64(), ctypes.c_int64())
+    refuses(RuntimeError, c.zone_offsets, zone._owned.lend(), ctypes.addressof(one), 1, ctypes.addressof(one), 0, ctypes.addressof(one), 0)
+    refuses(RuntimeError, c.text_of, c.name_of_fault, 31)
+
+
 # ------------------------------------------------------------------ arrays
 
 
@@ -355,6 +365,7 @@ def main():
     list_trees(tree)
     keep_manners(tree, data)
     compare_arithmetic(tree)
+    look_at_statuses(tree["Europe/Dublin"])
     refuse_arrays(tree["Europe/Dublin"])
     print(f"library: Python's objects, {use_pandas(tree)}")
 

@@ -65,7 +65,7 @@ class Zone:
         self._owned = _read(self._data)
         self._key: Optional[str] = None
         #: How another process makes the zone.
-        self._source: _Source = (Zone, (self._data,))
+        self._source: _Source = (type(self), (self._data,))
         #: Spans that were asked for, by the highest bits of an instant in them.
         self._spans: Dict[int, Span] = {}
 
