@@ -137,6 +137,10 @@ class TimeZone(tzinfo):
 
     _zone: Zone
     _key: Optional[str]
+    _at_ut: _YearUt
+    _at_shown: Tuple[_YearShown, _YearShown]
+    #: What is told of all local times, once that was asked for.
+    _fixed: Optional[_Told]
 
     def __new__(cls, zone: Zone, key: Optional[str] = None) -> TimeZone:
         if key is None:
@@ -158,19 +162,10 @@ class TimeZone(tzinfo):
         made._fixed = None
         return made
 
-    _at_ut: _YearUt
-    _at_shown: Tuple[_YearShown, _YearShown]
-    _fixed: Optional[_Told]
-
     @property
     def key(self) -> Optional[str]:
         """The name of the zone."""
         return self._key
-
-    @property
-    def zone(self) -> Zone:
-        """The zone that tells local time."""
-        return self._zone
 
     def __repr__(self) -> str:
         name = f"{type(self).__module__}.{type(self).__qualname__}"
