@@ -95,10 +95,11 @@ def copy_time_zones(tree, data):
         check(pickle.loads(pickle.dumps(moment)).fold == 1, "copy", moment)
 
 
-def copy_errors():
+def copy_errors(tree):
     caught = [
         refuses(pzic.BadFile, pzic.Zone, b""),
         refuses(pzic.NoSuchZone, pzic.Compiled().__getitem__, "No/Such"),
+        refuses(pzic.BadName, tree.__getitem__, "../Such"),
         refuses(pzic.BadSource, pzic.Compiled, b"Word\n"),
         refuses(pzic.BadRow, pzic.Compiled(SOURCE).convert, b"Fixed,0\nFixed,x\n"),
     ]
@@ -196,6 +197,8 @@ def list_trees(tree):
         listed, odd = make_odd_tree(folder, tree)
         made = pzic.Tree(folder)
         check(set(made) == listed and len(made) == len(listed) and dict(made).keys() == listed, "listed", set(made))
+        for name in "../One", "/One", "One/", "Area//Two", "./One", "", "a\0b":
+            check(isinstance(refuses(ValueError, made.__getitem__, name), pzic.BadName), name)
         check(made["up/Area/Two"] == made["One"], "through a link")
         for name in "pipe", "broken", "loop", "null", "Area", "none", "One/none", "../One", "/One", "One/", "", "a\0b", "x" * 300:
             check(name not in made and refuses(pzic.NoSuchZone, made.__getitem__, name).key == name, name)
@@ -359,7 +362,7 @@ def main():
     copy_zones(tree, data)
     copy_trees(tree, folder)
     copy_time_zones(tree, data)
-    copy_errors()
+    copy_errors(tree)
     use_processes(tree)
     use_threads(data)
     list_trees(tree)

@@ -15,7 +15,7 @@ package, and then where the system has its libraries.
 """
 
 from pzic._array import DAYLIGHT, OPEN, Columns
-from pzic._errors import BadFile, BadRow, BadSource, NoSuchZone
+from pzic._errors import BadFile, BadName, BadRow, BadSource, NoSuchZone
 from pzic._library import MAX_INSTANT, MIN_INSTANT
 from pzic._timezone import TimeZone
 from pzic._tree import Compiled, Tree
@@ -29,6 +29,7 @@ __all__ = [
     "MIN_INSTANT",
     "OPEN",
     "BadFile",
+    "BadName",
     "BadRow",
     "BadSource",
     "Columns",

@@ -31,6 +31,12 @@ class NoSuchZone(KeyError):
         return f"no zone has the name {self.key!r}"
 
 
+class BadName(NoSuchZone, ValueError):
+    """No file can have the name ``key``, such as ``../Dublin``."""
+
+    __module__ = "pzic"
+
+
 class BadSource(ValueError):
     """Texts that are no source. ``text`` and ``line`` are the numbers of the text and of its line
     where the first fault is, both from 1, and ``kind`` the name of the fault's kind."""

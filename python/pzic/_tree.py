@@ -10,7 +10,7 @@ from typing import Any, Dict, Iterator, Mapping, Tuple, Type, Union
 
 from pzic import _library as c
 from pzic._array import Columns, convert_columns
-from pzic._errors import BadFile, BadRow, BadSource, NoSuchZone
+from pzic._errors import BadFile, BadName, BadRow, BadSource, NoSuchZone
 from pzic._handle import Owned, bytes_of
 from pzic._timezone import TimeZone
 from pzic._zone import Zone, zone_named
@@ -61,8 +61,8 @@ class Tree(_Zones):
     """The zones of a folder of TZif files, by name: ``tree["Europe/Dublin"]``.
 
     A file is read when its zone is asked for, and once. :class:`NoSuchZone`, a :class:`KeyError`,
-    says that no file has the name, and :class:`BadFile` that the file isn't a TZif file of version
-    2 or 3. The names that are listed are those of the files that can be opened; folders that are
+    says that no file has the name, :class:`BadName` that no file can have it, and :class:`BadFile`
+    that the file isn't a TZif file of version 2 or 3. The names that are listed are those of the files that can be opened; folders that are
     links aren't looked through.
     """
 
@@ -107,7 +107,7 @@ class Tree(_Zones):
     def _read(self, name: str) -> bytes:
         parts = name.split("/")
         if "\0" in name or any(part in ("", ".", "..") for part in parts):
-            raise NoSuchZone(name)
+            raise BadName(name)
         try:
             # To open a pipe would wait for its writer.
             number = os.open(os.path.join(self._folder, *parts), os.O_RDONLY | os.O_NONBLOCK)
