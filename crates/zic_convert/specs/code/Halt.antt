@@ -1,31 +1,15 @@
 -- How a conversion ends early.
-use Rattle.std.specs.Prelude.{◌≡◌, ℕ, ◌+◌, ◌<◌, ◌≤◌, ◌⊎◌, List, Option, IfSome, IfErr, IfOk, Result, Ok, Err}
+use Rattle.std.specs.Prelude.{◌≡◌, ℕ, ◌+◌, ◌<◌, ◌≤◌, ◌⊎◌, IfErr, IfOk, Result, Ok, Err}
 use Rattle.zic_counted.specs.Counts.{Counts, HasFailedSince, greatest}
-use Rattle.zic_files.specs.File.{File}
-use Rattle.zic_files.specs.Tree.{Learnt, Reply}
-use Rattle.zic_plan.specs.declared.layout.Layout.{Layout}
-use Rattle.zic_plan.specs.declared.stop.RowFault.{RowFault}
 use Rattle.zic_plan.specs.declared.stop.RunStop.{RunStop}
 use Rattle.zic_plan.specs.declared.stop.RunStop.TheVariants as stop
-use Rattle.zic_convert.specs.Column.{ConvertsBy, header_text}
-use Rattle.zic_convert.specs.Convert.{Outcome, WritesAtOf, WritesPartOf}
-use Rattle.zic_convert.specs.Log.{AreFaultsBy, NotesAt, NotesPart}
-use Rattle.zic_convert.specs.Tree.{EndsByTree, HoldsByLearnt, Run}
 use Rattle.zic_convert.specs.declared.halt.Halt.{Halt}
 use Rattle.zic_convert.specs.declared.halt.Halt.TheVariants as halt
 
--- the output where the column could not be read on, or where the conversion ends for another cause
-abbrev pub WritesAtHalt : List ℕ → Outcome → Halt → Option (List ℕ) → Option (List ℕ) → Type 0
-WritesAtHalt head Converts halt.Unread old new = WritesPartOf head Converts old new
-WritesAtHalt head Converts (halt.Stop stop) old new = WritesAtOf head Converts stop old new
-
--- the log there
-abbrev pub NotesAtHalt : Halt → Option (List RowFault) → Option (List RowFault) → List RowFault → Type 0
-NotesAtHalt halt.Unread old new faults = NotesPart old new faults
-NotesAtHalt (halt.Stop stop) old new faults = NotesAt stop old new faults
-
-abbrev pub NotesUntilHalt : List File → Layout → ℕ → List ℕ → Halt → Option (List RowFault) → Option (List RowFault) → Type 0
-NotesUntilHalt files layout most column why old new = (faults : List RowFault) × AreFaultsBy files layout most column faults × NotesAtHalt why old new faults
+-- the stop of a halt: where the column can't be read on, the output is as where its reader failed
+abbrev pub stop_of : Halt → RunStop
+stop_of halt.Unread = stop.ReadFailed
+stop_of (halt.Stop stop) = stop
 
 -- a row with a fault where the writer did not fail, a writer that failed, or memory that ran out
 abbrev pub IsOwnCause : {W : Type 0} → Counts W → Counts W → RunStop → Type 0
@@ -58,13 +42,3 @@ pub record IsEnd {R : Type 0} (reader : Counts R) (failures taken most : ℕ) (o
   pub within : IfOk result (λ _. reader.taken ≤ taken + most)
   pub unfailed : IfOk result (λ _. HasFailedSince reader failures → ⊥)
   pub stops : IfErr result (IsStopOf reader failures taken most outcome)
-
--- by these files, the conversion of a column ended early
-abbrev pub EndsAtHalt : Layout → ℕ → Halt → Run → List File → Type 0
-EndsAtHalt layout most why run files = IfSome run.column (λ column.
-    WritesAtHalt (header_text layout column) (ConvertsBy files layout most column) why run.held run.held' × NotesUntilHalt files layout most column why run.log run.log')
-
--- where the column could not be read on, the files of all replies were learnt
-abbrev pub HaltsByTree : Halt → List Reply → Option (List Reply) → Option (List Reply) → Learnt → (List File → Type 0) → Type 0
-HaltsByTree halt.Unread replies gave gives known Holds = HoldsByLearnt replies gave gives known Holds
-HaltsByTree (halt.Stop stop) replies gave gives known Holds = EndsByTree stop replies gave gives known Holds

@@ -6,10 +6,10 @@ ghost use Rattle.zic_convert.specs.code.Pieces.{ArePieces, IsOutcomeOf};
 ghost use Rattle.zic_columns.specs.declared.pieces.TheConstants.{MAX_ROUND_PIECES};
 ghost use Rattle.zic_convert.specs.code.Written.{EndsInRound, WritesRound};
 
+use crate::conversion::Conversion;
 use crate::output::write_rows;
 use crate::pieces::RowPieces;
 use crate::row::Rows;
-use crate::setting::Setting;
 use std::io::Write;
 use std::sync::Wait;
 use std::thread::Threads;
@@ -45,7 +45,7 @@ fn write_round<W: Write, L: FaultLog>(
 ///
 /// As [`write_round`], and `Memory`.
 fn convert_again<T: Threads + Wait + Sync, W: Write, G: Gate + Sync, L: FaultLog>(
-    setting: &Setting<'_, T, G>,
+    conversion: &Conversion<'_, T, G>,
     pieces: &RowPieces<'_, '_>,
     writer: &mut Counted<W>,
     log: &mut L,
@@ -57,8 +57,14 @@ fn convert_again<T: Threads + Wait + Sync, W: Write, G: Gate + Sync, L: FaultLog
     ensures stop { IfErr result (EndsInRound pieces.now W.contents writer.old writer.new
         (L.noted log.old) (L.noted log.new)) }
 {
-    let workers = setting.plan.workers();
-    match run_task(setting.rt, setting.alloc, pieces, workers, setting.gate) {
+    let workers = conversion.plan.workers();
+    match run_task(
+        conversion.rt,
+        conversion.alloc,
+        pieces,
+        workers,
+        conversion.gate,
+    ) {
         Ok(rows) => write_round(writer, pieces, &rows, log),
         Err(TaskStop::Memory(_)) => Err(RunStop::Memory),
         Err(TaskStop::NoThread | TaskStop::Fault(_, ())) => unreachable!(),
@@ -75,7 +81,7 @@ fn convert_again<T: Threads + Wait + Sync, W: Write, G: Gate + Sync, L: FaultLog
 ///
 /// As [`write_round`], and `Memory`.
 pub(crate) fn convert_round<T: Threads + Wait + Sync, W: Write, G: Gate + Sync, L: FaultLog>(
-    setting: &Setting<'_, T, G>,
+    conversion: &Conversion<'_, T, G>,
     pieces: &RowPieces<'_, '_>,
     writer: &mut Counted<W>,
     log: &mut L,
@@ -86,10 +92,16 @@ pub(crate) fn convert_round<T: Threads + Wait + Sync, W: Write, G: Gate + Sync, 
     ensures stop { IfErr result (EndsInRound pieces.now W.contents writer.old writer.new
         (L.noted log.old) (L.noted log.new)) }
 {
-    let workers = setting.plan.workers();
-    match run_task(setting.rt, setting.alloc, pieces, workers, setting.gate) {
+    let workers = conversion.plan.workers();
+    match run_task(
+        conversion.rt,
+        conversion.alloc,
+        pieces,
+        workers,
+        conversion.gate,
+    ) {
         Ok(rows) => write_round(writer, pieces, &rows, log),
-        Err(TaskStop::Fault(i, ())) => convert_again(setting, &pieces.up_to(i), writer, log),
+        Err(TaskStop::Fault(i, ())) => convert_again(conversion, &pieces.up_to(i), writer, log),
         Err(TaskStop::Memory(_)) => Err(RunStop::Memory),
         Err(TaskStop::NoThread) => unreachable!(),
     }

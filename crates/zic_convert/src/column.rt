@@ -3,14 +3,14 @@
 ghost use Rattle.std.specs.Prelude.{◌+◌, ◌≤◌, IfOk, length};
 ghost use Rattle.zic_convert.specs.Column.{AreRowsOfColumn};
 
+use crate::piece::{Piece, rows_of_piece};
 use crate::pieces::room_for;
-use crate::row::rows_of;
-use crate::row_files::RowFiles;
 use std::alloc::{AllocError, Global};
-use zic_columns::Split;
 use zic_columns::laws::column_records_are_read;
+use zic_columns::without_mark;
 use zic_files::Files;
-use zic_plan::RowKind;
+use zic_plan::{Header, Layout, RowKind};
+use zic_zones::{SourceZones, Zones};
 
 /// The rows of a column up to the first that has a fault: their text, their number, and that fault.
 #[derive(Drop)]
@@ -37,10 +37,16 @@ pub fn rows_of_column(
     ensures few { IfOk result (λ rows. rows.count ≤ length column.now + 1) }
 {
     column_records_are_read();
-    let files = RowFiles::new(alloc, files)?;
-    let split = Split::of_column(alloc, column)?;
-    let room = room_for(column.len());
-    let rows = rows_of(alloc, &files, max_rows, 1, room, split.records())?;
+    let zones = SourceZones::new(alloc, files)?;
+    let layout = Layout::plain(Header::Absent);
+    let piece = Piece {
+        bytes: without_mark(column),
+        zones: &zones.ready(),
+        layout: &layout,
+        first: 1,
+        most: max_rows,
+    };
+    let rows = rows_of_piece(alloc, &piece, room_for(column.len()))?;
     Ok(ColumnRows {
         text: rows.text,
         count: rows.count,

@@ -1,6 +1,6 @@
 //! Notes of the faults of rows.
 
-ghost use Rattle.zic_convert.specs.Log.{Notes};
+ghost use Rattle.zic_convert.specs.Run.{Notes};
 
 use zic_plan::{FaultLog, RowFault};
 

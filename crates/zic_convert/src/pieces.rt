@@ -6,13 +6,14 @@ ghost use Rattle.zic_columns.specs.declared.pieces.TheConstants.{MAX_ROUND_PIECE
 ghost use Rattle.zic_plan.specs.declared.plan.TheConstants.{MAX_ROWS};
 ghost use Rattle.zic_convert.specs.code.Pieces.{ArePieces, AreRowsOfPiece};
 
-use crate::row::{RowOrder, Rows, rows_by, rows_of};
-use crate::row_files::RowFiles;
+use crate::piece::{Piece, rows_of_piece};
+use crate::row::Rows;
 use std::alloc::{AllocError, Global};
 use std::marker::Model;
 use zic_columns::Round;
 use zic_pieces::{PieceStop, Task};
 use zic_plan::{Layout, Plan};
+use zic_zones::RowZones;
 
 /// The least room for the text of a piece that is taken at once, in bytes.
 const LEAST_ROOM: usize = 256;
@@ -25,7 +26,7 @@ const GREATEST_ROOM: usize = 4_194_304;
 #[derive(Drop)]
 pub(crate) struct RowPieces<'a, 's> {
     layout: &'a Layout,
-    files: &'a RowFiles<'s>,
+    zones: &'a RowZones<'s>,
     round: Round<'a>,
     first: u64,
     /// The greatest number that a row may have.
@@ -44,7 +45,7 @@ impl<'a, 's> Model for RowPieces<'a, 's> {
 
     ghost view = { λ p. record {
       layout = p.layout.now;
-      files = p.files.now;
+      files = p.zones.now;
       pieces = p.round;
       first = p.first;
       most = p.most;
@@ -54,7 +55,7 @@ impl<'a, 's> Model for RowPieces<'a, 's> {
 
     ghost invariant = { λ p. ArePieces (record {
       layout = p.layout.now;
-      files = p.files.now;
+      files = p.zones.now;
       pieces = p.round;
       first = p.first;
       most = p.most;
@@ -68,7 +69,7 @@ impl<'a, 's> RowPieces<'a, 's> {
     /// the run. The first record is the row of this number.
     pub(crate) fn new(
         layout: &'a Layout,
-        files: &'a RowFiles<'s>,
+        zones: &'a RowZones<'s>,
         round: Round<'a>,
         first: u64,
         plan: &Plan,
@@ -78,7 +79,7 @@ impl<'a, 's> RowPieces<'a, 's> {
         requires cut { ArePiecesOf plan.now.row_piece round }
         ensures pieces { result ≡ record {
           layout = layout.now;
-          files = files.now;
+          files = zones.now;
           pieces = round.entry;
           first = first;
           most = plan.now.max_rows;
@@ -89,7 +90,7 @@ impl<'a, 's> RowPieces<'a, 's> {
     {
         RowPieces {
             layout,
-            files,
+            zones,
             round,
             first,
             most: plan.max_rows(),
@@ -116,7 +117,7 @@ impl<'a, 's> RowPieces<'a, 's> {
     {
         RowPieces {
             layout: self.layout,
-            files: self.files,
+            zones: self.zones,
             round: self.round.front(i as usize + 1),
             first: self.first,
             most: self.most,
@@ -130,20 +131,14 @@ impl<'a, 's> RowPieces<'a, 's> {
         requires { i < length self.now.pieces }
         ensures { IfOk result (AreRowsOfPiece self.now i) }
     {
-        let first = self.first + i * self.size;
-        let room = room_for(self.round.piece(i as usize).len());
-        if self.layout.has_plain_rows() {
-            let split = self.round.split(alloc, i as usize)?;
-            return rows_of(alloc, self.files, self.most, first, room, split.records());
-        }
-        let split = self.round.split_entries(alloc, i as usize)?;
-        let order = RowOrder {
-            files: self.files,
+        let piece = Piece {
+            bytes: self.round.piece(i as usize),
+            zones: self.zones,
             layout: self.layout,
+            first: self.first + i * self.size,
             most: self.most,
-            first,
         };
-        rows_by(alloc, &order, room, split.entries())
+        rows_of_piece(alloc, &piece, room_for(piece.bytes.len()))
     }
 }
 

@@ -4,18 +4,21 @@ ghost use Rattle.std.specs.Prelude.{◌≡◌, ◌+◌, ◌^◌, ◌<◌, [], If
 ghost use Rattle.zic_columns.specs.Exchange.{exchanged};
 ghost use Rattle.zic_counted.specs.Written.{FailsWithin};
 ghost use Rattle.zic_plan.specs.declared.layout.RowStart.TheVariants as start;
-ghost use Rattle.zic_convert.specs.Column.{header_of};
+ghost use Rattle.zic_convert.specs.Column.{header_of, names_line};
 ghost use Rattle.zic_convert.specs.code.Pieces.{joined};
-ghost use Rattle.zic_convert.specs.code.Rest.{EndsAtHead};
-ghost use Rattle.zic_convert.specs.code.Written.{Wrote, WritesRows, EndsAtRow, IsStopAt};
+ghost use Rattle.zic_convert.specs.code.Written.{EndsAtHead, EndsInPieces, IsStopAt, Wrote, WroteRows};
 
 use crate::faulty::put_back;
 use crate::log::note_all;
 use crate::row::Rows;
 use std::alloc::AllocError;
 use std::io::Write;
+use zic_columns::exchange;
 use zic_counted::{Counted, WriteFailed};
-use zic_plan::{FaultLog, Layout, RowKind, RowStart, RunStop};
+use zic_plan::{FaultLog, Header, Layout, RowKind, RowStart, RunStop};
+
+/// The line of names before rows that begin with a name and an instant.
+const ROW_NAMES: &[u8; 48] = b"zone,instant,local,offset,daylight,abbreviation\n";
 
 /// The names of the fields that a row adds to its record.
 const ADDED_NAMES: &[u8; 35] = b",local,offset,daylight,abbreviation";
@@ -84,8 +87,32 @@ pub(crate) fn flush<W: Write>(writer: &mut Counted<W>) -> Result<(), RunStop>
     }
 }
 
-/// Writes the header before rows, by the own bytes of the column's header as [`header_line`] has them,
-/// and has the writer pass it on. Writes nothing where there is none.
+/// Writes the line of names before rows that begin with a name and an instant, where the layout has a
+/// header. Doesn't flush.
+///
+/// # Errors
+///
+/// `WriteFailed`.
+pub(crate) fn write_names<W: Write>(
+    writer: &mut Counted<W>,
+    layout: &Layout,
+) -> Result<(), RunStop>
+    ensures ok { OnOk result (Wrote W.contents writer.old writer.new (names_line layout.now)) }
+    ensures err { IfErr result (λ stop. (stop ≡ RunStop.WriteFailed)
+        × FailsWithin W.contents writer.old writer.new (names_line layout.now)) }
+{
+    match (layout.start, layout.header) {
+        (RowStart::Fields, Header::First) => {
+            let mut line = *ROW_NAMES;
+            exchange(&mut line, layout.delimiter.byte());
+            write_all(writer, &line)
+        }
+        _ => Ok(()),
+    }
+}
+
+/// Writes the column's own header before rows that begin with their records, by the header's own bytes
+/// as [`header_line`] has them, and has the writer pass it on. Writes nothing where there is none.
 ///
 /// # Errors
 ///
@@ -135,10 +162,10 @@ pub(crate) fn write_rows<W: Write, L: FaultLog>(
     log: &mut L,
 ) -> Result<u64, RunStop>
     requires { first + (joined pieces.now).count < 2 ^ 64 }
-    ensures ok { IfOk result (λ count. WritesRows W.contents writer.old writer.new
+    ensures ok { IfOk result (λ count. WroteRows W.contents writer.old writer.new
         (L.noted log.old) (L.noted log.new) (joined pieces.now) count) }
-    ensures err { IfErr result (EndsAtRow W.contents writer.old writer.new
-        (L.noted log.old) (L.noted log.new) first (joined pieces.now)) }
+    ensures err { IfErr result (EndsInPieces W.contents writer.old writer.new
+        (L.noted log.old) (L.noted log.new) first pieces.now) }
 {
     let mut count = 0;
     for rows in pieces {
