@@ -23,6 +23,9 @@ use Rattle.zic_convert.specs.code.Row.{wholes_in}
 use Rattle.zic_convert.specs.declared.halt.Halt.{Halt}
 use Rattle.zic_convert.specs.declared.halt.Halt.TheVariants as halt
 
+abbrev pub output : Option (List ℕ) → Option (List ℕ) → Option (List RowFault) → Option (List RowFault) → Output
+output held held' log log' = record { held = held; held' = held'; log = log; log' = log' }
+
 -- Where the bytes that are left of a column are known, these records come next, and then those of the bytes that are left then. Their
 -- own bytes have the delimiter put back.
 abbrev pub Takes : ℕ → Option (List ℕ) → Option (List ℕ) → List Whole → Type 0

@@ -96,10 +96,9 @@ columns_once one delimited answers = record {
   all = λ files most column a b fault other sound come then.
       (let same = one _ come.records then.records come.are then.are in
       once answers files sound most 1 come.records a b fault other come.rows (rw same then.rows));
-  body = λ files most column a b fault other sound come then.
-      (let same = one _ come.records then.records come.are then.are in
-      once answers files sound most 1 (drop 1 come.records) a b fault other come.rows (rw same then.rows));
   by = λ files layout most column a b fault other sound come then.
-      (let same = delimited layout.delimiter _ come.records then.records come.are then.are in
-      once_by answers files sound most layout 1 (drop (records_before layout.header) (beside (delimited_texts layout.delimiter (strip_bom column)) come.records)) a b fault other come.rows (rw same then.rows));
+      (let same = delimited layout.delimiter _ come.are.records then.are.records come.are.are then.are.are in
+      let wholes : come.wholes ≡ then.wholes = come.are.is
+      ∙ ap (λ (records : List (List (List ℕ))). drop (records_before layout.header) (beside (delimited_texts layout.delimiter (strip_bom column)) records)) same ∙ sym then.are.is in
+      once_by answers files sound most layout 1 come.wholes a b fault other come.rows (rw wholes then.rows));
 }

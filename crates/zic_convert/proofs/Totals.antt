@@ -1,12 +1,10 @@
 -- That all records come to rows, up to the first fault.
-use Rattle.std.proofs.Common.{◌≡◌, ◌+◌, ℕ, Bool, true, false, List, [], ◌∷◌, ◌++◌, length, Option, Some, None, inl, inr, refl, sym, ap, ◌∙◌, arith}
+use Rattle.std.proofs.Common.{◌≡◌, ◌+◌, ℕ, Bool, true, false, List, [], ◌∷◌, ◌++◌, length, Option, Some, None, inl, inr, refl, sym, arith}
 use Rattle.std.specs.Prelude.{All, Contains, bytes_eq, is_some, option_map}
-use Rattle.std.specs.List.{concat}
 use Rattle.std.specs.Cmp.Lexicographic.{bytes_decides}
 use Rattle.std.proofs.lemmas.Bool.{cases_Bool}
 use Rattle.std.proofs.lemmas.List.{append-nil}
 use Rattle.std.proofs.lemmas.List.Elements.{All-contains, Contains-append_right, Contains-get_or}
-use Rattle.std.proofs.lemmas.List.Folds.{concat-append}
 use Rattle.zic_base.specs.Check.{check, first_failed}
 use Rattle.zic_rows.specs.Count.{counted_rest_text, second_of}
 use Rattle.zic_columns.specs.Exchange.{exchanged}
@@ -14,8 +12,9 @@ use Rattle.zic_columns.specs.Own.{Whole}
 use Rattle.zic_files.specs.File.{File}
 use Rattle.zic_plan.specs.declared.layout.Layout.{Layout}
 use Rattle.zic_plan.specs.declared.stop.RowKind.{RowKind}
-use Rattle.zic_convert.specs.Rows.{is_named, is_row_instant}
-use Rattle.zic_convert.specs.LayoutRows.{ComeToBy, IsRowAt, IsRowBy, IsTextBy, count_in, ends_by, fault_by, faulty_text, start_text, zone_in}
+use Rattle.zic_zones.specs.Zones.{is_named, zone_in}
+use Rattle.zic_convert.specs.Rows.{is_row_instant}
+use Rattle.zic_convert.specs.LayoutRows.{ComeToBy, IsRowAt, IsRowBy, IsTextBy, count_in, ends_by, fault_by, faulty_text, start_text}
 use Rattle.zic_convert.specs.code.Row.{AreRowsOf, RowsOf}
 use Rattle.zic_convert.proofs.Coming.{come_after, come_more}
 use Rattle.zic_convert.proofs.Sounds.{IsKnown}
@@ -78,20 +77,14 @@ module _ (layout : Layout) (files : List File) (most : ℕ) (known : All IsKnown
   all_come number [] = ([], None, (refl, refl))
   all_come number (whole ∷ wholes) = row_first number whole wholes (ends_by layout files most number whole.fields) refl (all_come (number + 1) wholes)
 
-  more_by : (number : ℕ) (rs more : List Whole) (rows : RowsOf) (fault : Option RowKind) → rows.fault ≡ fault → AreRowsOf layout files most number rs rows
-      → (texts : List (List ℕ)) × (last : Option RowKind) × ComeToBy layout files most number (rs ++ more) texts last × (z : List ℕ) × (concat texts ≡ rows.text ++ z)
-  more_by number rs more rows (Some k) e are =
-      (are.texts, Some k, come_more layout files most number rs more are.texts k (rw e at are.come), [], sym are.text ∙ sym (append-nil rows.text))
+  more_by : (number : ℕ) (rs more : List Whole) (rows : RowsOf) (fault : Option RowKind) → rows.fault ≡ fault → (are : AreRowsOf layout files most number rs rows)
+      → (texts : List (List ℕ)) × (last : Option RowKind) × ComeToBy layout files most number (rs ++ more) texts last × (others : List (List ℕ)) × (texts ≡ are.texts ++ others)
+  more_by number rs more rows (Some k) e are = (are.texts, Some k, come_more layout files most number rs more are.texts k (rw e at are.come), [], sym (append-nil are.texts))
   more_by number rs more rows None e are =
-      let (texts, last, come) = all_come (number + length are.texts) more in (
-        are.texts ++ texts,
-        last,
-        come_after layout files most number rs more are.texts texts last (rw e at are.come) come,
-        concat texts,
-        concat-append are.texts texts ∙ ap (λ (l : List ℕ). l ++ concat texts) (sym are.text),
-      )
+      let (texts, last, come) = all_come (number + length are.texts) more in
+      (are.texts ++ texts, last, come_after layout files most number rs more are.texts texts last (rw e at are.come) come, texts, refl)
 
   -- rows of the first records, and what all come to
-  pub come_to_more : (number : ℕ) (rs more : List Whole) (rows : RowsOf) → AreRowsOf layout files most number rs rows
-      → (texts : List (List ℕ)) × (last : Option RowKind) × ComeToBy layout files most number (rs ++ more) texts last × (z : List ℕ) × (concat texts ≡ rows.text ++ z)
+  pub come_to_more : (number : ℕ) (rs more : List Whole) (rows : RowsOf) → (are : AreRowsOf layout files most number rs rows)
+      → (texts : List (List ℕ)) × (last : Option RowKind) × ComeToBy layout files most number (rs ++ more) texts last × (others : List (List ℕ)) × (texts ≡ are.texts ++ others)
   come_to_more number rs more rows are = more_by number rs more rows rows.fault refl are

@@ -30,10 +30,19 @@ module _ {W : Type 0} (contents : W → Option (List ℕ)) where
   wrote_both a b c xs ys first then = (appends-more (contents a.inner) (contents b.inner) (contents c.inner) xs ys first.0 then.0, then.1 ∙ first.1)
 
   -- some bytes, and then a failure within others
-  pub wrote_part : (a b c : Counts W) (xs ys more : List ℕ) → Wrote contents a b xs → FailsWithin contents b c ys → FailsWithin contents a c ((xs ++ ys) ++ more)
-  wrote_part a b c xs ys more first then = record {
+  pub fails_after : (a b c : Counts W) (xs ys more all : List ℕ) → all ≡ (xs ++ ys) ++ more → Wrote contents a b xs → FailsWithin contents b c ys → FailsAfter contents a c xs all
+  fails_after a b c xs ys more all is first then = record {
     part = xs ++ then.part;
-    starts = starts_later xs ys then.part more then.starts;
+    starts = subst (λ (l : List ℕ). StartsWith l (xs ++ then.part)) (sym is) (starts_later xs ys then.part more then.starts);
+    least = starts_with xs then.part;
+    wrote = appends-more (contents a.inner) (contents b.inner) (contents c.inner) xs then.part first.0 then.wrote;
+    failed = subst (λ (n : ℕ). HasFailedSince c n) first.1 then.failed;
+  }
+
+  pub fails_later : (a b c : Counts W) (xs ys : List ℕ) → Wrote contents a b xs → FailsWithin contents b c ys → FailsWithin contents a c (xs ++ ys)
+  fails_later a b c xs ys first then = record {
+    part = xs ++ then.part;
+    starts = subst (λ (l : List ℕ). StartsWith l (xs ++ then.part)) (append-nil (xs ++ ys)) (starts_later xs ys then.part [] then.starts);
     wrote = appends-more (contents a.inner) (contents b.inner) (contents c.inner) xs then.part first.0 then.wrote;
     failed = subst (λ (n : ℕ). HasFailedSince c n) first.1 then.failed;
   }
