@@ -1,12 +1,12 @@
 -- What a writer holds, and the start of a text.
-use Rattle.std.proofs.Common.{◌≡◌, ℕ, List, ◌++◌, length, drop, Option, sym, ap, subst, ◌∙◌, append_assoc}
-use Rattle.std.proofs.lemmas.List.{take-append-drop}
+use Rattle.std.proofs.Common.{◌≡◌, ℕ, List, [], ◌++◌, length, drop, Option, sym, ap, subst, ◌∙◌, append_assoc}
+use Rattle.std.proofs.lemmas.List.{append-nil, take-append-drop}
 use Rattle.std.proofs.Math.Seq.{take-append_seam}
 use Rattle.std.specs.Io.{StartsWith}
 use Rattle.csv.proofs.WriteFacts.{appends-more}
 use Rattle.zic_counted.specs.Counts.{Counts, HasFailedSince}
 use Rattle.zic_counted.specs.Written.{FailsWithin}
-use Rattle.zic_convert.specs.code.Written.{Wrote}
+use Rattle.zic_convert.specs.code.Written.{FailsAfter, Wrote}
 
 -- a text starts with what stands at its front
 pub starts_with : (part rest : List ℕ) → StartsWith (part ++ rest) part

@@ -1,43 +1,41 @@
 -- The header before rows, and the rows of a column after it.
-use Rattle.std.proofs.Common.{◌≡◌, ◌∙◌, ◌++◌, ℕ, true, List, [], Option, drop, refl, subst}
-use Rattle.std.proofs.lemmas.List.{append-nil}
+use Rattle.std.proofs.Common.{◌≡◌, ◌∙◌, ◌++◌, ◌⊎◌, ℕ, true, List, [], Option, Some, drop, map, inl, inr, refl, sym, ap, subst}
+use Rattle.std.proofs.lemmas.List.{append-nil, drop-map}
+use Rattle.std.specs.Io.{StartsWith}
 use Rattle.std.specs.Io.KnownBytes.{Appends}
-use Rattle.std.specs.Prelude.{All, IfErr, IfOk, IfSome, Result, Ok, Err, option_map}
+use Rattle.std.specs.List.{concat}
+use Rattle.std.specs.Prelude.{IfErr, IfOk, IfSome, Result, Ok, Err, option_map}
 use Rattle.csv.specs.Reading.{strip_bom}
+use Rattle.csv.proofs.WriteFacts.{appends-none}
 use Rattle.zic_columns.specs.Exchange.{exchanged}
 use Rattle.zic_columns.specs.Laws.{RecordsAreExchanged, TextsAreExchanged}
-use Rattle.zic_columns.specs.Own.{Whole, own_texts}
+use Rattle.zic_columns.specs.Own.{Whole, own_texts, whole_records}
 use Rattle.zic_counted.specs.Counts.{Counts}
 use Rattle.zic_counted.specs.Written.{FailsWithin}
+use Rattle.zic_tzif.specs.Laws.{FilesAnswerOnce}
 use Rattle.zic_files.specs.File.{File}
+use Rattle.zic_files.specs.Sound.{AreSoundFiles}
 use Rattle.zic_plan.specs.Delimiter.{is_delimiter}
 use Rattle.zic_plan.specs.Layout.{records_before}
 use Rattle.zic_plan.specs.declared.layout.Layout.{Layout}
 use Rattle.zic_plan.specs.declared.stop.RowFault.{RowFault}
 use Rattle.zic_plan.specs.declared.stop.RunStop.{RunStop}
 use Rattle.zic_plan.specs.declared.stop.RunStop.TheVariants as stop
-use Rattle.zic_convert.specs.Column.{ConvertsBy, header_of, header_text, own_header}
-use Rattle.zic_convert.specs.Convert.{WritesAllOf, WritesPartOf}
-use Rattle.zic_convert.specs.LayoutRows.{faults_by}
-use Rattle.zic_convert.specs.Log.{Notes, NotesAll, NotesPart}
-use Rattle.zic_convert.specs.Tree.{ConvertsAllBy}
-use Rattle.zic_convert.specs.code.Halt.{EndsAtHalt, IsCauseOfHalt, NotesAtHalt, NotesUntilHalt, WritesAtHalt}
-use Rattle.zic_convert.specs.code.Progress.{BeginsRows, RowsOfColumn, RowsOfRecords, faults_of_column, header_in}
-use Rattle.zic_convert.specs.code.Rest.{ConvertsRecords, ConvertsRest, EndsAtHead, HaltsAtHead, HaltsInRecords, HaltsInRest}
-use Rattle.zic_convert.specs.code.Row.{wholes_in}
-use Rattle.zic_convert.specs.code.Written.{Wrote}
+use Rattle.zic_convert.specs.Column.{AreRowRecords, header_of, own_header, own_line}
+use Rattle.zic_convert.specs.Run.{EndsAfterLines, EndsIn, Output, WritesRows}
+use Rattle.zic_convert.specs.code.Halt.{IsCauseOfHalt, stop_of}
+use Rattle.zic_convert.specs.code.Progress.{BeginsRows, ConvertsColumn, ConvertsRest, EndsInColumn, EndsInRest, HaltsAtHead, output, own_line_in}
+use Rattle.zic_convert.specs.code.Row.{put_back, wholes_in}
+use Rattle.zic_convert.specs.code.Written.{EndsAtHead, Wrote}
 use Rattle.zic_convert.specs.declared.halt.Halt.{Halt}
 use Rattle.zic_convert.specs.declared.halt.Halt.TheVariants as halt
-use Rattle.zic_convert.proofs.Bytes.{wrote_both, wrote_part}
-use Rattle.zic_convert.proofs.Delimited.{as_delimited, faults_delimited, header_delimited}
-use Rattle.zic_convert.proofs.Logs.{part_none}
+use Rattle.zic_convert.proofs.Below.{ends_below, rows_below}
+use Rattle.zic_convert.proofs.Bytes.{fails_later, starts_later, wrote_both}
+use Rattle.zic_convert.proofs.Delimited.{own_line_delimited, row_records}
+use Rattle.zic_convert.proofs.Logs.{notes_none}
 use Rattle.zic_convert.proofs.Options.{for_some, if_some}
-use Rattle.zic_convert.proofs.Progress.{all_as, all_below, begun_as, halt_as, halt_below, head_failed, made_as, unread_from}
-use Rattle.zic_convert.proofs.Sounds.{IsKnown}
-
--- the records that make rows
-abbrev wholes_after : Layout → List ℕ → List Whole
-wholes_after layout text = drop (records_before layout.header) (wholes_in layout.delimiter (strip_bom text))
+use Rattle.zic_convert.proofs.Sounds.{all_known}
+use Rattle.zic_convert.proofs.Totals.{all_come}
 
 module _ {W : Type 0} (contents : W → Option (List ℕ)) where
   -- a header was written, and then passed on
@@ -50,7 +48,7 @@ module _ {W : Type 0} (contents : W → Option (List ℕ)) where
       → IfErr result (EndsAtHead contents a c head)
   head_kept a b c head (Ok u) wrote failed = tt
   head_kept a b c head (Err why) wrote failed =
-      rw failed.0 (subst (λ (l : List ℕ). FailsWithin contents a c l) (append-nil (head ++ []) ∙ append-nil head) (wrote_part contents a b c head [] [] wrote failed.1))
+      rw failed.0 (subst (λ (l : List ℕ). FailsWithin contents a c l) (append-nil head) (fails_later contents a b c head [] wrote failed.1))
 
   module _ (old new : Counts W) (layout : Layout) (known : Option (List ℕ)) where
     -- a header was not written whole
@@ -78,61 +76,84 @@ module _ {W : Type 0} (contents : W → Option (List ℕ)) where
     cause_at_head (halt.Stop stop.ColumnTooLong) ends = absurd ends
     cause_at_head (halt.Stop stop.NoThread) ends = absurd ends
 
-    -- what was written and noted then
-    module _ (files : List File) (most : ℕ) (all_known : All IsKnown files) (log : Option (List RowFault)) where
-      none_written : IfSome known (λ column. WritesPartOf (header_in layout column) (RowsOfColumn layout files most column) (contents old.inner) (contents old.inner)
-          × NotesPart log log (faults_of_column layout files most column))
-      none_written = if_some known _ (λ column e.
-          (unread_from layout files most (wholes_after layout column) (header_in layout column) (contents old.inner) all_known, part_none log (faults_of_column layout files most column)))
-
-      pub halts_at_head : (why : Halt) → HaltsAtHead contents old new layout known why → HaltsInRecords layout most known why (contents old.inner) (contents new.inner) log log files
-      halts_at_head halt.Unread same = rw same none_written
-      halts_at_head (halt.Stop stop.Memory) same = rw same none_written
-      halts_at_head (halt.Stop stop.WriteFailed) failed = if_some known _ (λ column e. (
-        head_failed contents layout files most (wholes_after layout column) (header_in layout column) (header_in layout column) old new all_known refl (for_some known _ column failed.1 e),
-        part_none log (faults_of_column layout files most column),
-      ))
-      halts_at_head (halt.Stop (stop.Row row kind)) ends = absurd ends
-      halts_at_head (halt.Stop (stop.Source fault)) ends = absurd ends
-      halts_at_head (halt.Stop stop.ReadFailed) ends = absurd ends
-      halts_at_head (halt.Stop stop.ColumnTooLong) ends = absurd ends
-      halts_at_head (halt.Stop stop.NoThread) ends = absurd ends
-
--- the rest of a column was converted, once its header was written
-module _ (layout : Layout) (most : ℕ) (files : List File) (known left : Option (List ℕ)) (old mid new : Option (List ℕ)) (log last : Option (List RowFault))
-    (begins : IfSome known (λ column. BeginsRows layout.header column left)) (head : IfSome known (λ column. Appends old mid (header_in layout column))) where
-  pub converts_records : (n : ℕ) → ConvertsRest layout most left n mid new log last files → ConvertsRecords layout most known n old new log last files
-  converts_records = begun_as layout.delimiter known left
-      (λ (k : ℕ) (wholes : List Whole). WritesAllOf [] (RowsOfRecords layout files most wholes) k mid new × Notes log last (faults_by layout files most 1 wholes))
-      (λ (k : ℕ) (text : List ℕ). WritesAllOf (header_in layout text) (RowsOfColumn layout files most text) k old new × Notes log last (faults_of_column layout files most text))
-      layout.header begins (λ k text e w. (all_below (header_in layout text) (RowsOfColumn layout files most text) old mid new (for_some known _ text head e) k w.0, w.1))
-
-  pub halts_in_records : (why : Halt) → HaltsInRest layout most left why mid new log last files → HaltsInRecords layout most known why old new log last files
-  halts_in_records = begun_as layout.delimiter known left
-      (λ (why : Halt) (wholes : List Whole). WritesAtHalt [] (RowsOfRecords layout files most wholes) why mid new × NotesAtHalt why log last (faults_by layout files most 1 wholes))
-      (λ (why : Halt) (text : List ℕ). WritesAtHalt (header_in layout text) (RowsOfColumn layout files most text) why old new × NotesAtHalt why log last (faults_of_column layout files most text))
-      layout.header begins (λ why text e w. (halt_below (header_in layout text) (RowsOfColumn layout files most text) old mid new (for_some known _ text head e) why w.0, w.1))
+-- not even a header was written whole
+pub no_line : FilesAnswerOnce → (layout : Layout) (files : List File) (most : ℕ) → AreSoundFiles files → (head : List ℕ) (wholes : List Whole) (why : RunStop) (old new : Option (List ℕ)) (log : Option (List RowFault))
+    (part : List ℕ) → StartsWith head part → Appends old new part → ((part ≡ []) ⊎ (why ≡ stop.WriteFailed)) → EndsAfterLines layout files most head wholes why (output old new log log)
+no_line once layout files most sound head wholes why old new log part starts wrote exact =
+    let (texts, fault, come) = all_come layout files most (all_known files sound once) 1 wholes in
+    record {
+      texts = texts;
+      fault = fault;
+      come = come;
+      lines = 0;
+      part = part;
+      starts = starts_later [] head part (concat texts) starts;
+      least = refl;
+      exact = exact;
+      wrote = wrote;
+      noted = notes_none log;
+    }
 
 -- a column was converted in which the delimiter and commas are exchanged
-module _ (layout : Layout) (most : ℕ) (law : RecordsAreExchanged) (own_law : TextsAreExchanged) (can : is_delimiter layout.delimiter ≡ true) (known left : Option (List ℕ))
-    (is : left ≡ option_map (exchanged layout.delimiter) known) (old new : Option (List ℕ)) (log last : Option (List RowFault)) (files : List File) where
-  pub converts_by : (n : ℕ) → ConvertsRecords layout most left n old new log last files
-      → ConvertsAllBy layout most n (record { column = known; held = old; held' = new; log = log; log' = last }) files
-  converts_by = made_as known left (exchanged layout.delimiter) is
-      (λ (k : ℕ) (text : List ℕ). WritesAllOf (header_in layout text) (RowsOfColumn layout files most text) k old new × Notes log last (faults_of_column layout files most text))
-      (λ (k : ℕ) (text : List ℕ). WritesAllOf (header_text layout text) (ConvertsBy files layout most text) k old new × NotesAll files layout most text log last)
-      (λ k text w. (
-        subst (λ (h : List ℕ). WritesAllOf h (ConvertsBy files layout most text) k old new) (header_delimited layout own_law can text)
-            (all_as _ _ _ (as_delimited layout files most law own_law can text) _ _ k w.0),
-        (faults_of_column layout files most (exchanged layout.delimiter text), faults_delimited layout files most law own_law can text, w.1),
-      ))
+module _ (layout : Layout) (most : ℕ) (law : RecordsAreExchanged) (own_law : TextsAreExchanged) (can : is_delimiter layout.delimiter ≡ true) (known inside : Option (List ℕ))
+    (is : inside ≡ option_map (exchanged layout.delimiter) known) where
+  within : (column : List ℕ) → known ≡ Some column → inside ≡ Some (exchanged layout.delimiter column)
+  within column e = is ∙ ap (option_map (exchanged layout.delimiter)) e
 
-  pub halts_by : (why : Halt) → HaltsInRecords layout most left why old new log last files → EndsAtHalt layout most why (record { column = known; held = old; held' = new; log = log; log' = last }) files
-  halts_by = made_as known left (exchanged layout.delimiter) is
-      (λ (why : Halt) (text : List ℕ). WritesAtHalt (header_in layout text) (RowsOfColumn layout files most text) why old new × NotesAtHalt why log last (faults_of_column layout files most text))
-      (λ (why : Halt) (text : List ℕ). WritesAtHalt (header_text layout text) (ConvertsBy files layout most text) why old new × NotesUntilHalt files layout most text why log last)
-      (λ why text w. (
-        subst (λ (h : List ℕ). WritesAtHalt h (ConvertsBy files layout most text) why old new) (header_delimited layout own_law can text)
-            (halt_as _ _ _ (as_delimited layout files most law own_law can text) _ _ why w.0),
-        (faults_of_column layout files most (exchanged layout.delimiter text), faults_delimited layout files most law own_law can text, w.1),
-      ))
+  row_wholes : List ℕ → List Whole
+  row_wholes column = drop (records_before layout.header) (wholes_in layout.delimiter (strip_bom (exchanged layout.delimiter column)))
+
+  -- the rows of a column did not begin
+  module _ {W : Type 0} (contents : W → Option (List ℕ)) (once : FilesAnswerOnce) (old new : Counts W) (log : Option (List RowFault)) (files : List File) (sound : AreSoundFiles files) where
+    none_written : (why : RunStop) → IfSome known (λ column. (wholes : List Whole) × AreRowRecords layout column wholes
+        × EndsAfterLines layout files most (own_line layout column) wholes why (output (contents old.inner) (contents old.inner) log log))
+    none_written why = if_some known _ (λ column e. (
+      row_wholes column,
+      row_records layout law own_law can column,
+      no_line once layout files most sound (own_line layout column) (row_wholes column) why (contents old.inner) (contents old.inner) log [] refl (appends-none (contents old.inner)) (inl refl),
+    ))
+
+    pub ends_at_head : (why : Halt) → HaltsAtHead contents old new layout inside why → EndsInColumn layout most known (stop_of why) (output (contents old.inner) (contents new.inner) log log) files
+    ends_at_head halt.Unread same = rw same (none_written stop.ReadFailed)
+    ends_at_head (halt.Stop stop.Memory) same = rw same (none_written stop.Memory)
+    ends_at_head (halt.Stop stop.WriteFailed) failed = if_some known _ (λ column e.
+        let fails = for_some inside _ (exchanged layout.delimiter column) failed.1 (within column e) in
+        let same = own_line_delimited layout own_law can column in (
+          row_wholes column,
+          row_records layout law own_law can column,
+          no_line once layout files most sound (own_line layout column) (row_wholes column) stop.WriteFailed (contents old.inner) (contents new.inner) log fails.part
+              (subst (λ (l : List ℕ). StartsWith l fails.part) same fails.starts) fails.wrote (inr refl),
+        ))
+    ends_at_head (halt.Stop (stop.Row row kind)) ends = absurd ends
+    ends_at_head (halt.Stop (stop.Source fault)) ends = absurd ends
+    ends_at_head (halt.Stop stop.ReadFailed) ends = absurd ends
+    ends_at_head (halt.Stop stop.ColumnTooLong) ends = absurd ends
+    ends_at_head (halt.Stop stop.NoThread) ends = absurd ends
+
+  -- the rest of a column was converted, once its header was written
+  module _ (files : List File) (left : Option (List ℕ)) (old mid new : Option (List ℕ)) (log last : Option (List RowFault))
+      (begins : IfSome inside (λ bytes. BeginsRows layout.header bytes left)) (head : IfSome inside (λ bytes. Appends old mid (own_line_in layout bytes))) where
+    begun_as : (P : List Whole → Type 0) (Q : List ℕ → List Whole → Type 0)
+        → ((column : List ℕ) (wholes : List Whole) → Appends old mid (own_line layout column) → P wholes → Q column wholes)
+        → IfSome left (λ bytes. P (wholes_in layout.delimiter bytes)) → IfSome known (λ column. (wholes : List Whole) × AreRowRecords layout column wholes × Q column wholes)
+    begun_as P Q below p = if_some known _ (λ column e.
+        let d = layout.delimiter in
+        let k = records_before layout.header in
+        let text = exchanged d column in
+        let (rest, at, same) = for_some inside _ text begins (within column e) in
+        let all : wholes_in d rest ≡ drop k (wholes_in d (strip_bom text)) = ap (map (put_back d)) same ∙ sym (drop-map (put_back d) k (whole_records (strip_bom text))) in
+        let line = subst (λ (l : List ℕ). Appends old mid l) (own_line_delimited layout own_law can column) (for_some inside _ text head (within column e)) in (
+          drop k (wholes_in d (strip_bom text)),
+          row_records layout law own_law can column,
+          below column (drop k (wholes_in d (strip_bom text))) line (subst P all (for_some left _ rest p at)),
+        ))
+
+    pub converts_column : (n : ℕ) → ConvertsRest layout most left n (output mid new log last) files → ConvertsColumn layout most known n (output old new log last) files
+    converts_column n = begun_as (λ wholes. WritesRows layout files most [] wholes n (output mid new log last))
+        (λ column wholes. WritesRows layout files most (own_line layout column) wholes n (output old new log last))
+        (λ column wholes line w. rows_below layout files most wholes (own_line layout column) old mid new log last line n w)
+
+    pub ends_column : (why : RunStop) → EndsInRest layout most left why (output mid new log last) files → EndsInColumn layout most known why (output old new log last) files
+    ends_column why = begun_as (λ wholes. EndsIn layout files most [] wholes why (output mid new log last))
+        (λ column wholes. EndsIn layout files most (own_line layout column) wholes why (output old new log last))
+        (λ column wholes line w. ends_below layout files most wholes (own_line layout column) old mid new log last line why w)

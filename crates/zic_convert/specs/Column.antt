@@ -4,7 +4,7 @@ use Rattle.std.specs.List.{concat}
 use Rattle.csv.specs.Reading.{strip_bom}
 use Rattle.zic_columns.specs.Column.{AreColumnRecords}
 use Rattle.zic_columns.specs.Exchange.{AreDelimitedRecords, exchanged}
-use Rattle.zic_columns.specs.Own.{beside, delimited_texts, first_text}
+use Rattle.zic_columns.specs.Own.{Whole, beside, delimited_texts, first_text}
 use Rattle.zic_files.specs.File.{File}
 use Rattle.zic_plan.specs.Layout.{records_before}
 use Rattle.zic_plan.specs.declared.layout.Header.{Header}

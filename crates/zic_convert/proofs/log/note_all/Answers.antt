@@ -1,7 +1,7 @@
 use Rattle.std.proofs.Common.{List, subst}
 use Rattle.std.proofs.lemmas.List.{take_all}
 use Rattle.zic_plan.specs.declared.stop.RowFault.{RowFault}
-use Rattle.zic_convert.specs.Log.{Notes}
+use Rattle.zic_convert.specs.Run.{Notes}
 use Rattle.zic_convert.proofs.Logs.{notes_next, notes_none}
 use Rattle.zic_convert.proofs.log.note_all.Goals as goal
 

@@ -1,5 +1,5 @@
 use Rattle.std.proofs.Common.{take}
-use Rattle.zic_convert.specs.Log.{Notes}
+use Rattle.zic_convert.specs.Run.{Notes}
 use Rattle.zic_convert.proofs.log.note_all.Given as goal
 
 abbrev pub invariant-loop-fault : goal.invariant-loop-fault

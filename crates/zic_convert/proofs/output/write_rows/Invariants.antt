@@ -1,13 +1,14 @@
-use Rattle.std.proofs.Common.{ℕ, List, drop}
-use Rattle.zic_plan.specs.declared.stop.RowFault.{RowFault}
-use Rattle.zic_convert.specs.Log.{Notes}
+use Rattle.std.proofs.Common.{◌≡◌, None, take}
+use Rattle.zic_convert.specs.Run.{Notes}
 use Rattle.zic_convert.specs.code.Pieces.{joined}
 use Rattle.zic_convert.specs.code.Written.{Wrote}
-use Rattle.zic_convert.proofs.Writings.{IsLeft}
 use Rattle.zic_convert.proofs.output.write_rows.Given as goal
 
--- what was written and noted, and then the rows of the pieces that are left, is all
+-- the rows of the first pieces were written, their faults were noted, and none of them ends the run
 abbrev pub invariant-loop-rows : goal.invariant-loop-rows
-invariant-loop-rows g l =
-    (done : List ℕ) × (noted : List RowFault) × IsLeft (joined l.pieces) done noted l.count (joined (drop l.rows-index l.pieces))
-    × Wrote g.W.Write.contents l.fn.writer l.writer done × Notes (g.L.FaultLog.noted l.fn.log) (g.L.FaultLog.noted l.log) noted
+invariant-loop-rows g l = record {
+  goes_on : (joined (take l.rows-index l.pieces)).fault ≡ None;
+  count : l.count ≡ (joined (take l.rows-index l.pieces)).count;
+  wrote : Wrote g.W.Write.contents l.fn.writer l.writer (joined (take l.rows-index l.pieces)).text;
+  noted : Notes (g.L.FaultLog.noted l.fn.log) (g.L.FaultLog.noted l.log) (joined (take l.rows-index l.pieces)).faults;
+}
