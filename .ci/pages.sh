@@ -214,7 +214,7 @@ while IFS= read -r name; do
     [ ! -s "$work/unsaid" ] || differ "the explanation of $name lacks: $(head -n 1 "$work/unsaid")"
 done < <(sed -n 's/^## //p' docs/errors.txt)
 # Each name of an error in the sources of the program has an entry.
-kinds=(crates/zic_base/src/fault.rt crates/zic_plan/src/stop.rt crates/zic_tzif/src/reason.rt)
+kinds=(crates/zic_base/src/fault.rt crates/zic_base/src/row_fault.rt crates/zic_tzif/src/reason.rt)
 for kind in $(sed -n 's/^    \([A-Z][A-Za-z]*\) = [0-9]*,$/\1/p' "${kinds[@]}"); do
     grep -qx "## $kind" docs/errors.txt || differ "docs/errors.txt doesn't have $kind"
 done

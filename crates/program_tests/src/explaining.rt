@@ -2,9 +2,9 @@
 //! witness/calls/places.txt.
 
 use crate::samples::{expect_text, must};
-use zic_base::Kind;
+use zic_base::{Kind, RowKind};
 use zic_explain::{RecordForm, entries, expectation, line_place, nearest_zone, row_place};
-use zic_plan::{RowKind, Unit};
+use zic_plan::Unit;
 
 /// Two fields with a comma between them: the name of a zone and seconds.
 const FORM: RecordForm = RecordForm {

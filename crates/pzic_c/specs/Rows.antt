@@ -2,9 +2,9 @@
 use Rattle.std.specs.Prelude.{◌≡◌, ℕ, ◌+◌, ℤ, List, Option, Some, None}
 use Rattle.zic_convert.specs.Column.{AreRowsOfColumn}
 use Rattle.zic_files.specs.File.{File}
-use Rattle.zic_plan.specs.Stop.{row_kind_number}
+use Rattle.zic_base.specs.RowFault.{row_kind_number}
 use Rattle.zic_plan.specs.declared.plan.TheConstants.{MAX_ROWS}
-use Rattle.zic_plan.specs.declared.stop.RowKind.{RowKind}
+use Rattle.zic_base.specs.declared.row_fault.RowKind.{RowKind}
 use Rattle.pzic_c.specs.declared.rows.RowFault.{RowFault}
 use Rattle.pzic_c.specs.declared.status.TheConstants.{OK, NO_MEMORY, BAD_ROW}
 

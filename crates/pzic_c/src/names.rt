@@ -1,14 +1,16 @@
 //! The names of faults and reasons, as the program prints them.
 
 ghost use Rattle.std.specs.Prelude.{◌≡◌, MatchOption};
-ghost use Rattle.zic_names.specs.Names.{IsFaultName, IsReasonName};
+ghost use Rattle.zic_base.specs.FaultName.{IsFaultName};
+ghost use Rattle.zic_tzif.specs.Reason.{IsReasonName};
 ghost use Rattle.pzic_c.specs.declared.status.TheConstants.{NO_SUCH};
 ghost use Rattle.pzic_c.specs.Names.{IsNameTold};
 ghost use Rattle.pzic_c.specs.Text.{IsTextTold};
 
 use crate::copying::copy;
 use crate::status::{NO_SUCH, OK};
-use zic_names::{name_of_fault, name_of_reason};
+use zic_base::name_of_fault;
+use zic_tzif::name_of_reason;
 
 /// Copies a name, if there is one, as much as there is room for.
 fn tell(name: Option<&str>, room: &mut [u8], count: &mut usize) -> i32

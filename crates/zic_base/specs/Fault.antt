@@ -1,5 +1,6 @@
--- Faults of sources and zones. The number of each kind is own choice; 31 is not used.
-use Rattle.std.specs.Prelude.{◌≡◌, ℕ, List, Option, Some, None}
+-- Faults of sources and zones. The number and the name of each kind are own choice: 31 is not used, and each name is that of its
+-- variant.
+use Rattle.std.specs.Prelude.{◌≡◌, ℕ, List, Option, Some, None, codes}
 use Rattle.zic_base.specs.Check.{Check, first_failed}
 use Rattle.zic_base.specs.declared.place.Place.{Place}
 use Rattle.zic_base.specs.declared.fault.Fault.{Fault}
@@ -56,3 +57,39 @@ kind_number kind.PermanentDaylight = 30
 kind_number kind.TooManyChanges = 32
 kind_number kind.TooManyTypes = 33
 kind_number kind.TooManyChars = 34
+
+-- the word for a kind: its name
+abbrev pub kind_word : Kind → List ℕ
+kind_word kind.NotAscii = codes "NotAscii"
+kind_word kind.Quote = codes "Quote"
+kind_word kind.LineTooLong = codes "LineTooLong"
+kind_word kind.Keyword = codes "Keyword"
+kind_word kind.FieldCount = codes "FieldCount"
+kind_word kind.Name = codes "Name"
+kind_word kind.Year = codes "Year"
+kind_word kind.YearOrder = codes "YearOrder"
+kind_word kind.Reserved = codes "Reserved"
+kind_word kind.Month = codes "Month"
+kind_word kind.Day = codes "Day"
+kind_word kind.Time = codes "Time"
+kind_word kind.Save = codes "Save"
+kind_word kind.Letter = codes "Letter"
+kind_word kind.Offset = codes "Offset"
+kind_word kind.Format = codes "Format"
+kind_word kind.Until = codes "Until"
+kind_word kind.NoContinuation = codes "NoContinuation"
+kind_word kind.DuplicateName = codes "DuplicateName"
+kind_word kind.TooMany = codes "TooMany"
+kind_word kind.UnknownRules = codes "UnknownRules"
+kind_word kind.UnknownTarget = codes "UnknownTarget"
+kind_word kind.LinkCycle = codes "LinkCycle"
+kind_word kind.OffsetRange = codes "OffsetRange"
+kind_word kind.RulesOutOfOrder = codes "RulesOutOfOrder"
+kind_word kind.UntilNotRising = codes "UntilNotRising"
+kind_word kind.NoLetter = codes "NoLetter"
+kind_word kind.BadAbbreviation = codes "BadAbbreviation"
+kind_word kind.NoFooter = codes "NoFooter"
+kind_word kind.PermanentDaylight = codes "PermanentDaylight"
+kind_word kind.TooManyChanges = codes "TooManyChanges"
+kind_word kind.TooManyTypes = codes "TooManyTypes"
+kind_word kind.TooManyChars = codes "TooManyChars"

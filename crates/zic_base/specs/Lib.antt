@@ -1,5 +1,8 @@
 pub mod Place
 pub mod Fault
+pub mod RowFault
+pub mod FaultName
+pub mod RunStop
 pub mod Memory
 pub mod Option
 pub mod Check

@@ -79,13 +79,98 @@ pub enum Kind {
 }
 
 impl Kind {
-    ghost use Rattle.zic_base.specs.Fault.{kind_number};
+    ghost use Rattle.std.specs.Prelude.{◌≢◌, MatchOption};
+    ghost use Rattle.zic_base.specs.Fault.{kind_number, kind_word};
 
     /// Returns the number of the kind, 1 to 34; no kind has 31.
     pub fn number(self) -> u8
         ensures { result ≡ kind_number self }
     {
         self as u8
+    }
+
+    /// Returns the name of the kind, which is that of its variant.
+    pub fn name(self) -> &'static str
+        ensures { result.now ≡ kind_word self }
+    {
+        match self {
+            Kind::NotAscii => "NotAscii",
+            Kind::Quote => "Quote",
+            Kind::LineTooLong => "LineTooLong",
+            Kind::Keyword => "Keyword",
+            Kind::FieldCount => "FieldCount",
+            Kind::Name => "Name",
+            Kind::Year => "Year",
+            Kind::YearOrder => "YearOrder",
+            Kind::Reserved => "Reserved",
+            Kind::Month => "Month",
+            Kind::Day => "Day",
+            Kind::Time => "Time",
+            Kind::Save => "Save",
+            Kind::Letter => "Letter",
+            Kind::Offset => "Offset",
+            Kind::Format => "Format",
+            Kind::Until => "Until",
+            Kind::NoContinuation => "NoContinuation",
+            Kind::DuplicateName => "DuplicateName",
+            Kind::TooMany => "TooMany",
+            Kind::UnknownRules => "UnknownRules",
+            Kind::UnknownTarget => "UnknownTarget",
+            Kind::LinkCycle => "LinkCycle",
+            Kind::OffsetRange => "OffsetRange",
+            Kind::RulesOutOfOrder => "RulesOutOfOrder",
+            Kind::UntilNotRising => "UntilNotRising",
+            Kind::NoLetter => "NoLetter",
+            Kind::BadAbbreviation => "BadAbbreviation",
+            Kind::NoFooter => "NoFooter",
+            Kind::PermanentDaylight => "PermanentDaylight",
+            Kind::TooManyChanges => "TooManyChanges",
+            Kind::TooManyTypes => "TooManyTypes",
+            Kind::TooManyChars => "TooManyChars",
+        }
+    }
+
+    /// Returns the kind that has this number, if one has it.
+    pub(crate) fn of_number(number: u32) -> Option<Kind>
+        ensures { MatchOption result ((kind : Kind) → kind_number kind ≢ number)
+            (λ kind. kind_number kind ≡ number) }
+    {
+        Some(match number {
+            1 => Kind::NotAscii,
+            2 => Kind::Quote,
+            3 => Kind::LineTooLong,
+            4 => Kind::Keyword,
+            5 => Kind::FieldCount,
+            6 => Kind::Name,
+            7 => Kind::Year,
+            8 => Kind::YearOrder,
+            9 => Kind::Reserved,
+            10 => Kind::Month,
+            11 => Kind::Day,
+            12 => Kind::Time,
+            13 => Kind::Save,
+            14 => Kind::Letter,
+            15 => Kind::Offset,
+            16 => Kind::Format,
+            17 => Kind::Until,
+            18 => Kind::NoContinuation,
+            19 => Kind::DuplicateName,
+            20 => Kind::TooMany,
+            21 => Kind::UnknownRules,
+            22 => Kind::UnknownTarget,
+            23 => Kind::LinkCycle,
+            24 => Kind::OffsetRange,
+            25 => Kind::RulesOutOfOrder,
+            26 => Kind::UntilNotRising,
+            27 => Kind::NoLetter,
+            28 => Kind::BadAbbreviation,
+            29 => Kind::NoFooter,
+            30 => Kind::PermanentDaylight,
+            32 => Kind::TooManyChanges,
+            33 => Kind::TooManyTypes,
+            34 => Kind::TooManyChars,
+            _ => return None,
+        })
     }
 }
 

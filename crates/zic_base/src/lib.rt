@@ -1,19 +1,28 @@
-//! Types and texts that all crates share: places of lines, faults of sources and zones, short
-//! texts, the bytes of abbreviations, digits, states, and limits. The rows of `witness/rows` test it.
+//! Types and texts that all crates share: places of lines, faults of sources, zones and rows, why a
+//! run ends early, short texts, the bytes of abbreviations, digits, states, and limits. The rows of
+//! `witness/rows` test it.
 #![tactic(auto)]
 
 mod byte;
 mod digits;
 mod fault;
+mod fault_log;
+mod fault_name;
 mod limit;
 mod place;
+mod row_fault;
+mod run_stop;
 mod short_text;
 mod state;
 
 pub use byte::{are_abbreviation_bytes, is_abbreviation_byte};
 pub use digits::{clock_text, offset_text, two_digits};
 pub use fault::{Fault, Kind, Stop};
+pub use fault_log::{FaultLog, Unnoted};
+pub use fault_name::name_of_fault;
 pub use limit::{FARTHEST_FILE_OFFSET, LONGEST_ABBREVIATION, LONGEST_FILE, SHORTEST_ABBREVIATION};
 pub use place::Place;
+pub use row_fault::{RowFault, RowKind};
+pub use run_stop::RunStop;
 pub use short_text::ShortText;
 pub use state::State;

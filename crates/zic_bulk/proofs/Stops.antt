@@ -6,7 +6,7 @@ use Rattle.zic_base.specs.declared.fault.Stop.{Stop}
 use Rattle.zic_base.specs.declared.fault.Stop.TheVariants as stop
 use Rattle.zic_source.specs.FirstFault.{IsFirstFault, MayRunOutOfMemory}
 use Rattle.zic_bulk.specs.Build.{IsStopOfBuild}
-use Rattle.zic_plan.specs.Stop.{run_stop}
+use Rattle.zic_base.specs.RunStop.{run_stop}
 
 -- the texts can't be read
 pub reading_stop : (texts : List (List ℕ)) (e : Stop) → IfSome (fault_of e) (IsFirstFault texts) → IfNone (fault_of e) (MayRunOutOfMemory texts) → IsStopOfBuild texts (run_stop e)

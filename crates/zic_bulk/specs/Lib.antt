@@ -9,4 +9,5 @@ pub use Rattle.zic_table.specs.Image
 pub use Rattle.zic_files.specs.File
 pub use Rattle.zic_files.specs.Sound
 pub use Rattle.zic_plan.specs.Plan
-pub use Rattle.zic_plan.specs.Stop
+pub use Rattle.zic_base.specs.RowFault
+pub use Rattle.zic_base.specs.RunStop

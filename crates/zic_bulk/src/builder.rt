@@ -11,9 +11,10 @@ use crate::pieces::{ZonePieces, joined};
 use std::alloc::Global;
 use std::sync::Wait;
 use std::thread::Threads;
+use zic_base::RunStop;
 use zic_files::{Files, Image};
 use zic_pieces::{Gate, TaskStop, run_task};
-use zic_plan::{Plan, RunStop};
+use zic_plan::Plan;
 use zic_source::{Fault, Source, read_source};
 
 /// Returns the files of all Zone and Link lines of the texts, in the order of the texts and their

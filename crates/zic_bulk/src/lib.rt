@@ -11,7 +11,8 @@ mod pieces;
 
 pub use builder::build;
 pub use compiler::compile;
+pub use zic_base::{RowKind, RunStop};
 pub use zic_convert::convert;
 pub use zic_counted::Counted;
 pub use zic_files::Files;
-pub use zic_plan::{MAX_BYTES, MAX_OF_PIECE, MAX_ROWS, MAX_WORKERS, Plan, RowKind, RunStop};
+pub use zic_plan::{MAX_BYTES, MAX_OF_PIECE, MAX_ROWS, MAX_WORKERS, Plan};

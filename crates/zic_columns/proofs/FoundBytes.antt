@@ -19,17 +19,6 @@ module _ (test : ℕ → Bool) (bytes : List ℕ) where
   pub none_within : IsFirstByte test bytes None → All (λ byte. test byte ≡ false) bytes
   none_within none = let all : length bytes ≤ length bytes = omega arith in subst (All (λ byte. test byte ≡ false)) (take_all (length bytes) bytes all) (none_before (length bytes) all none)
 
-  pub at_first : (at : ℕ) → at < length bytes → bytes ≡ take at bytes ++ get_or bytes at 0 ∷ drop (at + 1) bytes
-  at_first at lt = sym (take-append-drop at bytes) ∙ ap (λ (rest : List ℕ). take at bytes ++ rest) (drop_more bytes at 0 lt)
-
-  pub split_first : (at : ℕ) → IsFirstByte test bytes (Some at) → slice_split test bytes ≡ take at bytes ∷ slice_split test (drop (at + 1) bytes)
-  split_first at first =
-      ap (slice_split test) (at_first at first.0.high)
-      ∙ slice_split_at test (take at bytes) (get_or bytes at 0) (drop (at + 1) bytes) (none_before at (omega (arith, first.0.high)) first.0.before) first.1
-
-  pub split_none : IsFirstByte test bytes None → slice_split test bytes ≡ bytes ∷ []
-  split_none none = slice_split_none test bytes (none_within none)
-
 quoteless : (bytes : List ℕ) → All (λ byte. (byte == 34) ≡ false) bytes → HasNoQuote bytes
 quoteless bytes all = All-weaker (λ byte. (byte == 34) ≡ false) (λ byte. byte ≢ 34) (λ byte no. eqb-false byte 34 no) bytes all
 

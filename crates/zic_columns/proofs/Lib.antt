@@ -14,12 +14,14 @@ pub mod Taking
 pub mod CutLaw
 pub mod Masks
 pub mod RecordCounts
-pub mod Pairs
 pub mod Passing
-pub mod PairFacts
+pub mod FieldFacts
 pub mod Exchanges
-pub mod Fields
 pub mod OwnFacts
 pub mod OwnLens
 pub mod Wholes
 pub mod Written
+pub mod OwnRecords
+pub mod Spans
+pub mod WalkFacts
+pub mod SplitFacts

@@ -45,7 +45,7 @@ ends_both s t a b first second = λ fields field.
 -- ---- a record of bytes
 
 -- a record that starts is read as a field that starts
-starts : (byte : ℕ) (more : List ℕ) (fields : List (List ℕ)) (field : List ℕ) → ends_line byte ≡ false
+pub starts : (byte : ℕ) (more : List ℕ) (fields : List (List ℕ)) (field : List ℕ) → ends_line byte ≡ false
     → next_record default_config st.StartRecord fields field (byte ∷ more) ≡ next_record default_config st.StartField fields field (byte ∷ more)
 unfolding next_record
 starts byte more fields field within = rw within refl
@@ -67,7 +67,7 @@ before_record st.InEscape bytes records before are = absurd (cc before)
 before_record st.InComment bytes records before are = absurd (cc before)
 
 -- the end of the bytes ends a record
-at_end : (p : Place) (fields : List (List ℕ)) (field : List ℕ) → next_record default_config (state_at p) fields field [] ≡ Some (fields ++ field ∷ [], st.StartRecord, [])
+pub at_end : (p : Place) (fields : List (List ℕ)) (field : List ℕ) → next_record default_config (state_at p) fields field [] ≡ Some (fields ++ field ∷ [], st.StartRecord, [])
 unfolding next_record
 at_end place.Start fields field = refl
 at_end place.Plain fields field = refl

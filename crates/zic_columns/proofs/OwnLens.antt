@@ -41,7 +41,7 @@ unfolding own_from
 own_nil = refl
 
 -- a record that begins is read as a field that begins
-starts : (byte : ℕ) (bytes : List ℕ) → ends_line byte ≡ false → own_texts (byte ∷ bytes) ≡ own_from default_config st.StartField [] (byte ∷ bytes)
+pub starts : (byte : ℕ) (bytes : List ℕ) → ends_line byte ≡ false → own_texts (byte ∷ bytes) ≡ own_from default_config st.StartField [] (byte ∷ bytes)
 unfolding own_from
 starts byte bytes within = rw within refl
 
@@ -51,7 +51,7 @@ from_start (byte ∷ bytes) more begins = starts byte (bytes ++ more) begins.beg
 
 -- ---- by the machine
 
-in_end : (s : State) → in_record s ≡ true → ends_at_end s ≡ true
+pub in_end : (s : State) → in_record s ≡ true → ends_at_end s ≡ true
 in_end st.StartRecord is = absurd (cc is)
 in_end st.StartField is = refl
 in_end st.InField is = refl
@@ -66,28 +66,28 @@ one_more : (s : State) (byte : ℕ) (own : List ℕ) → in_record s ≡ true �
 one_more s byte own is goes = rw (in_end (step default_config s byte).0 (stays s byte is goes)) refl
 
 -- one byte, by what it does
-next_ends : (s : State) (byte : ℕ) (fields : List (List ℕ)) (field bytes : List ℕ) → is_end (step default_config s byte).1 ≡ true
+pub next_ends : (s : State) (byte : ℕ) (fields : List (List ℕ)) (field bytes : List ℕ) → is_end (step default_config s byte).1 ≡ true
     → next_record default_config s fields field (byte ∷ bytes) ≡ took (fields_after (step default_config s byte).1 fields field) (step default_config s byte).0 bytes
 unfolding next_record
 next_ends s byte fields field bytes ends = rw ends refl
 
-next_goes : (s : State) (byte : ℕ) (fields : List (List ℕ)) (field bytes : List ℕ) → is_end (step default_config s byte).1 ≡ false
+pub next_goes : (s : State) (byte : ℕ) (fields : List (List ℕ)) (field bytes : List ℕ) → is_end (step default_config s byte).1 ≡ false
     → next_record default_config s fields field (byte ∷ bytes)
     ≡ next_record default_config (step default_config s byte).0 (fields_after (step default_config s byte).1 fields field) (field_after (step default_config s byte).1 byte field) bytes
 unfolding next_record
 next_goes s byte fields field bytes goes = rw goes refl
 
-own_then : (s : State) (byte : ℕ) (own bytes : List ℕ) → is_end (step default_config s byte).1 ≡ true
+pub own_then : (s : State) (byte : ℕ) (own bytes : List ℕ) → is_end (step default_config s byte).1 ≡ true
     → own_from default_config s own (byte ∷ bytes) ≡ own ∷ own_from default_config (step default_config s byte).0 [] bytes
 unfolding own_from
 own_then s byte own bytes ends = rw ends refl
 
-own_more : (s : State) (byte : ℕ) (own bytes : List ℕ) → in_record s ≡ true → is_end (step default_config s byte).1 ≡ false
+pub own_more : (s : State) (byte : ℕ) (own bytes : List ℕ) → in_record s ≡ true → is_end (step default_config s byte).1 ≡ false
     → own_from default_config s own (byte ∷ bytes) ≡ own_from default_config (step default_config s byte).0 (own ++ byte ∷ []) bytes
 unfolding own_from
 own_more s byte own bytes is goes = rw (goes, one_more s byte own is goes) refl
 
-own_last : (s : State) (own : List ℕ) → in_record s ≡ true → own_from default_config s own [] ≡ own ∷ []
+pub own_last : (s : State) (own : List ℕ) → in_record s ≡ true → own_from default_config s own [] ≡ own ∷ []
 unfolding own_from
 own_last s own is = rw (in_end s is) refl
 
@@ -111,7 +111,7 @@ field_line byte = cond_both (byte == 44) (st.StartField, act.EndField) (cond (en
     (λ _ no. absurd (cc no))
     (λ _. cond_both (ends_with term.CRLF byte) (after_end term.CRLF byte, act.EndRecord) (st.InField, act.Copy) (EndsLine byte) (λ yes _. yes) (λ _ no. absurd (cc no)))
 
-line_ends : (s : State) (byte : ℕ) → in_record s ≡ true → EndsLine byte (step default_config s byte)
+pub line_ends : (s : State) (byte : ℕ) → in_record s ≡ true → EndsLine byte (step default_config s byte)
 line_ends st.StartRecord byte is = absurd (cc is)
 line_ends st.StartField byte is = cond_both (byte == 34) (st.InQuoted, act.Skip) (in_field default_config byte) (EndsLine byte) (λ _ no. absurd (cc no)) (λ _. field_line byte)
 line_ends st.InField byte is = field_line byte
@@ -185,12 +185,6 @@ own_unended s own fields all field (byte ∷ a) t is reads =
     ∙ ap (λ (b : List ℕ). b ∷ []) (append_assoc own (byte ∷ []) a))
     (cases_Bool (is_end to.1))
 
-place_in : (p : Place) → in_record (state_at p) ≡ true
-place_in place.Start = refl
-place_in place.Plain = refl
-place_in place.Quoted = refl
-place_in place.QuoteSeen = refl
-
 -- a letter after the bytes of a record is read with it
 letter_last : (p : Place) (fields : List (List ℕ)) (field : List ℕ) → (all : List (List ℕ)) × (next_record default_config (state_at p) fields field (97 ∷ []) ≡ took all st.StartRecord [])
 unfolding next_record
@@ -230,92 +224,6 @@ quoted_ended bytes len begins is =
           ap own_texts (sym (take-append-drop len bytes)) ∙ from_start (take len bytes) rest starts_so ∙ own.4 rest
           ∙ ap (λ (t : List (List ℕ)). own.0 ∷ t) (own_before e.1 rest e.2 ∙ sym (own_end own.1 rest own.3) ∙ ap own_texts (sym after))
           ∙ ap (λ (b : List ℕ). b ∷ own_texts (drop (len - 1) bytes)) (sym front);
-    }
-
--- ---- by a search
-
--- in a record without a double quote: at the start of a field, or in one
-abbrev plain_state : Bool → State
-plain_state true = st.StartField
-plain_state false = st.InField
-
--- a byte of such a record
-abbrev IsPlain : ℕ → Type 0
-IsPlain byte = is_byte3 13 10 34 byte ≡ false
-
-three : (a b c : Bool) → (a || b || c) ≡ false → ((a || b) ≡ false) × (c ≡ false)
-three false false c none = (refl, none)
-three true b c none = absurd (cc none)
-three false true c none = absurd (cc none)
-
-two : (a b c : Bool) → (a || b || c) ≡ true → c ≡ false → (a || b) ≡ true
-two true b c some none = refl
-two false true c some none = refl
-two false false c some none = absurd (both_ways c none some)
-
-plain_in : (c : Bool) → in_record (plain_state c) ≡ true
-plain_in true = refl
-plain_in false = refl
-
-plain_step : (c d : Bool) (byte : ℕ) (own bytes : List ℕ) → IsPlain byte → (byte == 44) ≡ d
-    → own_from default_config (plain_state c) own (byte ∷ bytes) ≡ own_from default_config (plain_state d) (own ++ byte ∷ []) bytes
-unfolding own_from
-plain_step true true byte own bytes plain comma = let (line, quote) = three (byte == 13) (byte == 10) (byte == 34) plain in rw (quote, comma) refl
-plain_step true false byte own bytes plain other = let (line, quote) = three (byte == 13) (byte == 10) (byte == 34) plain in rw (quote, other, line) refl
-plain_step false true byte own bytes plain comma = rw comma refl
-plain_step false false byte own bytes plain other = let (line, quote) = three (byte == 13) (byte == 10) (byte == 34) plain in rw (other, line) refl
-
-plain_reads : (c : Bool) (own a : List ℕ) → All IsPlain a
-    → (d : Bool) × ((more : List ℕ) → own_from default_config (plain_state c) own (a ++ more) ≡ own_from default_config (plain_state d) (own ++ a) more)
-plain_reads c own [] plain = (c, λ more. ap (λ (b : List ℕ). own_from default_config (plain_state c) b more) (sym (append-nil own)))
-plain_reads c own (byte ∷ a) plain =
-    let later = plain_reads (byte == 44) (own ++ byte ∷ []) a (All-tail IsPlain byte a plain) in (
-      later.0,
-      λ more. plain_step c (byte == 44) byte own (a ++ more) (All-head IsPlain byte a plain) refl ∙ later.1 more
-          ∙ ap (λ (b : List ℕ). own_from default_config (plain_state later.0) b more) (append_assoc own (byte ∷ []) a),
-    )
-
-not_quote : (byte : ℕ) → ends_line byte ≡ true → (byte == 34) ≡ false
-not_quote byte ends = ne_eqb byte 34 (λ same. both_ways (ends_line 34) refl (subst (λ (b : ℕ). ends_line b ≡ true) same ends))
-
--- a line end ends it
-end_plain : (c : Bool) (byte : ℕ) → ends_line byte ≡ true → is_end (step default_config (plain_state c) byte).1 ≡ true
-end_plain true byte ends = rw (not_quote byte ends, no_comma byte ends, ends) refl
-end_plain false byte ends = rw (no_comma byte ends, ends) refl
-
-plain_end : (c : Bool) (byte : ℕ) (own bytes : List ℕ) → ends_line byte ≡ true
-    → own_from default_config (plain_state c) own (byte ∷ bytes) ≡ own ∷ own_texts bytes
-plain_end c byte own bytes ends =
-    ⊎_elim
-    (λ (is : is_end (step default_config (plain_state c) byte).1 ≡ true).
-    own_then (plain_state c) byte own bytes is ∙ ap (λ (t : List (List ℕ)). own ∷ t) (own_before (step default_config (plain_state c) byte).0 bytes (step_before (plain_state c) byte is)))
-    (λ (goes : is_end (step default_config (plain_state c) byte).1 ≡ false). absurd (both_ways _ goes (end_plain c byte ends)))
-    (cases_Bool (is_end (step default_config (plain_state c) byte).1))
-
-pub plain_unended : (bytes : List ℕ) → BeginsRecord bytes → IsFirstByte (is_byte3 13 10 34) bytes None → IsOwnLen bytes (length bytes)
-plain_unended bytes begins none =
-    let reads = plain_reads true [] bytes (none_within (is_byte3 13 10 34) bytes none) in
-    let all = take_all (length bytes) bytes (omega arith) in
-    let nothing = drop_all (length bytes) bytes (omega arith) in
-    record {
-      within = omega arith;
-      first = ap own_texts (sym (append-nil bytes)) ∙ from_start bytes [] begins ∙ reads.1 [] ∙ own_last (plain_state reads.0) bytes (plain_in reads.0)
-          ∙ ap (λ (b : List ℕ). b ∷ []) (sym all) ∙ ap (λ (t : List (List ℕ)). take (length bytes) bytes ∷ t) (sym (ap own_texts nothing ∙ own_nil));
-    }
-
-pub plain_ended : (bytes : List ℕ) (at : ℕ) → BeginsRecord bytes → IsFirstByte (is_byte3 13 10 34) bytes (Some at) → (get_or bytes at 0 ≡ 34 → ⊥) → IsOwnLen bytes at
-plain_ended bytes at begins found other =
-    let byte = get_or bytes at 0 in
-    let high : at < length bytes = found.0.high in
-    let ends : ends_line byte ≡ true = two (byte == 13) (byte == 10) (byte == 34) found.1 (ne_eqb byte 34 other) in
-    let reads = plain_reads true [] (take at bytes) (none_before (is_byte3 13 10 34) bytes at (omega (arith, high)) found.0.before) in
-    let rest : drop at bytes ≡ byte ∷ drop (suc at) bytes = drop-cons bytes at 0 high in
-    let parts : take at bytes ++ byte ∷ drop (suc at) bytes ≡ bytes = ap (λ (b : List ℕ). take at bytes ++ b) (sym rest) ∙ take-append-drop at bytes in
-    record {
-      within = omega (arith, high);
-      first = ap own_texts (sym (append-nil bytes)) ∙ from_start bytes [] begins ∙ ap (own_from default_config st.StartField []) (append-nil bytes ∙ sym parts) ∙ reads.1 (byte ∷ drop (suc at) bytes)
-          ∙ plain_end reads.0 byte (take at bytes) (drop (suc at) bytes) ends
-          ∙ ap (λ (t : List (List ℕ)). take at bytes ∷ t) (sym (ap own_texts rest ∙ own_end byte (drop (suc at) bytes) ends));
     }
 
 -- ---- the first record

@@ -102,7 +102,3 @@ records-once cfg s xs (fields ∷ records) (fields' ∷ records') first second =
 
 pub records-one : (s : State) (xs : List ℕ) (a b : List (List (List ℕ))) → AreRecords default_config s xs a → AreRecords default_config s xs b → a ≡ b
 records-one s xs a b first second = records-once default_config s xs a b first second
-
--- at a line end that stands before bytes
-pub records-before : (byte : ℕ) (bytes : List ℕ) (records : List (List (List ℕ))) → ends_line byte ≡ true → AreColumnRecords (byte ∷ bytes) records → AreColumnRecords bytes records
-records-before byte bytes records ends are = records-same st.StartRecord st.StartRecord bytes (byte ∷ bytes) records (sym (record-end byte bytes ends)) are

@@ -1,19 +1,19 @@
 -- What comes first of the records of bytes, where rounds are taken.
-use Rattle.std.proofs.Common.{◌≡◌, ◌⊎◌, ℕ, ◌-◌, ◌<◌, ◌≤◌, Bool, true, false, cond, List, [], ◌∷◌, ◌++◌, length, take, drop, Option, Some, None, IfSome, refl, sym, ap, ◌∙◌, arith, subst, ⊎_elim, append_assoc}
-use Rattle.std.proofs.lemmas.List.{append-nil, length-drop, length-take, nil_from_length, take-append-drop, take-take, take_all}
-use Rattle.std.proofs.lemmas.Bool.{cases_lt}
+use Rattle.std.proofs.Common.{◌≡◌, ◌⊎◌, ℕ, ◌-◌, ◌≤◌, Bool, true, false, cond, List, [], ◌∷◌, ◌++◌, length, take, drop, Option, Some, None, IfSome, refl, sym, ap, ◌∙◌, arith, subst, ⊎_elim, append_assoc}
+use Rattle.std.proofs.lemmas.List.{append-nil, length-append, length-drop, length-take, nil_from_length, take-append-drop, take-take, take_all}
+use Rattle.std.proofs.KnownBytes.{Consumes-nil, Consumes-trans}
 use Rattle.std.specs.Io.KnownBytes.{IsAtEnd, Keeps, prepend_known}
 use Rattle.csv.specs.Reading.{is_bom, strip_bom}
 use Rattle.zic_columns.specs.Column.{AreWholeRecords, column_records}
 use Rattle.zic_columns.specs.Own.{Whole, whole_records}
-use Rattle.zic_columns.specs.Round.{HasNoRecord, wholes_of}
+use Rattle.zic_columns.specs.Round.{ColumnOf, HasNoRecord, StaysWithin, TakesOf, may_take, wholes_of}
 use Rattle.zic_columns.specs.code.Hand.{AreSomeRecords, CanBeCut, Takes}
 use Rattle.zic_columns.specs.code.Cutting.{IsCut}
+use Rattle.zic_columns.specs.code.Mark.{ShowsMark}
 use Rattle.zic_columns.specs.code.Range.{pieces_at}
 use Rattle.zic_columns.specs.declared.pieces.Cut.{Cut}
 use Rattle.zic_columns.specs.declared.pieces.PieceRange.{PieceRange}
 use Rattle.zic_columns.proofs.Cuts.{pieces_cut}
-use Rattle.zic_columns.proofs.MarkFacts.{mark_shown}
 use Rattle.zic_columns.proofs.Wholes.{none_of_wholes, wholes_cut, wholes_joined, wholes_none}
 
 -- bytes that stay have no record taken
@@ -106,6 +106,24 @@ takes_blank held None count whole none = tt
 takes_blank held (Some rest) count whole none =
     (drop count held ++ rest, refl, whole_taken held rest count whole ∙ ap (λ (r : List Whole). r ++ whole_records (drop count held ++ rest)) (wholes_none (take count held) none))
 
+-- ---- the limit
+
+-- some bytes were taken of a reader, and then some more
+takes_of_both : (old mid new : Option (List ℕ)) (most less least : ℕ) → TakesOf old mid most less → TakesOf mid new less least → TakesOf old new most least
+takes_of_both old mid new most less least first next = (
+  first.0 ++ next.0,
+  Consumes-trans old mid new first.0 next.0 first.1 next.1,
+  omega (arith, length-append first.0 next.0, first.2, next.2),
+)
+
+module _ {R : Type 0} (remaining : R → Option (List ℕ)) where
+  pub within_none : (column : ColumnOf R) → StaysWithin remaining column column
+  within_none column = ([], Consumes-nil (remaining column.reader), omega arith)
+
+  pub within_both : (old mid new : ColumnOf R) → StaysWithin remaining old mid → StaysWithin remaining mid new → StaysWithin remaining old new
+  within_both old mid new first next = takes_of_both (remaining old.reader) (remaining mid.reader) (remaining new.reader)
+      (may_take old.past old.left) (may_take mid.past mid.left) (may_take new.past new.left) first next
+
 -- ---- the mark
 
 -- a text without its mark is its end
@@ -126,18 +144,17 @@ unmarked_shorter bytes = omega (arith, ap length (unmarked_end bytes), length-dr
 
 -- the column without its mark, by the bytes in hand without theirs
 pub mark_dropped : (column come : Option (List ℕ)) (held : List ℕ) → Keeps column (prepend_known held come)
-    → (length held < 3 → IsAtEnd come)
+    → ShowsMark held ⊎ IsAtEnd come
     → IfSome column (λ bytes. prepend_known (drop (length held - length (strip_bom held)) held) come ≡ Some (strip_bom bytes))
 mark_dropped None come held keeps shows = tt
 mark_dropped (Some bytes) None held keeps shows = absurd keeps
 mark_dropped (Some bytes) (Some rest) held keeps shows =
     ap (λ (b : List ℕ). Some (b ++ rest)) (unmarked_end held) ∙ ⊎_elim
-    (λ (few : length held < 3).
-    let none = shows few in
+    (λ (shown : ShowsMark held). ap Some (sym (shown rest) ∙ ap strip_bom keeps))
+    (λ (none : rest ≡ []).
     let text : bytes ≡ held = sym keeps ∙ ap (λ (r : List ℕ). held ++ r) none ∙ append-nil held in
     ap Some (ap (λ (r : List ℕ). strip_bom held ++ r) none ∙ append-nil (strip_bom held) ∙ ap strip_bom (sym text)))
-    (λ (many : 3 ≤ length held). ap Some (sym (mark_shown held rest many) ∙ ap strip_bom keeps))
-    (cases_lt (length held) 3)
+    shows
 
 -- a text that is as long without its mark has none
 pub same_unmarked : (bytes : List ℕ) → length (strip_bom bytes) ≡ length bytes → strip_bom bytes ≡ bytes

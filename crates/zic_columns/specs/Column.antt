@@ -1,7 +1,7 @@
 -- The records of a column, by the machine of the crate csv with its defaults: fields end at
 -- commas, and a carriage return, a line feed or both end a record. A byte order mark at the start
 -- of a column is dropped before.
-use Rattle.std.specs.Prelude.{◌≡◌, ◌≢◌, ◌+◌, ℕ, Bool, true, false, ◌||◌, ◌==◌, List, [], ◌∷◌, ◌++◌, map, filter, All}
+use Rattle.std.specs.Prelude.{◌≡◌, ◌≢◌, ℕ, Bool, true, false, ◌||◌, ◌==◌, List, [], ◌∷◌, ◌++◌, map, filter, All}
 use Rattle.std.specs.List.{slice_split}
 use Rattle.csv.specs.Machine.{ends_at_end, step}
 use Rattle.csv.specs.Reading.{AreRecords, default_config, records}

@@ -1,10 +1,11 @@
 -- Laws about the records of a column.
-use Rattle.std.specs.Prelude.{◌≡◌, ℕ, List, ◌++◌, length, map}
+use Rattle.std.specs.Prelude.{◌≡◌, ℕ, List, [], ◌∷◌, ◌++◌, All, length, map}
 use Rattle.csv.specs.Reading.{strip_bom}
 use Rattle.csv.specs.Writing.{default_writer, row_text, with_delimiter}
 use Rattle.zic_columns.specs.Column.{AreColumnRecords, AreWholeRecords, HasNoQuote, StandsBeforeRecord, column_records, plain_records}
 use Rattle.zic_columns.specs.Exchange.{AreDelimitedRecords, CanDelimit, exchanged}
 use Rattle.zic_columns.specs.Own.{Whole, beside, delimited_texts, own_texts, whole_records}
+use Rattle.zic_columns.specs.Record.{whole_of}
 use Rattle.zic_columns.specs.Round.{records_of, wholes_of}
 
 -- a CSV reader gives bytes these records
@@ -69,3 +70,11 @@ BesideIsKept = (f : List ℕ → List ℕ) (g : List (List ℕ) → List (List �
 abbrev pub RowsAreExchanged : Type 0
 RowsAreExchanged = (delimiter : ℕ) (fields : List (List ℕ)) → CanDelimit delimiter
     → exchanged delimiter (row_text default_writer fields) ≡ row_text (with_delimiter default_writer delimiter) (map (exchanged delimiter) fields)
+
+-- Each record's own bytes alone are that record.
+abbrev pub OwnBytesAreRecords : Type 0
+OwnBytesAreRecords = (bytes : List ℕ) → All (λ (w : Whole). column_records w.own ≡ w.fields ∷ []) (whole_records bytes)
+
+-- So the records of a column are those of their own bytes, each by itself.
+abbrev pub RecordsAreOfOwnBytes : Type 0
+RecordsAreOfOwnBytes = (bytes : List ℕ) → whole_records bytes ≡ map whole_of (own_texts bytes)

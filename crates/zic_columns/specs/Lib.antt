@@ -2,7 +2,6 @@ pub mod Column
 pub mod Record
 pub mod Round
 pub mod Exchange
-pub mod Wide
 pub mod Own
 pub mod Laws
 pub mod code

@@ -1,6 +1,6 @@
 -- The own bytes of each record, as they stand in a column: with its delimiters and double quotes, without the line ends before it and
 -- after it.
-use Rattle.std.specs.Prelude.{◌≡◌, ℕ, List, [], ◌∷◌, ◌++◌, Option, MatchOption, if◌then◌else◌}
+use Rattle.std.specs.Prelude.{ℕ, List, [], ◌∷◌, ◌++◌, if◌then◌else◌}
 use Rattle.csv.specs.Machine.{ends_at_end, is_end, step}
 use Rattle.csv.specs.Reading.{default_config}
 use Rattle.csv.specs.declared.parser.Config.{Config}
@@ -8,8 +8,6 @@ use Rattle.csv.specs.declared.parser.State.{State}
 use Rattle.csv.specs.declared.parser.State.TheVariants as st
 use Rattle.zic_columns.specs.Column.{column_records}
 use Rattle.zic_columns.specs.Exchange.{config_of}
-use Rattle.zic_columns.specs.Wide.{wide_fields}
-use Rattle.zic_columns.specs.declared.own.Entry.{Entry}
 
 -- The own bytes of a record so far, after one more byte, which leads the machine to a state. Within a record the byte joins them; before
 -- one there are none. (`ends_at_end`: the machine is within a record, which the end of the column would end.)
@@ -54,11 +52,3 @@ beside (own ∷ texts) (fields ∷ records) = record { own = own; fields = field
 -- the records of a column, each with its own bytes
 abbrev pub whole_records : List ℕ → List Whole
 whole_records bytes = beside (own_texts bytes) (column_records bytes)
-
--- the record of an entry
-abbrev pub whole_of : Entry → Whole
-whole_of entry = record { own = entry.text.now; fields = wide_fields entry.fields }
-
--- a step gives the first of the records, and leaves the others
-abbrev pub YieldsEntry : List Whole → Option Entry → List Whole → Type 0
-YieldsEntry records given others = MatchOption given ((records ≡ []) × (others ≡ [])) (λ first. records ≡ whole_of first ∷ others)

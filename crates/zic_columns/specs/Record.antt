@@ -1,14 +1,64 @@
--- The records that an iterator over a column's bytes gives.
-use Rattle.std.specs.Prelude.{◌≡◌, ◌≢◌, ℕ, List, [], ◌∷◌, Option, length, MatchOption}
-use Rattle.zic_columns.specs.declared.entry.Record.{Record}
-use Rattle.zic_columns.specs.declared.entry.Record.TheVariants.{Pair, Other}
+-- The records of a piece: where their bytes stand, and the fields that rows need.
+use Rattle.std.specs.Prelude.{◌≡◌, ◌≤◌, ℕ, List, [], ◌∷◌, Option, None, Some, length, slice_index_or, slice_range}
+use Rattle.zic_columns.specs.Column.{column_records}
+use Rattle.zic_columns.specs.Own.{Whole, first_text}
+use Rattle.zic_columns.specs.declared.fields.Field.{Field}
+use Rattle.zic_columns.specs.declared.fields.Field.TheVariants.{Plain, Quoted}
+use Rattle.zic_columns.specs.declared.fields.Record.{Record}
+use Rattle.zic_columns.specs.declared.fields.Span.{Span}
+use Rattle.zic_columns.specs.declared.fields.Wanted.{Wanted}
 
--- the fields are these two, or are not two
-abbrev pub IsRecord : Record → List (List ℕ) → Type 0
-IsRecord (Pair name instant) fields = fields ≡ name.now ∷ instant.now ∷ []
-IsRecord Other fields = length fields ≢ 2
+-- the fields of the first of records, and none where there is no record
+abbrev pub first_fields : List (List (List ℕ)) → List (List ℕ)
+first_fields [] = []
+first_fields (fields ∷ records) = fields
 
--- a step gives the first of the records, and leaves the others
-abbrev pub YieldsRecord : List (List (List ℕ)) → Option Record → List (List (List ℕ)) → Type 0
-YieldsRecord records given others = MatchOption given ((records ≡ []) × (others ≡ []))
-    (λ first. (fields : List (List ℕ)) × (records ≡ fields ∷ others) × IsRecord first fields)
+-- the record of some own bytes: its fields are those that a CSV reader gives of these bytes alone
+abbrev pub whole_of : List ℕ → Whole
+whole_of own = record { own = own; fields = first_fields (column_records own) }
+
+-- the span is one of the piece
+abbrev pub IsWithin : List ℕ → Span → Type 0
+IsWithin piece span = (span.start ≤ span.end) × (span.end ≤ length piece)
+
+-- the bytes of the piece that stand there
+abbrev pub bytes_at : List ℕ → Span → List ℕ
+bytes_at piece span = slice_range piece span.start span.end
+
+-- the field stands within the piece
+abbrev pub StandsIn : List ℕ → Field → Type 0
+StandsIn piece (Plain span) = IsWithin piece span
+StandsIn piece (Quoted span) = IsWithin piece span
+
+-- the text of the first field that a CSV reader gives of these bytes alone, and no bytes where there is none
+abbrev pub text_alone : List ℕ → List ℕ
+text_alone bytes = first_text (first_fields (column_records bytes))
+
+-- The text of a field: its bytes, or of a field with double quotes what a CSV reader makes of them alone.
+abbrev pub field_text : List ℕ → Field → List ℕ
+field_text piece (Plain span) = bytes_at piece span
+field_text piece (Quoted span) = text_alone (bytes_at piece span)
+
+-- the text of a wanted field: none where the record has no such field, or none is wanted
+abbrev pub wanted_text : List (List ℕ) → Option ℕ → List ℕ
+wanted_text fields None = []
+wanted_text fields (Some index) = slice_index_or fields index []
+
+-- the record that stands in a piece
+abbrev pub record_at : List ℕ → Record → Whole
+record_at piece given = whole_of (bytes_at piece given.own)
+
+-- what is told of a record of a piece
+pub record IsSplit (piece : List ℕ) (wanted : Wanted) (given : Record) : Type 0 where
+  pub own : IsWithin piece given.own
+  pub count : given.count ≡ length (record_at piece given).fields
+  pub zone_stands : StandsIn piece given.zone
+  pub zone : field_text piece given.zone ≡ wanted_text (record_at piece given).fields wanted.zone
+  pub time_stands : StandsIn piece given.time
+  pub time : field_text piece given.time ≡ wanted_text (record_at piece given).fields (Some wanted.time)
+
+-- a piece that is split: its bytes, the fields that rows need, and the records to come
+pub record Splitting : Type 0 where
+  pub piece : List ℕ
+  pub wanted : Wanted
+  pub left : List Whole

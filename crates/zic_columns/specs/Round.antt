@@ -1,8 +1,8 @@
 -- A column, taken in rounds of pieces.
-use Rattle.std.specs.Prelude.{◌≡◌, ℕ, List, [], ◌∷◌, ◌++◌, length, drop, Option, None, Some, IfSome}
+use Rattle.std.specs.Prelude.{◌≡◌, ℕ, ◌+◌, List, [], ◌∷◌, ◌++◌, length, drop, Option, None, Some, IfSome}
 use Rattle.std.specs.Int.{IsInRange}
 use Rattle.std.specs.List.{flat_map}
-use Rattle.std.specs.Io.KnownBytes.{prepend_known}
+use Rattle.std.specs.Io.KnownBytes.{Consumes, prepend_known}
 use Rattle.zic_columns.specs.Column.{column_records}
 use Rattle.zic_columns.specs.Own.{Whole, whole_records}
 
@@ -12,16 +12,31 @@ with_past None known = known
 with_past (Some byte) known = prepend_known (byte ∷ []) known
 
 -- A column, as far as it was taken: the pieces of the round that was taken last, the bytes in hand
--- that no round had, the byte beyond the limit, if there was one, and the reader.
+-- that no round had, the byte beyond the limit, if there was one, the number of bytes that the reader
+-- may still give, and the reader.
 pub record ColumnOf (R : Type 0) : Type 0 where
   pub round : List (List ℕ)
   pub held : List ℕ
   pub past : Option ℕ
+  pub left : ℕ
   pub reader : R
 
 -- the bytes that no round had, where those of the reader are known
 abbrev pub unread : {R : Type 0} → (R → Option (List ℕ)) → ColumnOf R → Option (List ℕ)
 unread remaining column = prepend_known column.held (with_past column.past (remaining column.reader))
+
+-- how many bytes may be taken of a reader that may give some number more: that number, and one beyond the limit, unless it was taken
+abbrev pub may_take : Option ℕ → ℕ → ℕ
+may_take None left = left + 1
+may_take (Some byte) left = left
+
+-- Some bytes were taken of a reader, where its bytes are known, and so many fewer may be taken after than before.
+abbrev pub TakesOf : Option (List ℕ) → Option (List ℕ) → ℕ → ℕ → Type 0
+TakesOf old new before after = (bytes : List ℕ) × Consumes old new bytes × (length bytes + after ≡ before)
+
+-- No more bytes were taken of the reader than the column may have, and one beyond.
+abbrev pub StaysWithin : {R : Type 0} → (R → Option (List ℕ)) → ColumnOf R → ColumnOf R → Type 0
+StaysWithin remaining old new = TakesOf (remaining old.reader) (remaining new.reader) (may_take old.past old.left) (may_take new.past new.left)
 
 -- the records of pieces, one piece after another
 abbrev pub records_of : List (List ℕ) → List (List (List ℕ))

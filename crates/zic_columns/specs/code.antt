@@ -3,13 +3,13 @@ pub mod Block
 pub mod Bounded
 pub mod Cut
 pub mod Cutting
+pub mod Field
 pub mod Hand
 pub mod Line
 pub mod Machine
+pub mod Mark
 pub mod Own
-pub mod Pair
 pub mod Quote
 pub mod Range
-pub mod Split
-pub mod Wide
+pub mod Walk
 pub mod Window

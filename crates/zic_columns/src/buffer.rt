@@ -1,13 +1,33 @@
 //! The bytes of a column in hand.
 
-ghost use Rattle.std.specs.Prelude.{◌≡◌, ◌+◌, ◌<◌, ◌≤◌, ℕ, List, [], ◌++◌, length, take, drop, vec_len, IfOk, OnOk, OnErr};
+ghost use Rattle.std.specs.Prelude.{◌≡◌, ◌+◌, ◌*◌, ◌^◌, ◌<◌, ◌≤◌, ℕ, List, [], ◌++◌, length, max, min, take, drop, vec_len, IfOk, OnOk, OnErr};
 ghost use Rattle.std.specs.Io.KnownBytes.{Consumes, IsAtEnd, Keeps};
+ghost use Rattle.zic_columns.specs.code.Bounded.{GivesWithin, bytes_left};
+ghost use Rattle.zic_columns.specs.declared.buffer.TheConstants.{FIRST_ROOM};
 
+use crate::limit::Bounded;
 use std::alloc::{AllocError, Global};
 use std::io::{self, Read};
 
 /// The number of bytes that there is room for at first.
 const FIRST_ROOM: usize = 64 * 1024;
+
+/// Returns the length that a buffer grows to: four times its length, but not above `wanted`, or
+/// twice its length where it has that many bytes. It is at least `FIRST_ROOM`.
+fn longer_len(len: usize, wanted: usize) -> usize
+    requires { len < 2 ^ 63 }
+    ensures more { len < result }
+    ensures grown { min (4 * len) wanted ≤ result }
+    ensures most { len < wanted → result ≤ max FIRST_ROOM wanted }
+    ensures twice { wanted ≤ len → result ≤ max FIRST_ROOM (2 * len) }
+{
+    let longer = if len < wanted {
+        len.saturating_mul(4).min(wanted)
+    } else {
+        2 * len
+    };
+    longer.max(FIRST_ROOM)
+}
 
 /// Bytes from a reader: those that were taken last, and those that are yet to be taken.
 #[derive(Drop)]
@@ -66,18 +86,22 @@ impl Window {
     /// Moves the bytes that are yet to be taken to the front, over those that were taken.
     fn move_to_front(&mut self)
         ensures held { held_bytes self.new ≡ held_bytes self.old }
-        ensures room { room self.new + length (held_bytes self.new) ≡ vec_len self.old.bytes }
+        ensures front { self.new.start ≡ 0 }
+        ensures len { vec_len self.new.bytes ≡ vec_len self.old.bytes }
     {
         let (start, end) = (self.start, self.end);
+        if start == 0 {
+            return;
+        }
         self.bytes.copy_within(start..end, 0);
         self.last = 0;
         self.start = 0;
         self.end = end - start;
     }
 
-    /// Makes room for a read where there is none: moves the bytes in hand to the front, or else
-    /// doubles the room. While fewer than `wanted` bytes are in hand, the room is at most the
-    /// greater of `2 * wanted` and `FIRST_ROOM` bytes.
+    /// Makes room for a read: moves the bytes in hand to the front, and leaves the rest of the buffer
+    /// as room. A buffer that the last read filled grows four times as long, but not above `wanted`
+    /// bytes. Beyond that it grows only where the bytes in hand fill it: it doubles.
     ///
     /// The bytes that were taken may be overwritten.
     ///
@@ -86,24 +110,20 @@ impl Window {
     /// Fails where memory is refused.
     pub(crate) fn make_room(&mut self, wanted: usize) -> Result<(), AllocError>
         ensures held { held_bytes self.new ≡ held_bytes self.old }
-        ensures room { OnOk result (0 < room self.new) }
+        ensures all { room self.new + length (held_bytes self.new) ≡ vec_len self.new.bytes }
+        ensures some { OnOk result (0 < room self.new) }
+        ensures grown { OnOk result (room self.old ≡ 0
+            → min (4 * vec_len self.old.bytes) wanted ≤ vec_len self.new.bytes) }
+        ensures most { vec_len self.new.bytes ≤ max (vec_len self.old.bytes)
+            (max FIRST_ROOM (max wanted (2 * length (held_bytes self.old)))) }
     {
         let len = self.bytes.len();
-        if self.end < len {
-            return Ok(());
+        let is_full = self.end == len;
+        self.move_to_front();
+        if self.end == len || is_full && len < wanted {
+            return self.bytes.resize(longer_len(len, wanted), 0);
         }
-        let held = self.end - self.start;
-        if 0 < self.start && held <= self.start {
-            self.move_to_front();
-            return Ok(());
-        }
-        let most = if held < wanted {
-            wanted.saturating_mul(2)
-        } else {
-            usize::MAX
-        };
-        let longer = (2 * len).min(most).max(FIRST_ROOM);
-        self.bytes.resize(longer, 0)
+        Ok(())
     }
 
     /// Reads once, into the room that there is. Returns the number of bytes that came, 0 at the
@@ -112,14 +132,16 @@ impl Window {
     /// # Errors
     ///
     /// Fails where the reader fails.
-    pub(crate) fn read_from<R: Read>(&mut self, reader: &mut R) -> io::Result<usize>
+    pub(crate) fn read_from<R: Read>(&mut self, reader: &mut Bounded<R>) -> io::Result<usize>
         ensures ok { IfOk result (λ n. (more : List ℕ) × (length more ≡ n)
             × (held_bytes self.new ≡ held_bytes self.old ++ more)
-            × Consumes (R.remaining reader.old) (R.remaining reader.new) more) }
+            × Consumes (bytes_left R.remaining reader.old)
+            (bytes_left R.remaining reader.new) more) }
         ensures end { IfOk result
-            (λ n. n ≡ 0 → 0 < room self.old → IsAtEnd (R.remaining reader.new)) }
+            (λ n. n ≡ 0 → 0 < room self.old → IsAtEnd (bytes_left R.remaining reader.new)) }
         ensures err { OnErr result ((held_bytes self.new ≡ held_bytes self.old)
-            × Keeps (R.remaining reader.old) (R.remaining reader.new)) }
+            × Keeps (bytes_left R.remaining reader.old) (bytes_left R.remaining reader.new)) }
+        ensures limit { GivesWithin R.remaining reader.old reader.new }
     {
         let end = self.end;
         let count = reader.read(&mut self.bytes[end..])?;

@@ -8,7 +8,7 @@ ghost use Rattle.zic_columns.specs.code.Machine.{BeginsRecord};
 
 use crate::blocks::pass_records;
 use crate::line::after_line_ends;
-use crate::pair::whole_record_end;
+use crate::walk::whole_record_end;
 use memchr::memchr3;
 
 /// Returns the length in bytes of the record at the start of the bytes, by a CSV reader's machine.

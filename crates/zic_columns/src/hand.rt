@@ -6,8 +6,8 @@ ghost use Rattle.zic_columns.specs.code.Cut.{AreCutAfterLines};
 ghost use Rattle.zic_columns.specs.code.Hand.{BeginWithLines, IsScanned};
 
 use crate::machine::{Place, record_end};
-use crate::pair::whole_record_end;
 use crate::quote::first_quote;
+use crate::walk::whole_record_end;
 use memchr::memrchr2;
 
 /// The number of bytes that are whole records, and the place of a CSV reader in the record of the

@@ -4,6 +4,7 @@ ghost use Rattle.zic_columns.specs.Laws.{ColumnRecordsAreRead, PlainRecordsAreRe
 ghost use Rattle.zic_columns.specs.Laws.{DelimitedRecordsAreOne, RecordsAreExchanged, RecordsAreOne};
 ghost use Rattle.zic_columns.specs.Laws.{RowsAreExchanged};
 ghost use Rattle.zic_columns.specs.Laws.{BesideIsKept, OwnTextsAreOfRecords, PiecesHaveRecords};
+ghost use Rattle.zic_columns.specs.Laws.{OwnBytesAreRecords, RecordsAreOfOwnBytes};
 ghost use Rattle.zic_columns.specs.Laws.{TextsAreCounted, TextsAreExchanged, WholeRecordsAreCut};
 
 /// States that a CSV reader gives bytes their records.
@@ -72,4 +73,14 @@ pub fn beside_is_kept()
 /// States that what a CSV writer makes of fields is exchanged as its fields are.
 pub fn rows_are_exchanged()
     ensures { RowsAreExchanged }
+{}
+
+/// States that the own bytes of a record are, by themselves, that record alone.
+pub fn own_bytes_are_records()
+    ensures { OwnBytesAreRecords }
+{}
+
+/// States that the records of a column are those of their own bytes, each by itself.
+pub fn records_are_of_own_bytes()
+    ensures { RecordsAreOfOwnBytes }
 {}

@@ -1,6 +1,8 @@
 //! A reader with a limit.
 
 ghost use Rattle.std.specs.Prelude.{◌≡◌, [], None, IsTrue, false};
+ghost use Rattle.std.specs.Io.{ReadsAtMost};
+ghost use Rattle.std.specs.Io.KnownBytes.{ReadConsumes};
 ghost use Rattle.std.specs.Option.{ForSome};
 
 use std::io::{self, ErrorKind, Read};
@@ -14,7 +16,7 @@ use std::io::{self, ErrorKind, Read};
 pub(crate) struct Bounded<R: Read> {
     pub(crate) inner: R,
     /// The number of bytes that it may still give.
-    left: u64,
+    pub(crate) left: u64,
     /// The byte beyond the limit, once it was read.
     pub(crate) past: Option<u8>,
     /// Whether the reader below gave no byte where there was room.
@@ -23,12 +25,13 @@ pub(crate) struct Bounded<R: Read> {
 }
 
 impl<R: Read> Bounded<R> {
-    ghost use Rattle.zic_columns.specs.code.Bounded.{bytes_left, ReadsNone};
+    ghost use Rattle.zic_columns.specs.code.Bounded.{GivesWithin, ReadsNone, bytes_left};
 
     /// Makes a reader of at most `most` bytes.
     pub(crate) fn new(inner: R, most: u64) -> Bounded<R>
         ensures inner { result.inner ≡ inner }
         ensures none { result.past ≡ None }
+        ensures left { result.left ≡ most }
     {
         Bounded {
             inner,
@@ -42,8 +45,9 @@ impl<R: Read> Bounded<R> {
     fn read_past(&mut self) -> io::Result<usize>
         requires none { self.old.past ≡ None }
         requires goes_on { self.old.ended ≡ false }
-        ensures { ReadsNone
+        ensures bytes { ReadsNone
             (bytes_left R.remaining self.old) (bytes_left R.remaining self.new) result }
+        ensures limit { GivesWithin R.remaining self.old self.new }
     {
         let mut one = [0u8];
         match self.inner.read(&mut one) {
@@ -59,11 +63,16 @@ impl<R: Read> Bounded<R> {
 }
 
 impl<R: Read> Read for Bounded<R> {
-    ghost use Rattle.zic_columns.specs.code.Bounded.{bytes_left};
+    ghost use Rattle.zic_columns.specs.code.Bounded.{GivesWithin, bytes_left};
 
     ghost remaining = { bytes_left R.remaining };
 
-    fn read(&mut self, buf: &mut [u8]) -> io::Result<usize> {
+    fn read(&mut self, buf: &mut [u8]) -> io::Result<usize>
+        ensures bound { ReadsAtMost result buf.new }
+        ensures bytes { ReadConsumes (bytes_left R.remaining self.old)
+            (bytes_left R.remaining self.new) result buf.new }
+        ensures limit { GivesWithin R.remaining self.old self.new }
+    {
         if self.past.is_some() {
             return Err(io::Error::from(ErrorKind::Other));
         }

@@ -1,6 +1,7 @@
 //! The machine by which a CSV reader reads a record.
 
-ghost use Rattle.std.specs.Prelude.{MatchOption, MatchResult};
+ghost use Rattle.std.specs.Prelude.{◌≡◌, ℕ, List, MatchOption, MatchResult};
+ghost use Rattle.zic_columns.specs.code.Field.{EndsField, IsField, IsOfField};
 ghost use Rattle.zic_columns.specs.code.Machine.{EndsRecord, GoesOn, IsEndOfRecord, ReadsTo, state_at};
 
 use crate::line::ends_line;
@@ -59,4 +60,71 @@ pub(crate) fn record_end(place: Place, bytes: &[u8]) -> Result<usize, Place>
         }
     }
     Err(stands)
+}
+
+/// A byte of a field.
+#[derive(Clone, Copy, Drop)]
+pub(crate) struct FieldByte {
+    /// The place after it.
+    pub(crate) next: Place,
+    /// Whether it joins the text of the field.
+    pub(crate) is_text: bool,
+}
+
+/// Returns what a double quote is to a field: text after text that has no quotes round it, and after
+/// another quote.
+fn quote_byte(place: Place) -> FieldByte
+    ensures { IsOfField place 34 result }
+{
+    match place {
+        Place::Start => FieldByte {
+            next: Place::Quoted,
+            is_text: false,
+        },
+        Place::Plain => FieldByte {
+            next: Place::Plain,
+            is_text: true,
+        },
+        Place::Quoted => FieldByte {
+            next: Place::QuoteSeen,
+            is_text: false,
+        },
+        Place::QuoteSeen => FieldByte {
+            next: Place::Quoted,
+            is_text: true,
+        },
+    }
+}
+
+/// Returns what a byte is to a field, or `None` where it ends the field.
+pub(crate) fn field_byte(place: Place, byte: u8) -> Option<FieldByte>
+    ensures { MatchOption result (EndsField place byte) (IsOfField place byte) }
+{
+    if byte == b'"' {
+        return Some(quote_byte(place));
+    }
+    let next = match place {
+        Place::Quoted => Place::Quoted,
+        _ if byte == b',' || ends_line(byte) => return None,
+        _ => Place::Plain,
+    };
+    Some(FieldByte {
+        next,
+        is_text: true,
+    })
+}
+
+/// Returns the number of bytes of the field at the start of the bytes: up to its comma or line end,
+/// or all.
+pub(crate) fn field_len(bytes: &[u8]) -> usize
+    ensures { (text : List ℕ) × IsField bytes.now text result }
+{
+    let mut stands = Place::Start;
+    for (index, byte) in bytes.iter().enumerate() {
+        match field_byte(stands, *byte) {
+            Some(read) => stands = read.next,
+            None => return index,
+        }
+    }
+    bytes.len()
 }

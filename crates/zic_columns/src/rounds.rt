@@ -1,14 +1,9 @@
 //! A round of a column.
 
-ghost use Rattle.std.specs.Prelude.{◌≡◌, ◌<◌, ◌≤◌, length, take, Some, IfOk, IfSome};
+ghost use Rattle.std.specs.Prelude.{◌≡◌, ◌<◌, ◌≤◌, length, take, Some};
 ghost use Rattle.std.specs.List.{slice_get};
-ghost use Rattle.zic_columns.specs.Column.{column_records};
-ghost use Rattle.zic_columns.specs.Own.{whole_records};
 
-use crate::own::EntrySplit;
 use crate::pieces::PieceRange;
-use crate::splits::Split;
-use std::alloc::{AllocError, Global};
 use std::marker::Model;
 
 /// Whole records of a column, cut into pieces that several threads may read. Clauses see the bytes
@@ -59,31 +54,5 @@ impl<'a> Round<'a> {
         let ranges = self.ranges;
         let range = ranges[index];
         &self.bytes[range.start..range.end]
-    }
-
-    /// Divides the piece with this index into records.
-    ///
-    /// # Errors
-    ///
-    /// Fails where memory is refused.
-    pub fn split(&self, alloc: Global, index: usize) -> Result<Split<'a>, AllocError>
-        requires { index < length self.now }
-        ensures { IfOk result
-            (λ split. IfSome (slice_get self.now index) (λ piece. split ≡ column_records piece)) }
-    {
-        Split::new(alloc, self.piece(index))
-    }
-
-    /// Divides the piece with this index into records with their own bytes.
-    ///
-    /// # Errors
-    ///
-    /// Fails where memory is refused.
-    pub fn split_entries(&self, alloc: Global, index: usize) -> Result<EntrySplit<'a>, AllocError>
-        requires { index < length self.now }
-        ensures { IfOk result
-            (λ split. IfSome (slice_get self.now index) (λ piece. split ≡ whole_records piece)) }
-    {
-        EntrySplit::new(alloc, self.piece(index))
     }
 }

@@ -1,137 +1,96 @@
-//! The records of a piece.
+//! The records of a piece, some at a time.
 
-ghost use Rattle.std.specs.Prelude.{◌≡◌, ◌+◌, ◌≤◌, IfOk, length};
-ghost use Rattle.std.specs.Iterator.{at_most};
-ghost use Rattle.csv.specs.Reading.{strip_bom};
-ghost use Rattle.zic_columns.specs.Column.{column_records};
-ghost use Rattle.zic_columns.specs.Record.{YieldsRecord};
+ghost use Rattle.std.specs.Prelude.{◌≡◌, ◌++◌, ◌+◌, ◌<◌, ◌≤◌, [], All, length, map, take};
+ghost use Rattle.zic_columns.specs.Own.{whole_records};
+ghost use Rattle.zic_columns.specs.Record.{IsSplit, record_at};
+ghost use Rattle.zic_columns.specs.code.Walk.{IsNext};
 
-use crate::entry::Record;
-use crate::mark::without_mark;
-use crate::pair::{Pair, PairRecords, pairs_of};
-use crate::plain::PlainRecords;
-use crate::quote::first_quote;
-use crate::quoted::{read_records, record_of_fields};
-use csv::ByteRecord;
-use std::alloc::{AllocError, Global};
+use crate::fields::{Record, Wanted};
+use crate::line::after_line_ends;
+use crate::walk::split_record;
 use std::marker::Model;
 
-/// The source of the records of a piece: lines without a double quote, records of two fields whose
-/// text stands in the piece, or records that a CSV reader gave.
+/// The most records that are split together.
+pub const BATCH: usize = 256;
+
+/// Divides a piece into records, some at a time. Clauses see the bytes of the piece, the fields that
+/// rows need, and the records to come.
 #[derive(Drop)]
-enum Found<'a> {
-    Lines(&'a [u8]),
-    Pairs(Vec<Pair<'a>>),
-    Read(Vec<ByteRecord>),
+pub struct Splitter<'a> {
+    bytes: &'a [u8],
+    fields: Wanted,
+    /// The number of bytes that were split.
+    at: usize,
 }
 
-/// A piece of a column, divided into records. Clauses see the fields of each record.
-#[derive(Drop)]
-pub struct Split<'a> {
-    found: Found<'a>,
+impl<'a> Model for Splitter<'a> {
+    ghost use Rattle.std.specs.Prelude.{◌≤◌, drop, length};
+    ghost use Rattle.zic_columns.specs.Own.{whole_records};
+    ghost use Rattle.zic_columns.specs.Record.{Splitting};
+
+    ghost Value = { Splitting };
+
+    ghost view = { λ splitter. record {
+      piece = splitter.bytes.now;
+      wanted = splitter.fields;
+      left = whole_records (drop splitter.at splitter.bytes.now);
+    } };
+
+    ghost invariant = { λ splitter. splitter.at ≤ length splitter.bytes.now };
 }
 
-impl<'a> Model for Split<'a> {
-    ghost use Rattle.std.specs.Prelude.{ℕ, List};
-
-    ghost Value = { List (List (List ℕ)) };
-
-    ghost use Rattle.zic_columns.specs.code.Split.{records_found};
-
-    ghost view = { λ split. records_found split.found };
-}
-
-/// The records to come.
-#[derive(Drop)]
-enum Left<'a> {
-    Lines(PlainRecords<'a>),
-    Pairs(PairRecords<'a>),
-    Read(&'a [ByteRecord]),
-}
-
-/// An iterator over the records of a piece.
-#[derive(Drop)]
-pub struct Records<'a> {
-    left: Left<'a>,
-}
-
-impl<'a> Model for Records<'a> {
-    ghost use Rattle.std.specs.Prelude.{ℕ, List};
-
-    ghost Value = { List (List (List ℕ)) };
-
-    ghost use Rattle.zic_columns.specs.code.Split.{records_left};
-
-    ghost view = { λ records. records_left records.left };
-}
-
-impl<'a> Split<'a> {
-    /// Divides a whole column into records, without a byte order mark at its start.
-    ///
-    /// # Errors
-    ///
-    /// Fails where memory is refused.
-    pub fn of_column(alloc: Global, column: &'a [u8]) -> Result<Split<'a>, AllocError>
-        ensures records { IfOk result (λ split. split ≡ column_records (strip_bom column.now)) }
-        ensures few { IfOk result (λ split. length split ≤ length column.now + 1) }
+impl<'a> Splitter<'a> {
+    /// Begins to split a piece.
+    pub fn new(piece: &'a [u8], wanted: Wanted) -> Splitter<'a>
+        ensures piece { result.piece ≡ piece.now }
+        ensures wanted { result.wanted ≡ wanted }
+        ensures left { result.left ≡ whole_records piece.now }
+        ensures few { length result.left ≤ length piece.now + 1 }
     {
-        Split::new(alloc, without_mark(column))
+        Splitter {
+            bytes: piece,
+            fields: wanted,
+            at: 0,
+        }
     }
 
-    /// Divides bytes within a column into records: the fields of each line, or where there is a
-    /// double quote what a CSV reader gives.
-    ///
-    /// # Errors
-    ///
-    /// Fails where memory is refused.
-    pub(crate) fn new(alloc: Global, bytes: &'a [u8]) -> Result<Split<'a>, AllocError>
-        ensures { IfOk result (λ split. split ≡ column_records bytes.now) }
+    /// Splits the next records, at most `BATCH`, and returns their number. Fewer than `BATCH` come
+    /// only where no record is left.
+    pub fn fill(&mut self, records: &mut [Record; BATCH]) -> usize
+        ensures piece { self.new.piece ≡ self.old.piece }
+        ensures wanted { self.new.wanted ≡ self.old.wanted }
+        ensures few { result ≤ BATCH }
+        ensures split { self.old.left
+            ≡ map (record_at self.old.piece) (take result records.new) ++ self.new.left }
+        ensures each { All (IsSplit self.old.piece self.old.wanted) (take result records.new) }
+        ensures end { result < BATCH → self.new.left ≡ [] }
     {
-        if first_quote(bytes).is_none() {
-            return Ok(Split {
-                found: Found::Lines(bytes),
-            });
+        let mut count = 0;
+        while count < BATCH {
+            let Some(given) = self.next_record() else {
+                return count;
+            };
+            records[count] = given;
+            count += 1;
         }
-        if let Some(pairs) = pairs_of(alloc, bytes)? {
-            return Ok(Split {
-                found: Found::Pairs(pairs),
-            });
-        }
-        let records = read_records(alloc, bytes)?;
-        Ok(Split {
-            found: Found::Read(records),
-        })
+        count
     }
 
-    /// Returns an iterator over the records, in their order.
-    pub fn records(&self) -> Records<'_>
-        ensures { result ≡ self.now }
+    /// Splits the next record, if there is one.
+    #[inline(always)]
+    fn next_record(&mut self) -> Option<Record>
+        ensures piece { self.new.piece ≡ self.old.piece }
+        ensures wanted { self.new.wanted ≡ self.old.wanted }
+        ensures next { IsNext self.old result self.new }
     {
-        let left = match &self.found {
-            Found::Lines(lines) => Left::Lines(PlainRecords::new(lines)),
-            Found::Pairs(pairs) => Left::Pairs(PairRecords::new(pairs)),
-            Found::Read(records) => Left::Read(records),
-        };
-        Records { left }
-    }
-}
-
-impl<'a> Iterator for Records<'a> {
-    type Item = Record<'a>;
-
-    ghost next_gives = { YieldsRecord };
-
-    ghost remaining = { λ records. at_most (length records) };
-
-    fn next(&mut self) -> Option<Record<'a>> {
-        match &mut self.left {
-            Left::Lines(records) => records.next(),
-            Left::Pairs(records) => records.next(),
-            Left::Read(records) => {
-                let (first, rest) = records.split_first()?;
-                *records = rest;
-                Some(record_of_fields(first))
-            }
+        let rest = after_line_ends(&self.bytes[self.at..]);
+        let start = self.bytes.len() - rest.len();
+        if rest.is_empty() {
+            self.at = start;
+            return None;
         }
+        let given = split_record(self.bytes, start, self.fields);
+        self.at = given.own.end;
+        Some(given)
     }
 }

@@ -1,6 +1,7 @@
 //! The words that the program is given.
 
 use crate::commands::commands;
+use crate::instant::parse_instant_word;
 use crate::layout::layout;
 use crate::no_request::NoRequest;
 use clap::error::ErrorKind;
@@ -10,7 +11,8 @@ use std::rt::Env;
 use std::{env, io};
 use zic_dump::Years;
 use zic_explain::{Unexplained, entries, explanation, index};
-use zic_plan::{Layout, Plan, STANDARD_INPUT, parse_instant_word};
+use zic_io::STANDARD_INPUT;
+use zic_plan::{Layout, Plan};
 
 /// What the names of Link lines are made as.
 #[derive(Clone, Copy, Debug, PartialEq, Eq)]

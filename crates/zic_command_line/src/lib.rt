@@ -3,8 +3,10 @@
 
 mod command_line;
 mod commands;
+mod instant;
 mod layout;
 mod no_request;
 
 pub use command_line::{Asked, Conversion, Links, Request, Zones, parse, requested};
+pub use instant::parse_instant_word;
 pub use no_request::NoRequest;

@@ -1,8 +1,8 @@
 -- A conversion below a header line.
 use Rattle.std.proofs.Common.{◌≡◌, ℕ, subst}
 use Rattle.zic_counted.specs.Counts.{Counts, HasFailedSince}
-use Rattle.zic_plan.specs.declared.stop.RunStop.{RunStop}
-use Rattle.zic_plan.specs.declared.stop.RunStop.TheVariants as stop
+use Rattle.zic_base.specs.declared.run_stop.RunStop.{RunStop}
+use Rattle.zic_base.specs.declared.run_stop.RunStop.TheVariants as stop
 use Rattle.zic_convert.specs.Convert.{IsCauseOf}
 
 -- A writer that had failed as often before gives the same cause.

@@ -4,8 +4,8 @@ use Rattle.std.specs.Io.KnownBytes.{Appends}
 use Rattle.zic_files.specs.File.{File}
 use Rattle.zic_files.specs.Tree.{AreFilesOfReplies, Learnt, Reply}
 use Rattle.zic_plan.specs.declared.layout.Layout.{Layout}
-use Rattle.zic_plan.specs.declared.stop.RunStop.{RunStop}
-use Rattle.zic_plan.specs.declared.stop.RunStop.TheVariants as stop
+use Rattle.zic_base.specs.declared.run_stop.RunStop.{RunStop}
+use Rattle.zic_base.specs.declared.run_stop.RunStop.TheVariants as stop
 use Rattle.zic_plan.specs.Plan.{Limits}
 use Rattle.zic_convert.proofs.Asking.{gains_on}
 use Rattle.zic_convert.proofs.Options.{for_some, if_some}

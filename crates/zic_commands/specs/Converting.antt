@@ -5,7 +5,7 @@ use Rattle.std.specs.Io.KnownBytes.{Appends}
 use Rattle.zic_bulk.specs.Build.{AreFilesOfTexts}
 use Rattle.zic_files.specs.File.{File}
 use Rattle.zic_plan.specs.Plan.{Limits}
-use Rattle.zic_plan.specs.declared.stop.RunStop.{RunStop}
+use Rattle.zic_base.specs.declared.run_stop.RunStop.{RunStop}
 use Rattle.zic_convert.specs.Column.{ConvertsBodyTo}
 use Rattle.zic_convert.specs.Convert.{IsCauseOf, WritesAll, WritesAllOf, WritesAt, WritesAtOf}
 use Rattle.zic_counted.specs.Counts.{Counts, HasFailedSince}

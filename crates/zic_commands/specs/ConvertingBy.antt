@@ -13,8 +13,8 @@ use Rattle.zic_plan.specs.declared.layout.RowStart.TheVariants as start
 use Rattle.zic_plan.specs.declared.layout.ZoneFrom.{ZoneFrom}
 use Rattle.zic_plan.specs.declared.layout.ZoneFrom.TheVariants as zone
 use Rattle.zic_plan.specs.Plan.{Limits}
-use Rattle.zic_plan.specs.declared.stop.RowFault.{RowFault}
-use Rattle.zic_plan.specs.declared.stop.RunStop.{RunStop}
+use Rattle.zic_base.specs.declared.row_fault.RowFault.{RowFault}
+use Rattle.zic_base.specs.declared.run_stop.RunStop.{RunStop}
 use Rattle.zic_convert.specs.Column.{ConvertsBy, header_text}
 use Rattle.zic_convert.specs.Convert.{IsCauseOf, WritesAllOf, WritesAtOf}
 use Rattle.zic_convert.specs.Log.{NotesAll, NotesUntil}

@@ -7,7 +7,7 @@ use Rattle.zic_plan.specs.declared.layout.Layout.{Layout}
 use Rattle.zic_plan.specs.declared.layout.ZoneFrom.{ZoneFrom}
 use Rattle.zic_plan.specs.declared.layout.ZoneFrom.TheVariants as zone
 use Rattle.zic_plan.specs.Plan.{Limits}
-use Rattle.zic_plan.specs.declared.stop.RunStop.{RunStop}
+use Rattle.zic_base.specs.declared.run_stop.RunStop.{RunStop}
 use Rattle.zic_convert.specs.Convert.{IsCauseOf}
 use Rattle.zic_convert.specs.Tree.{EndsByTree, HoldsByLearnt}
 use Rattle.zic_commands.specs.Converting.{Conversion}

@@ -2,7 +2,7 @@
 use Rattle.std.specs.Prelude.{◌≡◌, ◌⊎◌, ℕ, List, [], ◌∷◌, ◌++◌, length, map, Option}
 use Rattle.zic_bulk.specs.Build.{AreFilesOfTexts, IsStopOfBuild}
 use Rattle.zic_files.specs.File.{File}
-use Rattle.zic_plan.specs.declared.stop.RunStop.{RunStop}
+use Rattle.zic_base.specs.declared.run_stop.RunStop.{RunStop}
 use Rattle.zic_counted.specs.Counts.{Counts}
 use Rattle.zic_tzif.specs.Reading.{IsFault}
 use Rattle.zic_tzif.specs.declared.reason.Reason.{Reason}

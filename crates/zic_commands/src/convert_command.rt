@@ -15,6 +15,7 @@ use std::alloc::Global;
 use std::io::{Read, Write};
 use std::sync::Wait;
 use std::thread::Threads;
+use zic_base::FaultLog;
 use zic_bulk::Plan;
 use zic_columns::exchange;
 use zic_convert::ColumnOrder;
@@ -22,7 +23,7 @@ use zic_counted::{Counted, WriteFailed, write_all};
 use zic_files::Files;
 use zic_io::{Failure, run_failure, unknown_zone};
 use zic_pieces::Open;
-use zic_plan::{FaultLog, Header, Layout, RowStart, ZoneFrom};
+use zic_plan::{Header, Layout, RowStart, ZoneFrom};
 
 /// The line before the rows of a column that has a header.
 const HEADER: &[u8; 48] = b"zone,instant,local,offset,daylight,abbreviation\n";

@@ -15,12 +15,13 @@ use std::alloc::{AllocError, Global};
 use std::io::{Read, Write};
 use std::sync::Wait;
 use std::thread::Threads;
+use zic_base::FaultLog;
 use zic_convert::ColumnSetting;
 use zic_counted::Counted;
 use zic_files::laws::files_stay;
 use zic_files::{TreeFiles, ZoneTree};
 use zic_io::{Failure, run_failure};
-use zic_plan::{FaultLog, ZoneFrom};
+use zic_plan::ZoneFrom;
 
 /// Converts a column by a layout, as [`convert_by`](crate::convert_by) does, by the files of a tree.
 /// The tree is asked for the zone that all rows are to be in, if there is one, before anything else,

@@ -27,4 +27,3 @@ pub use zic_io::{
     Disk, Failure, LinkKind, LinkedFolder, MAX_SOURCE, Progress, Told, Tree, Unplaced, read_file,
     read_file_bytes, read_source_text, read_sources,
 };
-pub use zic_plan::{STANDARD_INPUT, parse_instant_word};

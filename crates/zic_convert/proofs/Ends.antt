@@ -6,8 +6,8 @@ use Rattle.std.specs.Prelude.{IfErr, IfOk, IfSome, Result, Ok, Err}
 use Rattle.zic_counted.specs.Counts.{Counts}
 use Rattle.zic_files.specs.File.{File}
 use Rattle.zic_plan.specs.declared.layout.Layout.{Layout}
-use Rattle.zic_plan.specs.declared.stop.RunStop.{RunStop}
-use Rattle.zic_plan.specs.declared.stop.RunStop.TheVariants as stop
+use Rattle.zic_base.specs.declared.run_stop.RunStop.{RunStop}
+use Rattle.zic_base.specs.declared.run_stop.RunStop.TheVariants as stop
 use Rattle.zic_convert.specs.Convert.{IsCauseOf, Outcome, WritesAllOf, WritesAtOf, WritesPartOf}
 use Rattle.zic_convert.specs.Column.{header_text}
 use Rattle.zic_convert.specs.Tree.{ConvertsAllBy, EndsBy, Run}

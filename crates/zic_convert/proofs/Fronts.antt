@@ -6,8 +6,8 @@ use Rattle.zic_tzif.specs.Laws.{FilesAnswerOnce}
 use Rattle.zic_files.specs.File.{File}
 use Rattle.zic_files.specs.Sound.{AreSoundFiles}
 use Rattle.zic_plan.specs.declared.layout.Layout.{Layout}
-use Rattle.zic_plan.specs.declared.stop.RowFault.{RowFault}
-use Rattle.zic_plan.specs.declared.stop.RowKind.{RowKind}
+use Rattle.zic_base.specs.declared.row_fault.RowFault.{RowFault}
+use Rattle.zic_base.specs.declared.row_fault.RowKind.{RowKind}
 use Rattle.zic_convert.specs.LayoutRows.{ComeToBy, fault_by, faults_by, noted}
 use Rattle.zic_convert.specs.code.Row.{AreRowsOf, RowsOf}
 use Rattle.zic_convert.proofs.Coming.{come_after, come_more}

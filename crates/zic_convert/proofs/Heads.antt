@@ -18,9 +18,9 @@ use Rattle.zic_files.specs.Sound.{AreSoundFiles}
 use Rattle.zic_plan.specs.Delimiter.{is_delimiter}
 use Rattle.zic_plan.specs.Layout.{records_before}
 use Rattle.zic_plan.specs.declared.layout.Layout.{Layout}
-use Rattle.zic_plan.specs.declared.stop.RowFault.{RowFault}
-use Rattle.zic_plan.specs.declared.stop.RunStop.{RunStop}
-use Rattle.zic_plan.specs.declared.stop.RunStop.TheVariants as stop
+use Rattle.zic_base.specs.declared.row_fault.RowFault.{RowFault}
+use Rattle.zic_base.specs.declared.run_stop.RunStop.{RunStop}
+use Rattle.zic_base.specs.declared.run_stop.RunStop.TheVariants as stop
 use Rattle.zic_convert.specs.Column.{AreRowRecords, header_of, own_header, own_line}
 use Rattle.zic_convert.specs.Run.{EndsAfterLines, EndsIn, Output, WritesRows}
 use Rattle.zic_convert.specs.code.Halt.{IsCauseOfHalt, stop_of}

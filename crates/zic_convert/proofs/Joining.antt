@@ -16,10 +16,10 @@ use Rattle.zic_convert.specs.code.Row.{AreRowsOf, RowsOf, fields_of_all, put_bac
 use Rattle.zic_convert.specs.code.Written.{EndsInRound, WritesRound}
 use Rattle.zic_counted.specs.Counts.{Counts}
 use Rattle.zic_plan.specs.declared.layout.Layout.{Layout}
-use Rattle.zic_plan.specs.declared.stop.RowFault.{RowFault}
-use Rattle.zic_plan.specs.declared.stop.RunStop.{RunStop}
+use Rattle.zic_base.specs.declared.row_fault.RowFault.{RowFault}
+use Rattle.zic_base.specs.declared.run_stop.RunStop.{RunStop}
 use Rattle.zic_convert.specs.code.Pieces.{ArePieces, AreRowsOfPiece, IsOutcomeOf, Pieces, joined}
-use Rattle.zic_plan.specs.declared.stop.RowKind.{RowKind}
+use Rattle.zic_base.specs.declared.row_fault.RowKind.{RowKind}
 use Rattle.zic_convert.specs.LayoutRows.{ComeToBy, faults_by}
 use Rattle.zic_convert.proofs.Coming.{come_more, faults_more, no_rows, rows_followed}
 use Rattle.zic_convert.proofs.Wholes.{as_many_in, as_many_of_all, comma_fields_in}

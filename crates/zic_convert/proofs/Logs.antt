@@ -2,7 +2,7 @@
 use Rattle.std.proofs.Common.{◌≡◌, ◌+◌, ◌<◌, ℕ, suc, List, [], ◌∷◌, ◌++◌, length, take, get_or, Option, Some, sym, ap, subst, ◌∙◌, append_assoc, arith}
 use Rattle.std.proofs.lemmas.List.{append-nil}
 use Rattle.std.proofs.Math.Seq.{take-suc}
-use Rattle.zic_plan.specs.declared.stop.RowFault.{RowFault}
+use Rattle.zic_base.specs.declared.row_fault.RowFault.{RowFault}
 use Rattle.zic_convert.specs.Run.{Notes}
 use Rattle.zic_convert.proofs.Options.{for_some, if_some}
 

@@ -7,8 +7,8 @@ use Rattle.zic_files.specs.File.{File}
 use Rattle.zic_plan.specs.declared.layout.AtFault.{AtFault}
 use Rattle.zic_plan.specs.declared.layout.AtFault.TheVariants as at_fault
 use Rattle.zic_plan.specs.declared.layout.Layout.{Layout}
-use Rattle.zic_plan.specs.declared.stop.RowFault.{RowFault}
-use Rattle.zic_plan.specs.declared.stop.RowKind.{RowKind}
+use Rattle.zic_base.specs.declared.row_fault.RowFault.{RowFault}
+use Rattle.zic_base.specs.declared.row_fault.RowKind.{RowKind}
 use Rattle.zic_convert.specs.LayoutRows.{IsRowAt, IsRowBy, IsTextBy, ending, ends_by, fault_by, faulty_text, noted}
 use Rattle.zic_convert.specs.code.Row.{AreNext, RowsOf}
 

@@ -17,7 +17,7 @@ use Rattle.zic_files.specs.File.{File}
 use Rattle.zic_files.specs.Sound.{AreSoundFiles, IsSoundFile}
 use Rattle.zic_plan.specs.Layout.{records_before}
 use Rattle.zic_plan.specs.declared.layout.Layout.{Layout}
-use Rattle.zic_plan.specs.declared.stop.RowKind.{RowKind}
+use Rattle.zic_base.specs.declared.row_fault.RowKind.{RowKind}
 use Rattle.zic_convert.specs.Laws.{ColumnsConvertOnce}
 use Rattle.zic_convert.specs.LayoutRows.{ComeToBy, IsRowAt, IsTextBy, ends_by, fault_by, start_text}
 use Rattle.zic_convert.specs.Rows.{ComeTo, IsTextOf, fault_of}

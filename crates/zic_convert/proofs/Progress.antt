@@ -14,10 +14,10 @@ use Rattle.zic_tzif.specs.Laws.{FilesAnswerOnce}
 use Rattle.zic_files.specs.File.{File}
 use Rattle.zic_files.specs.Sound.{AreSoundFiles}
 use Rattle.zic_plan.specs.declared.layout.Layout.{Layout}
-use Rattle.zic_plan.specs.declared.stop.RowFault.{RowFault}
-use Rattle.zic_plan.specs.declared.stop.RowKind.{RowKind}
-use Rattle.zic_plan.specs.declared.stop.RunStop.{RunStop}
-use Rattle.zic_plan.specs.declared.stop.RunStop.TheVariants as stop
+use Rattle.zic_base.specs.declared.row_fault.RowFault.{RowFault}
+use Rattle.zic_base.specs.declared.row_fault.RowKind.{RowKind}
+use Rattle.zic_base.specs.declared.run_stop.RunStop.{RunStop}
+use Rattle.zic_base.specs.declared.run_stop.RunStop.TheVariants as stop
 use Rattle.zic_convert.specs.LayoutRows.{ComeToBy, faults_by}
 use Rattle.zic_convert.specs.Run.{EndsAfterLines, EndsAtRow, Notes, WritesRows}
 use Rattle.zic_convert.specs.code.Progress.{ComeNext, IsSoFar, Takes, output}

@@ -12,7 +12,7 @@ use Rattle.zic_plan.specs.declared.layout.Header.TheVariants as header
 use Rattle.zic_plan.specs.declared.layout.Layout.{Layout}
 use Rattle.zic_plan.specs.declared.layout.RowStart.{RowStart}
 use Rattle.zic_plan.specs.declared.layout.RowStart.TheVariants as start
-use Rattle.zic_plan.specs.declared.stop.RowKind.{RowKind}
+use Rattle.zic_base.specs.declared.row_fault.RowKind.{RowKind}
 use Rattle.zic_convert.specs.Rows.{ComeTo}
 use Rattle.zic_convert.specs.LayoutRows.{ComeToBy}
 

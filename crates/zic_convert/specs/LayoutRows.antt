@@ -16,9 +16,9 @@ use Rattle.zic_plan.specs.declared.layout.AtFault.TheVariants as at
 use Rattle.zic_plan.specs.declared.layout.Layout.{Layout}
 use Rattle.zic_plan.specs.declared.layout.RowStart.{RowStart}
 use Rattle.zic_plan.specs.declared.layout.RowStart.TheVariants as start
-use Rattle.zic_plan.specs.declared.stop.RowFault.{RowFault}
-use Rattle.zic_plan.specs.declared.stop.RowKind.{RowKind}
-use Rattle.zic_plan.specs.declared.stop.RowKind.TheVariants as kind
+use Rattle.zic_base.specs.declared.row_fault.RowFault.{RowFault}
+use Rattle.zic_base.specs.declared.row_fault.RowKind.{RowKind}
+use Rattle.zic_base.specs.declared.row_fault.RowKind.TheVariants as kind
 use Rattle.zic_zones.specs.Zones.{field_at, is_named, zone_in}
 use Rattle.zic_convert.specs.Rows.{is_row_instant}
 

@@ -9,8 +9,8 @@ use Rattle.zic_rows.specs.declared.limit.TheConstants.{FIRST_INSTANT, LAST_INSTA
 use Rattle.zic_rows.specs.Row.{row_text}
 use Rattle.zic_files.specs.File.{File}
 use Rattle.zic_zones.specs.Zones.{is_named}
-use Rattle.zic_plan.specs.declared.stop.RowKind.{RowKind}
-use Rattle.zic_plan.specs.declared.stop.RowKind.TheVariants as kind
+use Rattle.zic_base.specs.declared.row_fault.RowKind.{RowKind}
+use Rattle.zic_base.specs.declared.row_fault.RowKind.TheVariants as kind
 
 -- the zone's name in a record of two fields, and its instant
 abbrev pub name_in : List (List ℕ) → List ℕ

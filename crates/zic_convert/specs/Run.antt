@@ -7,10 +7,10 @@ use Rattle.zic_columns.specs.Own.{Whole}
 use Rattle.zic_counted.specs.Counts.{Counts}
 use Rattle.zic_files.specs.File.{File}
 use Rattle.zic_plan.specs.declared.layout.Layout.{Layout}
-use Rattle.zic_plan.specs.declared.stop.RowFault.{RowFault}
-use Rattle.zic_plan.specs.declared.stop.RowKind.{RowKind}
-use Rattle.zic_plan.specs.declared.stop.RunStop.{RunStop}
-use Rattle.zic_plan.specs.declared.stop.RunStop.TheVariants as stop
+use Rattle.zic_base.specs.declared.row_fault.RowFault.{RowFault}
+use Rattle.zic_base.specs.declared.row_fault.RowKind.{RowKind}
+use Rattle.zic_base.specs.declared.run_stop.RunStop.{RunStop}
+use Rattle.zic_base.specs.declared.run_stop.RunStop.TheVariants as stop
 use Rattle.zic_convert.specs.Column.{AreRowRecords, header_text, names_line}
 use Rattle.zic_convert.specs.Convert.{WritesAllOf, WritesUpToOf}
 use Rattle.zic_convert.specs.LayoutRows.{ComeToBy, faults_by}

@@ -14,7 +14,7 @@ use crate::piece::Piece;
 use std::alloc::{AllocError, Global};
 use zic_columns::{BATCH, Field, Record, Span, push_field};
 use zic_plan::{Unit, ZoneFrom};
-use zic_rows::{FIRST_INSTANT, LAST_INSTANT, moment_of, parse_count, parse_instant};
+use zic_rows::{FIRST_INSTANT, LAST_INSTANT, moment_of, parse_count};
 use zic_tzif::Instants;
 use zic_zones::RowSpan;
 
@@ -176,23 +176,12 @@ fn read_count(
     ensures { IfOk result (λ count. count ≡ count_of unit (field_text piece.now field)) }
 {
     match field {
-        Field::Plain(span) => Ok(count_in(span.of(piece), unit)),
+        Field::Plain(span) => Ok(parse_count(span.of(piece), unit)),
         Field::Quoted(_) => {
             let mut text = Vec::new(alloc);
             push_field(&mut text, piece, field)?;
-            Ok(count_in(&text, unit))
+            Ok(parse_count(&text, unit))
         }
-    }
-}
-
-/// Returns the count that a text has, if it has one.
-#[inline(always)]
-fn count_in(text: &[u8], unit: Unit) -> Option<i128>
-    ensures { result ≡ count_of unit text.now }
-{
-    match unit {
-        Unit::Second => Some(i128::from(parse_instant(text)?)),
-        _ => parse_count(text, unit),
     }
 }
 

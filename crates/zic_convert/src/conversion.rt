@@ -28,12 +28,13 @@ use std::alloc::Global;
 use std::io::{Read, Write};
 use std::sync::Wait;
 use std::thread::Threads;
+use zic_base::{FaultLog, RunStop, Unnoted};
 use zic_columns::laws::{records_are_exchanged, texts_are_exchanged};
 use zic_columns::{Column, Exchanged, Round, Unread};
 use zic_counted::Counted;
 use zic_files::Files;
 use zic_pieces::Gate;
-use zic_plan::{FaultLog, Header, Layout, Plan, RunStop, Unnoted};
+use zic_plan::{Header, Layout, Plan};
 use zic_tzif::laws::files_answer_once;
 use zic_zones::{SourceZones, Zones};
 

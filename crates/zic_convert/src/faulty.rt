@@ -14,8 +14,9 @@ ghost use Rattle.zic_convert.specs.code.Row.{put_back};
 use crate::piece::Piece;
 use csv::WriterBuilder;
 use std::alloc::{AllocError, Global};
+use zic_base::RowKind;
 use zic_columns::{Field, Record, exchange, push_field};
-use zic_plan::{AtFault, RowKind, RowStart, ZoneFrom};
+use zic_plan::{AtFault, RowStart, ZoneFrom};
 
 /// Returns whether a fault ends the run.
 pub(crate) fn ends_run(at_fault: AtFault, kind: RowKind) -> bool

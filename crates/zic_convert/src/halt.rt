@@ -1,7 +1,7 @@
 //! Why a conversion ends early.
 
 use std::alloc::AllocError;
-use zic_plan::RunStop;
+use zic_base::RunStop;
 
 /// The reason why a conversion ends early.
 #[derive(Drop)]
@@ -37,7 +37,7 @@ impl From<RunStop> for Halt {
 impl From<AllocError> for Halt {
     ghost use Rattle.std.specs.Prelude.{◌≡◌};
     ghost use Rattle.zic_convert.specs.declared.halt.Halt.TheVariants as halt;
-    ghost use Rattle.zic_plan.specs.declared.stop.RunStop.TheVariants as stop;
+    ghost use Rattle.zic_base.specs.declared.run_stop.RunStop.TheVariants as stop;
 
     ghost from_gives = { λ _ e. e ≡ halt.Stop stop.Memory };
 

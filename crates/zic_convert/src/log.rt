@@ -2,8 +2,6 @@
 
 ghost use Rattle.zic_convert.specs.Run.{Notes};
 
-use zic_plan::{FaultLog, RowFault};
-
 /// Takes note of faults.
 pub(crate) fn note_all<L: FaultLog>(log: &mut L, faults: &[RowFault])
     ensures { Notes (L.noted log.old) (L.noted log.new) faults.now }
@@ -12,3 +10,5 @@ pub(crate) fn note_all<L: FaultLog>(log: &mut L, faults: &[RowFault])
         log.note(*fault);
     }
 }
+
+use zic_base::{FaultLog, RowFault};

@@ -13,9 +13,10 @@ use crate::log::note_all;
 use crate::row::Rows;
 use std::alloc::AllocError;
 use std::io::Write;
+use zic_base::{FaultLog, RowKind, RunStop};
 use zic_columns::exchange;
 use zic_counted::{Counted, WriteFailed};
-use zic_plan::{FaultLog, Header, Layout, RowKind, RowStart, RunStop};
+use zic_plan::{Header, Layout, RowStart};
 
 /// The line of names before rows that begin with a name and an instant.
 const ROW_NAMES: &[u8; 48] = b"zone,instant,local,offset,daylight,abbreviation\n";

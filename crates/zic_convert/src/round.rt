@@ -13,9 +13,9 @@ use crate::row::Rows;
 use std::io::Write;
 use std::sync::Wait;
 use std::thread::Threads;
+use zic_base::{FaultLog, RunStop};
 use zic_counted::Counted;
 use zic_pieces::{Gate, TaskStop, run_task};
-use zic_plan::{FaultLog, RunStop};
 
 /// Writes the rows of a round, by those of its pieces, notes their faults, and returns the number
 /// of rows.

@@ -2,7 +2,6 @@
 
 ghost use Rattle.std.specs.Prelude.{◌≡◌, ◌+◌, ◌^◌, ◌<◌, ◌≤◌, ◌++◌, ℤ, Some, None, IfOk, OnOk, MatchResult};
 ghost use Rattle.std.specs.Prelude.{ℕ, List, IfSome, length, slice_get};
-ghost use Rattle.std.specs.Bool.{Decides};
 ghost use Rattle.std.specs.Fmt.{signed_decimal};
 ghost use Rattle.zic_columns.specs.Own.{Whole};
 ghost use Rattle.zic_columns.specs.Record.{IsSplit, StandsIn, bytes_at, field_text, record_at};
@@ -12,6 +11,7 @@ ghost use Rattle.zic_rows.specs.Count.{count_of, counted_rest_text, second_of};
 ghost use Rattle.zic_rows.specs.Instant.{IsRowInstant};
 ghost use Rattle.zic_zones.specs.Zones.{AnswersAt, IsShownAt, zone_in};
 ghost use Rattle.zic_convert.specs.LayoutRows.{IsTextBy, fault_by};
+ghost use Rattle.zic_convert.specs.Rows.{is_row_instant};
 ghost use Rattle.zic_convert.specs.code.Batch.{AreColumns, IsAsked, IsPen, IsRowQuery, IsSoundQuery, records_of, wanted_by};
 ghost use Rattle.zic_convert.specs.code.Row.{AreNext, AreRowsOf, comma_start, empty_rows, put_back};
 
@@ -21,9 +21,9 @@ use crate::piece::Piece;
 use itoa::Buffer;
 use std::alloc::{AllocError, Global};
 use std::marker::Model;
-use zic_base::State;
+use zic_base::{RowFault, RowKind, State};
 use zic_columns::{Field, Record};
-use zic_plan::{Layout, RowFault, RowKind, RowStart, Unit};
+use zic_plan::{Layout, RowStart, Unit};
 use zic_rows::{FIRST_INSTANT, LAST_INSTANT, RowWriter, is_plain, moment_of};
 
 /// The rows of records up to the first that ends the run: their text, their number, its fault, and
@@ -108,7 +108,7 @@ struct RowQuery {
 /// Returns whether a row may have the whole second of a count.
 #[inline(always)]
 fn is_in_range(count: i128, unit: Unit) -> bool
-    ensures { Decides result (IsRowInstant (second_of unit count)) }
+    ensures { result ≡ is_row_instant (Some (second_of unit count)) }
 {
     let second = moment_of(count, unit).second;
     i128::from(FIRST_INSTANT) <= second && second <= i128::from(LAST_INSTANT)
@@ -198,6 +198,35 @@ fn push_start(
     }
 }
 
+/// Appends the text of the row of a record, with the delimiter put back. Where memory runs out, a part
+/// of the row may be there.
+#[inline(always)]
+fn push_row(
+    text: &mut Vec<u8>,
+    piece: &Piece<'_, '_>,
+    given: &Record,
+    query: RowQuery,
+    pen: &mut RowPen,
+) -> Result<(), AllocError>
+    requires split { IsSplit piece.now.bytes.now (wanted_by piece.now.layout.now) given.now }
+    requires query { IsRowQuery piece.now given.now query }
+    requires answers { AnswersAt piece.now.zones.now query.file
+        (second_of piece.now.layout.now.unit query.count) pen.old.writer }
+    ensures pen { pen.new ≡ pen.old }
+    ensures text { OnOk result ((row : List ℕ) × (text.new.items ≡ text.old.items ++ row)
+        × IsTextBy piece.now.layout.now piece.now.zones.now (put_back
+        piece.now.layout.now.delimiter (record_at piece.now.bytes.now given.now)) row) }
+{
+    // The name of a file has no byte that can stand between fields.
+    piece.zones.are_sound();
+    let start = text.len();
+    push_start(text, piece, given, query)?;
+    let unit = piece.layout.unit;
+    pen.writer.push_counted_rest(text, query.count, unit)?;
+    put_back(text, start, piece.layout.delimiter.byte());
+    Ok(())
+}
+
 impl Rows {
     /// Returns no rows, with room for the text of some.
     pub(crate) fn new(alloc: Global, room: usize) -> Result<Rows, AllocError>
@@ -209,36 +238,6 @@ impl Rows {
             fault: None,
             faults: Vec::new(alloc),
         })
-    }
-
-    /// Appends the text of the row of a record. Where memory runs out, a part of the row may be there.
-    #[inline(always)]
-    fn push(
-        &mut self,
-        piece: &Piece<'_, '_>,
-        given: &Record,
-        query: RowQuery,
-        pen: &mut RowPen,
-    ) -> Result<(), AllocError>
-        requires split { IsSplit piece.now.bytes.now (wanted_by piece.now.layout.now) given.now }
-        requires query { IsRowQuery piece.now given.now query }
-        requires answers { AnswersAt piece.now.zones.now query.file
-            (second_of piece.now.layout.now.unit query.count) pen.old.writer }
-        ensures pen { pen.new.writer ≡ pen.old.writer }
-        ensures kept { (pen.new.file ≡ pen.old.file) × (pen.new.state ≡ pen.old.state) }
-        ensures rest { (self.new.count ≡ self.old.count) × (self.new.fault ≡ self.old.fault)
-            × (self.new.faults ≡ self.old.faults) }
-        ensures text { OnOk result ((row : List ℕ) × (self.new.text ≡ self.old.text ++ row)
-            × IsTextBy piece.now.layout.now piece.now.zones.now (put_back
-            piece.now.layout.now.delimiter (record_at piece.now.bytes.now given.now)) row) }
-    {
-        let start = self.text.len();
-        push_start(&mut self.text, piece, given, query)?;
-        let unit = piece.layout.unit;
-        pen.writer
-            .push_counted_rest(&mut self.text, query.count, unit)?;
-        put_back(&mut self.text, start, piece.layout.delimiter.byte());
-        Ok(())
     }
 
     /// Adds the row of a record, or the fault that ends the run there. The record has the delimiter
@@ -260,11 +259,14 @@ impl Rows {
             (piece.now.first + self.old.count) (put_back piece.now.layout.now.delimiter
             (record_at piece.now.bytes.now given.now)) self.old self.new) }
     {
+        // No name of a file and no instant has a byte that can stand between fields.
+        piece.zones.are_sound();
+        prove!(piece.layout.delimiter.byte() <= u8::MAX);
         let number = piece.first + self.count;
         match query(piece, number, given, asked) {
             Ok(query) => {
                 pen.show(piece, query.file, asked.state);
-                self.push(piece, given, query, pen)?;
+                push_row(&mut self.text, piece, given, query, pen)?;
             }
             Err(kind) if ends_run(piece.layout.at_fault, kind) => {
                 self.fault = Some(kind);

@@ -10,8 +10,7 @@ use crate::form::{Form, awaits, form_of};
 use crate::record::{RecordForm, faulty_field};
 use crate::shown::{push_bytes, push_line_end, push_shown};
 use std::alloc::{AllocError, Global};
-use zic_base::Kind;
-use zic_plan::RowKind;
+use zic_base::{Kind, RowKind};
 
 /// Returns lines that say where a fault of a source stands: `--> PATH:LINE, field F (IN)`, the line
 /// of the text as it stands, and a line that underlines the field. Where the fault is about no one

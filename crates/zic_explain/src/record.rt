@@ -2,7 +2,8 @@
 
 use crate::faulty::Part;
 use crate::fields::Span;
-use zic_plan::{RowKind, Unit};
+use zic_base::RowKind;
+use zic_plan::Unit;
 
 /// Where the records of a column have the zone and the instant of a row.
 #[derive(Clone, Copy, Debug)]

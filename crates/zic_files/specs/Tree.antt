@@ -52,6 +52,10 @@ pub record IsLearntFrom (replies : List Reply) (learnt : Learnt) : Type 0 where
   pub asked : learnt.asked ≡ map (λ reply. reply.name) replies
   pub files : AreFilesOfReplies replies learnt.files
 
+-- the name was asked for, unless no zone may have it
+abbrev pub IsKnown : Learnt → List ℕ → Type 0
+IsKnown learnt name = is_name name ≡ true → Contains learnt.asked name
+
 -- the file of a name, if there is an image
 abbrev pub files_named : List ℕ → Option FileImage → List File
 files_named name None = []
@@ -65,6 +69,6 @@ pub record Adds (name : List ℕ) (old new : Learnt) : Type 0 where
   pub asked : new.asked ≡ old.asked ++ name ∷ []
   pub files : new.files ≡ old.files ++ files_named name image
 
--- what was learnt stays as it is, or this name is added
+-- What was learnt stays as it is where the name is known, and else the name is added.
 abbrev pub GrowsBy : List ℕ → Learnt → Learnt → Type 0
-GrowsBy name old new = (new ≡ old) ⊎ Adds name old new
+GrowsBy name old new = (IsKnown old name × (new ≡ old)) ⊎ Adds name old new

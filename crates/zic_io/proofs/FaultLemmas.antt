@@ -7,7 +7,7 @@ use Rattle.std.specs.Io.KnownBytes.{Appends}
 use Rattle.std.specs.Option.{option_or}
 use Rattle.zic_counted.specs.Counts.{Counts, HasFailedSince}
 use Rattle.zic_counted.specs.Written.{Writes}
-use Rattle.zic_plan.specs.declared.stop.RowFault.{RowFault}
+use Rattle.zic_base.specs.declared.row_fault.RowFault.{RowFault}
 use Rattle.zic_io.specs.Faults.{fault_line, faults_text}
 
 -- the first fault stays the first

@@ -2,8 +2,8 @@
 use Rattle.std.specs.Prelude.{◌<◌, ℕ, codes, decimal, List, ◌++◌, Option, None, Some, IfSome, MatchOption, flat_map}
 use Rattle.std.specs.Io.KnownBytes.{Appends}
 use Rattle.zic_counted.specs.Counts.{Counts}
-use Rattle.zic_names.specs.Names.{row_kind_word}
-use Rattle.zic_plan.specs.declared.stop.RowFault.{RowFault}
+use Rattle.zic_base.specs.RowFault.{row_kind_word}
+use Rattle.zic_base.specs.declared.row_fault.RowFault.{RowFault}
 
 -- the line of a fault: the number of its row, a comma and its name
 abbrev pub fault_line : RowFault → List ℕ

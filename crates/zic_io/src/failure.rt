@@ -8,10 +8,8 @@ ghost use Rattle.zic_io.specs.code.Message.{first_words, name_in};
 
 use std::alloc::{AllocError, AllocFailed, Global};
 use std::{error, fmt};
-use zic_base::{Fault, Kind};
+use zic_base::{Fault, Kind, RowKind, RunStop};
 use zic_counted::WriteFailed;
-use zic_names::{kind_name, reason_name, row_kind_name};
-use zic_plan::{RowKind, RunStop};
 use zic_tzif::{ReadStop, Reason};
 
 /// Why a command gives up. Its text is what the program prints on standard error.
@@ -90,10 +88,10 @@ impl Failure {
         ensures { result.now ≡ name_in self.now }
     {
         match self {
-            Failure::Line { kind, .. } | Failure::TextLine { kind, .. } => kind_name(*kind),
-            Failure::Row { kind, .. } | Failure::Rows { kind, .. } => row_kind_name(*kind),
+            Failure::Line { kind, .. } | Failure::TextLine { kind, .. } => kind.name(),
+            Failure::Row { kind, .. } | Failure::Rows { kind, .. } => kind.name(),
             Failure::ColumnTooLong => "ColumnTooLong",
-            Failure::File(reason) => reason_name(*reason),
+            Failure::File(reason) => reason.name(),
             Failure::CannotRead(name) | Failure::CannotWrite(name) => name,
             Failure::UnknownZone(name) => name,
             Failure::CannotReadColumn => "column",

@@ -9,9 +9,8 @@ use crate::noted::Noted;
 use itoa::Buffer;
 use std::io::Write;
 use std::marker::Model;
+use zic_base::{FaultLog, RowFault};
 use zic_counted::{Counted, WriteFailed, flush, write_all};
-use zic_names::row_kind_name;
-use zic_plan::{FaultLog, RowFault};
 
 /// Takes note of the faults of rows: counts them, keeps the first, and writes each to a file, if
 /// there is one, as the number of its row and its name with a comma between them.
@@ -117,6 +116,6 @@ fn write_fault<W: Write>(file: &mut Counted<W>, fault: RowFault) -> Result<(), W
 {
     write_all(file, Buffer::new().format(fault.row).as_bytes())?;
     write_all(file, b",")?;
-    write_all(file, row_kind_name(fault.kind).as_bytes())?;
+    write_all(file, fault.kind.name().as_bytes())?;
     write_all(file, b"\n")
 }

@@ -2,10 +2,10 @@
 
 ghost use Rattle.std.specs.Prelude.{◌≡◌, ℕ, [], ◌∷◌, ◌++◌, List, Option};
 ghost use Rattle.std.specs.Borrow.{ftrue};
-ghost use Rattle.zic_plan.specs.declared.stop.RowFault.{RowFault};
+ghost use Rattle.zic_base.specs.declared.row_fault.RowFault.{RowFault};
 
 use std::marker::{Model, PhantomData};
-use zic_plan::RowFault;
+use zic_base::RowFault;
 
 /// Faults in the order in which they were noted, and what a file held before them, where that is
 /// known. Only proofs read this: it takes no memory, and its methods do nothing when the program

@@ -6,6 +6,7 @@ ghost use Rattle.zic_io.specs.Failing.{IsFailureOfPath, IsFailureOfSources};
 ghost use Rattle.zic_io.specs.code.Word.{IsFailureOfWord};
 ghost use Rattle.zic_io.specs.Sources.{known_of, AreTextsOf};
 ghost use Rattle.zic_io.specs.declared.input.TheConstants.{MAX_SOURCE};
+ghost use Rattle.zic_io.specs.declared.sources.TheConstants.{STANDARD_INPUT};
 
 use crate::failure::{Failure, cannot_read};
 use crate::input::{read_file_bytes, read_source_text};
@@ -13,7 +14,9 @@ use std::alloc::{AllocError, Global};
 use std::fs::{File, Files as FileSystem};
 use std::io::Read;
 use zic_counted::Counted;
-use zic_plan::STANDARD_INPUT;
+
+/// The word for standard input.
+pub const STANDARD_INPUT: &str = "-";
 
 /// Returns the texts that the words name, which are read from left to right: `-` is standard
 /// input, and any other word a path. Standard input is read only where a word is `-`. Each file is

@@ -7,11 +7,11 @@ use crate::refused::refused_file;
 use std::alloc::{AllocError, Global};
 use std::fs::Files;
 use std::slice;
+use zic_base::RowKind;
 use zic_command_line::{Request, Zones};
 use zic_explain::{RecordForm, entries, expectation, line_place, nearest_zone, row_place};
 use zic_io::Failure;
-use zic_names::{kind_name, reason_name, row_kind_name};
-use zic_plan::{Header, Layout, RowKind, ZoneFrom};
+use zic_plan::{Header, Layout, ZoneFrom};
 
 /// What is kept of a request and of what was read, to explain a failure.
 #[derive(Drop)]
@@ -232,10 +232,10 @@ fn named_in(request: &Request) -> &[String] {
 /// Returns the name under which a failure is explained.
 fn name_of(failure: &Failure) -> &'static str {
     match failure {
-        Failure::Line { kind, .. } | Failure::TextLine { kind, .. } => kind_name(*kind),
-        Failure::Row { kind, .. } | Failure::Rows { kind, .. } => row_kind_name(*kind),
+        Failure::Line { kind, .. } | Failure::TextLine { kind, .. } => kind.name(),
+        Failure::Row { kind, .. } | Failure::Rows { kind, .. } => kind.name(),
         Failure::ColumnTooLong => "ColumnTooLong",
-        Failure::File(reason) => reason_name(*reason),
+        Failure::File(reason) => reason.name(),
         Failure::CannotRead(_) => "cannot read PATH",
         Failure::CannotReadColumn => "cannot read column",
         Failure::CannotWrite(_) => "cannot write PATH",

@@ -18,6 +18,7 @@ use std::rt::Env;
 use std::sync::Wait;
 use std::thread::Threads;
 use std::time::Clock;
+use zic_base::FaultLog;
 use zic_command_line::{Conversion, Links, Request, Zones};
 use zic_commands::{
     ColumnJob, ColumnSetting, Disk, Failure, LinkKind, LinkedFolder, Progress, Told,
@@ -25,7 +26,7 @@ use zic_commands::{
 use zic_counted::{Counted, flush, write_all};
 use zic_dump::Years;
 use zic_io::{FaultList, ZoneFolder};
-use zic_plan::{FaultLog, Header, Plan};
+use zic_plan::{Header, Plan};
 
 fn main(rt: HostRuntime) -> ExitCode {
     match run(&rt, rt.stderr()) {

@@ -6,7 +6,6 @@ use std::fs::Files;
 use zic_explain::{entries, expectation};
 use zic_files::{Image, Unfit, ZoneTree};
 use zic_io::ZoneFolder;
-use zic_names::reason_name;
 use zic_words::Name;
 
 /// Returns lines that say why no rows can be made of the file of a zone in a folder,
@@ -34,7 +33,7 @@ pub(crate) fn refused_file<R: Files + AllocGlobal>(
 /// Returns the lines for the file of a zone.
 fn lines(alloc: Global, folder: &str, name: &Name, unfit: Unfit) -> Result<String, AllocError> {
     let reason = match unfit {
-        Unfit::Bad(reason) => reason_name(reason),
+        Unfit::Bad(reason) => reason.name(),
         Unfit::NoFooter => "an empty POSIX TZ string",
         Unfit::OutsideLimits => "an offset or an abbreviation that no row may have",
         Unfit::Memory => return Err(AllocError),

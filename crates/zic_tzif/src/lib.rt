@@ -22,7 +22,7 @@ mod zone;
 pub use content::{Change, LocalType, Table};
 pub use limit::{LONGEST_FOOTER, MAX_CHARACTERS, MAX_TRANSITIONS, MAX_TYPES};
 pub use reader::read;
-pub use reason::{ReadStop, Reason};
+pub use reason::{ReadStop, Reason, name_of_reason};
 pub use writer::{write, written_is_file};
 pub use zic_posix::Instants;
 pub use zone::{Answer, AnswerSpan, Zone};

@@ -1,6 +1,7 @@
 //! Reasons why bytes are no TZif file.
 
-ghost use Rattle.std.specs.Prelude.{◌≡◌};
+ghost use Rattle.std.specs.Prelude.{◌≡◌, ℕ, List, MatchOption};
+ghost use Rattle.zic_tzif.specs.Reason.{IsReasonName};
 
 use std::alloc::{AllocError, AllocFailed};
 
@@ -40,7 +41,8 @@ pub enum Reason {
 }
 
 impl Reason {
-    ghost use Rattle.zic_tzif.specs.Reason.{reason_number};
+    ghost use Rattle.std.specs.Prelude.{◌≢◌, MatchOption};
+    ghost use Rattle.zic_tzif.specs.Reason.{reason_number, reason_word};
 
     /// Returns the number of the reason, 1 to 14: own choice.
     pub fn number(self) -> u8
@@ -48,6 +50,60 @@ impl Reason {
     {
         self as u8
     }
+
+    /// Returns the name of the reason, which is that of its variant.
+    pub fn name(self) -> &'static str
+        ensures { result.now ≡ reason_word self }
+    {
+        match self {
+            Reason::Short => "Short",
+            Reason::Magic => "Magic",
+            Reason::Version => "Version",
+            Reason::HeadersDiffer => "HeadersDiffer",
+            Reason::Counts => "Counts",
+            Reason::LeapSeconds => "LeapSeconds",
+            Reason::TimesNotRising => "TimesNotRising",
+            Reason::TypeIndex => "TypeIndex",
+            Reason::Designation => "Designation",
+            Reason::TypeRecord => "TypeRecord",
+            Reason::Indicators => "Indicators",
+            Reason::Footer => "Footer",
+            Reason::TrailingBytes => "TrailingBytes",
+            Reason::TooLarge => "TooLarge",
+        }
+    }
+
+    /// Returns the reason that has this number, if one has it.
+    pub(crate) fn of_number(number: u32) -> Option<Reason>
+        ensures { MatchOption result ((reason : Reason) → reason_number reason ≢ number)
+            (λ reason. reason_number reason ≡ number) }
+    {
+        Some(match number {
+            1 => Reason::Short,
+            2 => Reason::Magic,
+            3 => Reason::Version,
+            4 => Reason::HeadersDiffer,
+            5 => Reason::Counts,
+            6 => Reason::LeapSeconds,
+            7 => Reason::TimesNotRising,
+            8 => Reason::TypeIndex,
+            9 => Reason::Designation,
+            10 => Reason::TypeRecord,
+            11 => Reason::Indicators,
+            12 => Reason::Footer,
+            13 => Reason::TrailingBytes,
+            14 => Reason::TooLarge,
+            _ => return None,
+        })
+    }
+}
+
+/// Returns the name of the reason that has this number, if one has it.
+pub fn name_of_reason(number: u32) -> Option<&'static str>
+    ensures { MatchOption result ((name : List ℕ) → IsReasonName number name → ⊥)
+        (λ name. IsReasonName number name.now) }
+{
+    Some(Reason::of_number(number)?.name())
 }
 
 /// The reason why a file isn't read.

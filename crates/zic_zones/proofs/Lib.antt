@@ -1,3 +1,6 @@
 pub mod Named
 pub mod Texts
 pub mod Shows
+pub mod Learning
+pub mod Records
+pub mod Pieces

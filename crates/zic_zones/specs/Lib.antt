@@ -1,4 +1,6 @@
 pub mod Zones
 pub mod Source
 pub mod Tree
+pub mod Growing
+pub mod Laws
 pub mod code

@@ -2,6 +2,7 @@
 //! once its name is needed. The tests stand in `program_tests`.
 #![tactic(auto)]
 
+pub mod laws;
 mod ready;
 mod row_zones;
 mod source_zones;

@@ -1,8 +1,12 @@
 //! The zones of a tree of files.
 
-ghost use Rattle.std.specs.Prelude.{◌≡◌, [], OnOk, OnErr, All, map};
-ghost use Rattle.zic_columns.specs.Own.{whole_records};
-ghost use Rattle.zic_files.specs.Tree.{IsLearntFrom};
+ghost use Rattle.std.specs.Prelude.{◌≡◌, [], OnOk, OnErr, IsTrue, All, map};
+ghost use Rattle.zic_columns.specs.Column.{column_records};
+ghost use Rattle.zic_columns.specs.Record.{StandsIn, field_text};
+ghost use Rattle.zic_columns.specs.Round.{records_of};
+ghost use Rattle.zic_files.specs.Tree.{IsKnown, IsLearntFrom};
+ghost use Rattle.zic_zones.specs.Tree.{Breaks, Grows};
+ghost use Rattle.zic_zones.specs.Zones.{field_at};
 
 use crate::ready::Ready;
 use crate::row_zones::RowZones;
@@ -12,6 +16,9 @@ use std::marker::Model;
 use zic_columns::{BATCH, Field, Record, Round, Span, Splitter, Wanted, push_field};
 use zic_files::{TreeFiles, ZoneTree};
 use zic_plan::ZoneFrom;
+
+/// No bytes of a piece.
+const NOWHERE: Span = Span { start: 0, end: 0 };
 
 /// The zones of a tree, as far as it was asked for their names, ready for rows. Clauses see the tree,
 /// and the names and files that were learnt.
@@ -44,5 +51,157 @@ impl<T: ZoneTree> TreeZones<T> {
             learnt: TreeFiles::new(alloc),
             ready: Ready::new(alloc),
         }
+    }
+
+    /// Learns the zone that a field of a piece names.
+    fn learn_field(&mut self, alloc: Global, piece: &[u8], field: Field) -> Result<(), AllocError>
+        requires { StandsIn piece.now field }
+        ensures grown { OnOk result (Grows T.replied self.old self.new) }
+        ensures known { OnOk result (IsKnown self.new.learnt (field_text piece.now field)) }
+        ensures broken { OnErr result (Breaks T.replied self.old self.new) }
+    {
+        match field {
+            Field::Plain(span) => self.learn(alloc, span.of(piece)),
+            Field::Quoted(_) => {
+                let mut name = Vec::new(alloc);
+                push_field(&mut name, piece, field)?;
+                self.learn(alloc, &name)
+            }
+        }
+    }
+
+    /// Learns the zones that records of a piece name. A field with the bytes of the one before is
+    /// passed over.
+    fn learn_records(
+        &mut self,
+        alloc: Global,
+        piece: &[u8],
+        records: &[Record],
+    ) -> Result<(), AllocError>
+        requires { All (λ given. StandsIn piece.now given.zone) records.now }
+        ensures grown { OnOk result (Grows T.replied self.old self.new) }
+        ensures known { OnOk result (All (IsKnown self.new.learnt)
+            (map (λ given. field_text piece.now given.zone) records.now)) }
+        ensures broken { OnErr result (Breaks T.replied self.old self.new) }
+    {
+        // No zone has the name without bytes.
+        let mut last = Field::Plain(NOWHERE);
+        for record in records {
+            if !have_same_bytes(piece, record.zone, last) {
+                self.learn_field(alloc, piece, record.zone)?;
+                last = record.zone;
+            }
+        }
+        Ok(())
+    }
+
+    /// Learns the zones that the records of a piece name in the field with this index.
+    fn learn_piece(&mut self, alloc: Global, piece: &[u8], index: usize) -> Result<(), AllocError>
+        ensures grown { OnOk result (Grows T.replied self.old self.new) }
+        ensures known { OnOk result (All (IsKnown self.new.learnt)
+            (map (λ fields. field_at fields index) (column_records piece.now))) }
+        ensures broken { OnErr result (Breaks T.replied self.old self.new) }
+    {
+        let field = Field::Plain(NOWHERE);
+        let mut records = [Record {
+            own: NOWHERE,
+            count: 0,
+            zone: field,
+            time: field,
+        }; BATCH];
+        let zone = Some(index);
+        let mut splitter = Splitter::new(piece, Wanted { zone, time: index });
+        let mut count = BATCH;
+        while count == BATCH {
+            count = splitter.fill(&mut records);
+            self.learn_records(alloc, piece, &records[..count])?;
+        }
+        Ok(())
+    }
+
+    /// Learns the zones that the records of a round name in the field with this index.
+    fn learn_round(
+        &mut self,
+        alloc: Global,
+        round: &Round<'_>,
+        index: usize,
+    ) -> Result<(), AllocError>
+        ensures grown { OnOk result (Grows T.replied self.old self.new) }
+        ensures known { OnOk result (All (IsKnown self.new.learnt)
+            (map (λ fields. field_at fields index) (records_of round.now))) }
+        ensures broken { OnErr result (Breaks T.replied self.old self.new) }
+    {
+        for number in 0..round.len() {
+            self.learn_piece(alloc, round.piece(number), index)?;
+        }
+        Ok(())
+    }
+}
+
+impl<T: ZoneTree> Zones for TreeZones<T> {
+    ghost use Rattle.zic_files.specs.Tree.{IsKnown};
+    ghost use Rattle.zic_zones.specs.Growing.{grows_narrows, grows_same, grows_then};
+    ghost use Rattle.zic_zones.specs.Tree.{Breaks, Grows};
+    ghost use Rattle.zic_zones.specs.Zones.{Agree};
+
+    ghost known = { λ z. z.learnt.files };
+
+    ghost settled = { λ z name. IsKnown z.learnt name };
+
+    ghost may_be = { λ z files. Agree (IsKnown z.learnt) z.learnt.files files };
+
+    ghost grown = { λ a b. Grows T.replied a b };
+
+    ghost broken = { λ a b. Breaks T.replied a b };
+
+    fn learn(&mut self, alloc: Global, name: &[u8]) -> Result<(), AllocError> {
+        match self.learnt.learn(alloc, &mut self.tree, name) {
+            Ok(()) => self.ready.extend(alloc, self.learnt.files()),
+            Err(error) => {
+                // What was learnt is open now.
+                self.ready = Ready::new(alloc);
+                Err(error)
+            }
+        }
+    }
+
+    fn prepare(
+        &mut self,
+        alloc: Global,
+        zone: &ZoneFrom,
+        round: &Round<'_>,
+    ) -> Result<(), AllocError> {
+        match zone {
+            ZoneFrom::Field(index) => self.learn_round(alloc, round, *index),
+            ZoneFrom::Name(name) => self.learn(alloc, name.as_bytes()),
+        }
+    }
+
+    fn ready(&self) -> RowZones<'_> {
+        RowZones {
+            files: self.learnt.files(),
+            ready: &self.ready,
+        }
+    }
+
+    ghost same = { grows_same T.replied };
+
+    ghost then = { grows_then T.replied };
+
+    ghost narrows = { grows_narrows T.replied };
+
+    ghost agrees = { λ z files are. are };
+}
+
+/// Returns whether two fields of a piece have the same bytes, and so the same text.
+fn have_same_bytes(piece: &[u8], field: Field, other: Field) -> bool
+    requires field { StandsIn piece.now field }
+    requires other { StandsIn piece.now other }
+    ensures { IsTrue result → field_text piece.now field ≡ field_text piece.now other }
+{
+    match (field, other) {
+        (Field::Plain(span), Field::Plain(other)) => span.of(piece) == other.of(piece),
+        (Field::Quoted(span), Field::Quoted(other)) => span.of(piece) == other.of(piece),
+        _ => false,
     }
 }

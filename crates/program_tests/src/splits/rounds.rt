@@ -1,28 +1,59 @@
 //! Rounds of columns that come in reads of each length, and readers that fail.
 
+ghost use Rattle.zic_columns.specs.Record.{StandsIn};
+
 use crate::samples::{Device, count_of, expect, expect_text, must};
 use std::alloc::Global;
 use std::io::ErrorKind;
 use std::process::Abort;
-use zic_columns::{Column, Record, Round, Split};
+use zic_columns::{BATCH, Column, Field, Record, Round, Span, Splitter, Wanted, push_field};
+
+/// The fields of a record that are shown.
+const SHOWN: Wanted = Wanted {
+    zone: Some(0),
+    time: 1,
+};
 
 /// The greatest numbers of bytes that a read gives.
 const STEPS: [usize; 6] = [1, 2, 3, 5, 8, 1000];
 
-/// Adds the records of a piece to a text, each as its two fields with `=` between them, or nothing
-/// for another number of fields, and `|`. Returns their number.
-fn push_records(rt: &impl Abort, text: &mut Vec<u8>, split: &Split<'_>) -> usize {
-    let mut count = 0usize;
-    for record in split.records() {
-        count = count.wrapping_add(1);
-        if let Record::Pair { name, instant } = record {
-            must(rt, text.extend_from_slice(name));
-            must(rt, text.push(b'='));
-            must(rt, text.extend_from_slice(instant));
-        }
-        must(rt, text.push(b'|'));
+/// Adds a record of a piece to a text: its two fields with `=` between them, or nothing for another
+/// number of fields, and `|`.
+fn push_record(rt: &impl Abort, text: &mut Vec<u8>, piece: &[u8], given: Record)
+    requires zone { StandsIn piece.now given.zone }
+    requires time { StandsIn piece.now given.time }
+{
+    if given.count == 2 {
+        must(rt, push_field(text, piece, given.zone));
+        must(rt, text.push(b'='));
+        must(rt, push_field(text, piece, given.time));
     }
-    count
+    must(rt, text.push(b'|'));
+}
+
+/// Adds the records of a piece to a text, as [`push_record`] does. Returns their number.
+pub(super) fn push_records(rt: &impl Abort, text: &mut Vec<u8>, piece: &[u8]) -> usize {
+    let none = Span { start: 0, end: 0 };
+    let missing = Field::Plain(none);
+    let mut records = [Record {
+        own: none,
+        count: 0,
+        zone: missing,
+        time: missing,
+    }; BATCH];
+    let mut splitter = Splitter::new(piece, SHOWN);
+    let mut total = 0usize;
+    for _ in 0..1_000_000 {
+        let count = splitter.fill(&mut records);
+        for given in &records[..count] {
+            push_record(rt, text, piece, *given);
+        }
+        total = total.wrapping_add(count);
+        if count < BATCH {
+            break;
+        }
+    }
+    total
 }
 
 /// Adds the records of the next round to a text. Returns whether there was one, or `None` where the
@@ -35,10 +66,10 @@ fn push_round(
     (wanted, size): (usize, usize),
 ) -> Option<bool> {
     let size = size.max(1);
-    if !column.turn(alloc, wanted, size).ok()? {
+    if !column.next_round(alloc, wanted, size).ok()? {
         return Some(false);
     }
-    if size < push_pieces(rt, alloc, text, &column.round()) {
+    if size < push_pieces(rt, text, &column.round()) {
         return None;
     }
     Some(true)
@@ -46,11 +77,10 @@ fn push_round(
 
 /// Adds the records of the pieces of a round to a text. Returns the greatest number of records of a
 /// piece.
-fn push_pieces(rt: &impl Abort, alloc: Global, text: &mut Vec<u8>, round: &Round<'_>) -> usize {
+fn push_pieces(rt: &impl Abort, text: &mut Vec<u8>, round: &Round<'_>) -> usize {
     let mut most = 0;
     for index in 0..round.len() {
-        let split = must(rt, round.split(alloc, index));
-        most = push_records(rt, text, &split).max(most);
+        most = push_records(rt, text, round.piece(index)).max(most);
     }
     most
 }
@@ -199,21 +229,43 @@ fn a_slow_reader_is_not_waited_for(rt: HostRuntime) {
     }
 }
 
-/// Returns a column of equal rows.
-fn rows_of(rt: &impl Abort, alloc: Global, count: u32) -> Vec<u8> {
+/// Returns a column of equal rows, of so many bytes and 3 more each.
+fn rows_of(rt: &impl Abort, alloc: Global, count: u32, len: usize) -> Vec<u8> {
     let mut column = Vec::new(alloc);
     for _ in 0..count {
-        must(rt, column.extend_from_slice(b"a,0\n"));
+        must(rt, column.resize(column.len().saturating_add(len), b'a'));
+        must(rt, column.extend_from_slice(b",0\n"));
     }
     column
 }
 
 #[test]
-fn a_full_read_ends_no_round(rt: HostRuntime) {
-    // A full read has 65,536 bytes, and the column has twice as many.
-    let column = rows_of(&rt, rt.alloc(), 32_768);
-    for (wanted, want) in [(131_072, 1), (65_536, 2)] {
-        expect_rounds(&rt, rt.alloc(), &column, 65_536, ((wanted, 1_024), want));
+fn a_round_is_what_one_read_gave(rt: HostRuntime) {
+    // A column of 131,072 bytes. The first read asks for 65,536 bytes, and so does each other one
+    // where no more are wanted.
+    let column = rows_of(&rt, rt.alloc(), 2_048, 61);
+    for (step, wanted, want) in [
+        (65_536, 131_072, 2),
+        (131_072, 65_536, 2),
+        (32_768, 131_072, 4),
+        (16_384, 65_536, 8),
+    ] {
+        expect_rounds(&rt, rt.alloc(), &column, step, ((wanted, 1_024), want));
+    }
+}
+
+#[test]
+fn reads_that_are_full_ask_for_more(rt: HostRuntime) {
+    // A column of 1 MiB, in reads of 64 KiB, 256 KiB and 1 MiB, as far as these are wanted.
+    let column = rows_of(&rt, rt.alloc(), 1_024, 1_021);
+    for (wanted, want) in [(1_048_576, 3), (262_144, 5), (65_536, 16)] {
+        expect_rounds(
+            &rt,
+            rt.alloc(),
+            &column,
+            1_048_576,
+            ((wanted, 65_536), want),
+        );
     }
 }
 
@@ -328,14 +380,27 @@ fn no_read_is_made_in_vain(rt: HostRuntime) {
             expect_few_reads(&rt, rt.alloc(), *column, step);
         }
     }
-    for (step, want) in [(1, 3), (2, 2), (3, 1), (1000, 1)] {
-        expect_first_reads(&rt, rt.alloc(), step, want);
+    for (column, step, want) in &FIRST_READS {
+        expect_first_reads(&rt, rt.alloc(), *column, *step, *want);
     }
 }
 
+/// Columns, the lengths of their reads, and the number of reads that show whether there is a mark.
+static FIRST_READS: [(&[u8], usize, usize); 9] = [
+    (b"0\n", 2, 1),
+    (b"a,0\nb,1\n", 1, 1),
+    (b"\xEF,0\n", 1, 2),
+    (b"\xEF\xBB,0\n", 1, 3),
+    (b"\xEF\xBB,0\n", 2, 2),
+    (b"\xEF\xBB\xBFa,0\n", 1, 3),
+    (b"\xEF\xBB\xBFa,0\n", 2, 2),
+    (b"\xEF\xBB\xBFa,0\n", 3, 1),
+    (b"\xEF\xBB\xBF", 3, 1),
+];
+
 /// Ends the test where a column in reads of this length isn't begun, or in another number of reads.
-fn expect_first_reads(rt: &impl Abort, alloc: Global, step: usize, want: usize) {
-    let mut device = Device::new(b"a,0\nb,1\n", step, Ok(()));
+fn expect_first_reads(rt: &impl Abort, alloc: Global, column: &[u8], step: usize, want: usize) {
+    let mut device = Device::new(column, step, Ok(()));
     let begun = Column::new(alloc, &mut device, 100).is_ok();
     expect(rt, begun && device.reads() == want, "the first reads");
 }

@@ -1,11 +1,7 @@
 -- Bytes, taken 32 at a time.
-use Rattle.std.specs.Prelude.{◌≡◌, ◌+◌, ◌<◌, ◌≤◌, ◌||◌, ◌&&◌, ◌==◌, ℕ, Bool, true, not, if◌then◌else◌, List, [], ◌∷◌, map, length, slice_index, take}
+use Rattle.std.specs.Prelude.{◌≡◌, ◌+◌, ◌<◌, ◌≤◌, ◌||◌, ◌&&◌, ◌==◌, ℕ, Bool, true, not, if◌then◌else◌, List, [], ◌∷◌, map, length, take}
 use Rattle.std.specs.Simd.Lanes.{chunk, mask_l}
-use Rattle.memchr.specs.Find.{Nowhere, Passes}
-use Rattle.zic_columns.specs.Column.{AreWholeRecords, HasNoQuote, column_records, ends_line, fields_of}
-use Rattle.zic_columns.specs.Record.{IsRecord}
-use Rattle.zic_columns.specs.code.Line.{IsFirstLine}
-use Rattle.zic_columns.specs.declared.entry.Record.{Record}
+use Rattle.zic_columns.specs.Column.{AreWholeRecords, HasNoQuote, column_records, ends_line}
 use Rattle.zic_columns.specs.declared.blocks.Passed.{Passed}
 
 -- a comma or a line end
@@ -41,18 +37,3 @@ pub record ArePassed (bytes : List ℕ) (most : ℕ) (passed : Passed) : Type 0 
   pub whole : AreWholeRecords (take passed.len bytes)
   pub counted : length (column_records (take passed.len bytes)) ≡ passed.records
   pub few : passed.records < most
-
--- the first two bytes of a line that end a field are a comma and the line end
-pub record IsPairLine (bytes : List ℕ) (comma stop : ℕ) : Type 0 where
-  pub ordered : comma < stop
-  pub within : stop < length bytes
-  pub name : Nowhere (Passes ends_field bytes) 0 comma
-  pub here : slice_index bytes comma ≡ 44
-  pub instant : Nowhere (Passes ends_field bytes) (comma + 1) stop
-  pub ends : ends_line (slice_index bytes stop) ≡ true
-
--- the first line that has a byte gives this record, and the rest follow it
-pub record IsFirstPlain (bytes : List ℕ) (given : Record) (rest : List ℕ) : Type 0 where
-  pub line : List ℕ
-  pub first : IsFirstLine bytes line rest
-  pub is : IsRecord given (fields_of line)

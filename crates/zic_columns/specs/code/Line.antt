@@ -1,6 +1,6 @@
 -- Lines with their ends, and the first line of some bytes.
 use Rattle.std.specs.Prelude.{◌≡◌, ◌+◌, ◌<◌, ◌≤◌, ◌⊎◌, ℕ, true, false, List, [], ◌∷◌, ◌++◌, length, slice_index, take, All}
-use Rattle.zic_columns.specs.Column.{AreWholeRecords, column_records, ends_line, fields_of, plain_records}
+use Rattle.zic_columns.specs.Column.{AreWholeRecords, column_records, ends_line}
 
 -- each line has its end: the last byte, if there is one, ends a line
 abbrev pub AreWholeLines : List ℕ → Type 0
@@ -12,14 +12,6 @@ pub record IsAfterLineEnds (bytes rest : List ℕ) : Type 0 where
   pub parts : bytes ≡ skipped ++ rest
   pub ends : All (λ byte. ends_line byte ≡ true) skipped
   pub begins : 0 < length rest → ends_line (slice_index rest 0) ≡ false
-
--- the bytes before the rest hold this one line that has a byte
-pub record IsFirstLine (bytes line rest : List ℕ) : Type 0 where
-  pub before : List ℕ
-  pub parts : bytes ≡ before ++ rest
-  pub one : plain_records before ≡ fields_of line ∷ []
-  pub whole : (rest ≡ []) ⊎ AreWholeLines before
-  pub shorter : length rest < length bytes
 
 -- the first `len` bytes hold the first record, and are whole records or all bytes
 pub record IsFirstRecord (bytes : List ℕ) (len : ℕ) : Type 0 where

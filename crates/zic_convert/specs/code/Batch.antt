@@ -63,9 +63,13 @@ pub record IsLastName (piece : Piece) (last : NamedFile) : Type 0 where
 abbrev pub IsLastSpan : Piece → FileSpan → Type 0
 IsLastSpan piece last = IfSome last.file (λ n. ShowsThroughout piece.zones.now n last.span.instants last.span.number)
 
--- the records of a batch with the delimiter put back
+-- a record of a piece, with the delimiter put back
+abbrev pub record_of : Piece → Record → Whole
+record_of piece given = put_back piece.layout.now.delimiter (record_at piece.bytes.now given)
+
+-- the first records of a batch
 abbrev pub records_of : Piece → Batch → ℕ → List Whole
-records_of piece batch count = map (λ r. put_back piece.layout.now.delimiter (record_at piece.bytes.now r)) (take count batch.records)
+records_of piece batch count = map (record_of piece) (take count batch.records)
 
 -- what is told of the first records of a batch
 pub record AreColumns (piece : Piece) (batch : Batch) (count : ℕ) : Type 0 where

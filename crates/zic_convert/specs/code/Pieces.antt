@@ -4,7 +4,7 @@ use Rattle.zic_columns.specs.Round.{ArePiecesOf}
 use Rattle.zic_columns.specs.declared.pieces.TheConstants.{MAX_ROUND_PIECES}
 use Rattle.zic_files.specs.File.{File}
 use Rattle.zic_plan.specs.declared.layout.Layout.{Layout}
-use Rattle.zic_plan.specs.declared.stop.RowKind.{RowKind}
+use Rattle.zic_base.specs.declared.row_fault.RowKind.{RowKind}
 use Rattle.zic_plan.specs.declared.plan.TheConstants.{MAX_OF_PIECE, MAX_ROWS}
 use Rattle.zic_convert.specs.code.Row.{AreRowsOf, RowsOf, wholes_in}
 

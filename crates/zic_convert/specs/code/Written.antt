@@ -8,10 +8,10 @@ use Rattle.zic_counted.specs.Written.{FailsWithin}
 use Rattle.zic_files.specs.File.{File}
 use Rattle.zic_plan.specs.Plan.{Limits}
 use Rattle.zic_plan.specs.declared.layout.Layout.{Layout}
-use Rattle.zic_plan.specs.declared.stop.RowFault.{RowFault}
-use Rattle.zic_plan.specs.declared.stop.RowKind.{RowKind}
-use Rattle.zic_plan.specs.declared.stop.RunStop.{RunStop}
-use Rattle.zic_plan.specs.declared.stop.RunStop.TheVariants as stop
+use Rattle.zic_base.specs.declared.row_fault.RowFault.{RowFault}
+use Rattle.zic_base.specs.declared.row_fault.RowKind.{RowKind}
+use Rattle.zic_base.specs.declared.run_stop.RunStop.{RunStop}
+use Rattle.zic_base.specs.declared.run_stop.RunStop.TheVariants as stop
 use Rattle.zic_convert.specs.Run.{Notes}
 use Rattle.zic_convert.specs.code.Row.{AreRowsOf, RowsOf, wholes_of_all}
 use Rattle.zic_convert.specs.code.Pieces.{Pieces, joined}

@@ -1,7 +1,7 @@
 -- The fields of a list of faults.
 use Rattle.std.specs.Prelude.{◌≡◌, ◌-◌, ◌^◌, ℕ, true, false, Bool, List, Option, length, min, slice_get}
 use Rattle.zic_counted.specs.Counts.{Counts}
-use Rattle.zic_plan.specs.declared.stop.RowFault.{RowFault}
+use Rattle.zic_base.specs.declared.row_fault.RowFault.{RowFault}
 use Rattle.zic_io.specs.Faults.{FaultNotes, HasFailed, HasLines}
 
 -- what clauses see of them

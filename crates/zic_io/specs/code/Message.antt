@@ -1,6 +1,8 @@
 -- The parts of a failure's text.
 use Rattle.std.specs.Prelude.{ℕ, codes, List, string_bytes}
-use Rattle.zic_names.specs.Names.{kind_word, reason_word, row_kind_word}
+use Rattle.zic_base.specs.Fault.{kind_word}
+use Rattle.zic_tzif.specs.Reason.{reason_word}
+use Rattle.zic_base.specs.RowFault.{row_kind_word}
 use Rattle.zic_io.specs.declared.failure.Failure.{Failure}
 use Rattle.zic_io.specs.declared.failure.Failure.TheVariants as failures
 

@@ -11,8 +11,8 @@ use Rattle.zic_columns.proofs.columns.Column.new.Goals as goal
 pub overflow_sub-mark : goal.overflow_sub-mark
 overflow_sub-mark g c = rw c.without_mark.ensures (unmarked_shorter c.held-held.result.now)
 
-pub returns : goal.returns
-returns g c =
+pub returns-clause-bytes : goal.returns-clause-bytes
+returns-clause-bytes g c =
     let mid = c.read_mark.new.self in
     let held : c.held-held.result.now ≡ mid.held = c.held-held.ensures ∙ ap (λ (column : ColumnOf _). column.held) c.column.view_is in
     let keeps = rw (c.new-2.ensures, c.new.ensures.none, c.new.ensures.inner, prepend_known-nil (g.R.Read.remaining c.args.reader))

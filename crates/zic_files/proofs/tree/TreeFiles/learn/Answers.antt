@@ -1,4 +1,4 @@
-use Rattle.std.proofs.Common.{◌≡◌, List, ℕ, [], ◌∷◌, ◌++◌, ◌∙◌, refl, sym, subst}
+use Rattle.std.proofs.Common.{◌≡◌, inl, List, ℕ, [], ◌∷◌, ◌++◌, ◌∙◌, refl, sym, subst}
 use Rattle.std.specs.Prelude.{Contains, IfErr, IfOk}
 use Rattle.std.proofs.lemmas.Bool.{false≢true}
 use Rattle.zic_files.specs.Tree.{Adds, AreAsked, AreOfName, Gains, IsLearntFrom, Learnt, Reply}
@@ -16,6 +16,14 @@ returns-then-has-clause-ok g c = λ replies from.
       settled_nothing_more replies name (settled_before replies c.args.self.now name from has),
       none_of_name name,
     )
+
+pub returns-then-has-clause-grown : goal.returns-then-has-clause-grown
+returns-then-has-clause-grown g c =
+    let has = subst (λ (learnt : Learnt). Contains learnt.asked c.args.name.now) c.self.view_is (c.has.ensures.0 c.if-has.true) in
+    inl (λ _. has, refl)
+
+pub returns-in-None-clause-grown : goal.returns-in-None-clause-grown
+returns-in-None-clause-grown g c = inl (λ proper. absurd (false≢true (c.in-None.ensures.just.1 proper)), refl)
 
 pub returns-in_ok-name-in-Some-clause-ok : goal.returns-in_ok-name-in-Some-clause-ok
 returns-in_ok-name-in-Some-clause-ok g c = λ replies from.

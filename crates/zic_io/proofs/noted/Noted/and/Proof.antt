@@ -27,7 +27,7 @@ use denote.Triple.Spec.{Meets, triple_of}
 use denote.Triple.Table.{entered}
 use denote.Triple.Walked.{says, Stays, stay_dropped, walk_of, ends_at, walk_Meets, Goes-dropped}
 use Rattle.std.specs.contracts.marker.PhantomData as Mark
-use Rattle.zic_plan.specs.contracts.stop.RowFault as RowFault
+use Rattle.zic_base.specs.contracts.row_fault.RowFault as RowFault
 use Rattle.zic_io.proofs.Walks.{none, one, one_made}
 use Rattle.zic_io.specs.contracts.noted.Noted as Noted
 use Rattle.zic_io.specs.contracts.noted.Noted.and as F

@@ -1,0 +1,166 @@
+-- The own bytes of a record, by themselves, are that record alone.
+use Rattle.std.proofs.Common.{◌≡◌, ◌+◌, ◌<◌, ℕ, zero, suc, true, false, All, List, [], ◌∷◌, ◌++◌, length, map, refl, sym, ap, ◌∙◌, subst, ⊎_elim, append_assoc, arith}
+use Rattle.std.proofs.lemmas.Bool.{both_ways, cases_Bool}
+use Rattle.std.proofs.lemmas.List.{append-nil}
+use Rattle.std.proofs.lemmas.List.Elements.{All-cons, All-nil}
+use Rattle.csv.specs.Machine.{field_after, fields_after, is_end, next_record, step}
+use Rattle.csv.specs.Reading.{default_config}
+use Rattle.csv.specs.declared.parser.Action.{Action}
+use Rattle.csv.specs.declared.parser.Action.TheVariants as act
+use Rattle.csv.specs.declared.parser.State.{State}
+use Rattle.csv.specs.declared.parser.State.TheVariants as st
+use Rattle.zic_columns.specs.Column.{column_records, ends_line}
+use Rattle.zic_columns.specs.Own.{Whole, beside, own_from, own_texts, whole_records}
+use Rattle.zic_columns.specs.Record.{first_fields, whole_of}
+use Rattle.zic_columns.proofs.CutLaw.{in_record, stays}
+use Rattle.zic_columns.proofs.MachineFacts as Machine
+use Rattle.zic_columns.proofs.OwnFacts.{own_before, took}
+use Rattle.zic_columns.proofs.OwnLens.{in_end, line_ends, next_ends, next_goes, own_end, own_last, own_more, own_nil, own_then, starts}
+use Rattle.zic_columns.proofs.SomeRecords.{Leaves, are_read, column_records-end, leaves, only}
+use Rattle.zic_columns.proofs.StepFacts.{records-cons, records-nil}
+
+-- ---- the rest of a record
+
+-- The machine, in a record, reads the bytes up to an end of its own bytes, which end the record too where nothing follows.
+pub record IsRead (s : State) (fields : List (List ℕ)) (field own bytes : List ℕ) : Type 0 where
+  pub front : List ℕ
+  pub all : List (List ℕ)
+  pub after : State
+  pub rest : List ℕ
+  pub owns : own_from default_config s own bytes ≡ (own ++ front) ∷ own_from default_config after [] rest
+  pub reads : next_record default_config s fields field bytes ≡ took all after rest
+  pub alone : next_record default_config s fields field front ≡ took all st.StartRecord []
+
+read_last : (s : State) (fields : List (List ℕ)) (field : List ℕ) → in_record s ≡ true
+    → next_record default_config s fields field [] ≡ took (fields ++ field ∷ []) st.StartRecord []
+unfolding next_record
+read_last s fields field is = rw (in_end s is) refl
+
+end_fields : (a : Action) (fields : List (List ℕ)) (field : List ℕ) → is_end a ≡ true → fields_after a fields field ≡ fields ++ field ∷ []
+end_fields act.EndRecord fields field ends = refl
+end_fields act.EndField fields field ends = absurd (cc ends)
+end_fields act.Copy fields field ends = absurd (cc ends)
+end_fields act.Skip fields field ends = absurd (cc ends)
+
+pub read_on : (s : State) (fields : List (List ℕ)) (field own bytes : List ℕ) → in_record s ≡ true → IsRead s fields field own bytes
+read_on s fields field own [] is = record {
+  front = [];
+  all = fields ++ field ∷ [];
+  after = st.StartRecord;
+  rest = [];
+  owns = own_last s own is ∙ ap (λ (b : List ℕ). b ∷ []) (sym (append-nil own)) ∙ ap (λ (t : List (List ℕ)). (own ++ []) ∷ t) (sym own_nil);
+  reads = read_last s fields field is;
+  alone = read_last s fields field is;
+}
+read_on s fields field own (byte ∷ bytes) is =
+    let to = step default_config s byte in
+    ⊎_elim
+    (λ (ends : is_end to.1 ≡ true). record {
+      front = [];
+      all = fields ++ field ∷ [];
+      after = to.0;
+      rest = bytes;
+      owns = own_then s byte own bytes ends ∙ ap (λ (b : List ℕ). b ∷ own_from default_config to.0 [] bytes) (sym (append-nil own));
+      reads = next_ends s byte fields field bytes ends ∙ ap (λ (f : List (List ℕ)). took f to.0 bytes) (end_fields to.1 fields field ends);
+      alone = read_last s fields field is;
+    })
+    (λ (goes : is_end to.1 ≡ false).
+    let later = read_on to.0 (fields_after to.1 fields field) (field_after to.1 byte field) (own ++ byte ∷ []) bytes (stays s byte is goes) in
+    record {
+      front = byte ∷ later.front;
+      all = later.all;
+      after = later.after;
+      rest = later.rest;
+      owns = own_more s byte own bytes is goes ∙ later.owns
+          ∙ ap (λ (b : List ℕ). b ∷ own_from default_config later.after [] later.rest) (append_assoc own (byte ∷ []) later.front);
+      reads = next_goes s byte fields field bytes goes ∙ later.reads;
+      alone = next_goes s byte fields field later.front goes ∙ later.alone;
+    })
+    (cases_Bool (is_end to.1))
+
+-- ---- a whole record
+
+-- the first record has these own bytes, which are that record alone, and the rest have the others
+pub record IsFirstOwn (bytes own rest : List ℕ) : Type 0 where
+  pub fields : List (List ℕ)
+  pub owns : own_texts bytes ≡ own ∷ own_texts rest
+  pub reads : column_records bytes ≡ fields ∷ column_records rest
+  pub alone : column_records own ≡ fields ∷ []
+
+read_first : (byte : ℕ) (bytes : List ℕ) → ends_line byte ≡ false
+    → (own : List ℕ) × (rest : List ℕ) × (length rest < length (byte ∷ bytes)) × IsFirstOwn (byte ∷ bytes) own rest
+read_first byte bytes within =
+    let s = st.StartField in
+    let to = step default_config s byte in
+    let goes : is_end to.1 ≡ false = ⊎_elim (λ yes. absurd (both_ways (ends_line byte) within (line_ends s byte refl yes))) (λ no. no) (cases_Bool (is_end to.1)) in
+    let later = read_on to.0 (fields_after to.1 [] []) (field_after to.1 byte []) (byte ∷ []) bytes (stays s byte refl goes) in
+    let own = byte ∷ later.front in
+    let reads : next_record default_config st.StartRecord [] [] (byte ∷ bytes) ≡ took later.all later.after later.rest =
+    Machine.starts byte bytes [] [] within ∙ next_goes s byte [] [] bytes goes ∙ later.reads in
+    let alone : next_record default_config st.StartRecord [] [] own ≡ took later.all st.StartRecord [] =
+    Machine.starts byte later.front [] [] within ∙ next_goes s byte [] [] later.front goes ∙ later.alone in
+    let left : Leaves (length (byte ∷ bytes)) (took later.all later.after later.rest) = subst (Leaves (length (byte ∷ bytes))) reads (leaves st.StartRecord [] [] (byte ∷ bytes)) in
+    let others = column_records later.rest in (
+      own,
+      later.rest,
+      omega (arith, left.1),
+      record {
+        fields = later.all;
+        owns = starts byte bytes within ∙ own_more s byte [] bytes refl goes ∙ later.owns ∙ ap (λ (t : List (List ℕ)). own ∷ t) (own_before later.after later.rest left.0);
+        reads = only (byte ∷ bytes) (later.all ∷ others)
+            (records-cons st.StartRecord later.after (byte ∷ bytes) later.rest later.all others reads (Machine.before_record later.after later.rest others left.0 (are_read later.rest)));
+        alone = only own (later.all ∷ []) (records-cons st.StartRecord st.StartRecord own [] later.all [] alone records-nil);
+      },
+    )
+
+-- ---- all records
+
+abbrev IsAlone : Whole → Type 0
+IsAlone w = column_records w.own ≡ w.fields ∷ []
+
+record AreAlone (bytes : List ℕ) : Type 0 where
+  pub each : All IsAlone (whole_records bytes)
+  pub same : whole_records bytes ≡ map whole_of (own_texts bytes)
+
+wholes_first : (bytes own rest : List ℕ) (is : IsFirstOwn bytes own rest) → whole_records bytes ≡ record { own = own; fields = is.fields } ∷ whole_records rest
+wholes_first bytes own rest is =
+    ap (λ (t : List (List ℕ)). beside t (column_records bytes)) is.owns ∙ ap (beside (own ∷ own_texts rest)) is.reads
+
+alone_first : (bytes own rest : List ℕ) → IsFirstOwn bytes own rest → AreAlone rest → AreAlone bytes
+alone_first bytes own rest is later =
+    let first : Whole = record { own = own; fields = is.fields } in
+    let all = wholes_first bytes own rest is in
+    record {
+      each = subst (All IsAlone) (sym all) (All-cons IsAlone first (whole_records rest) is.alone later.each);
+      same = all ∙ ap (λ (w : List Whole). first ∷ w) later.same
+          ∙ ap (λ (r : List (List (List ℕ))). record { own = own; fields = first_fields r } ∷ map whole_of (own_texts rest)) (sym is.alone)
+          ∙ ap (map whole_of) (sym is.owns);
+    }
+
+alone_up_to : (n : ℕ) (bytes : List ℕ) → length bytes < n → AreAlone bytes
+alone_up_to zero bytes few = absurd (omega (arith, few))
+alone_up_to (suc n) [] few =
+    let none : whole_records [] ≡ [] = ap (λ (t : List (List ℕ)). beside t (column_records [])) own_nil in
+    record { each = subst (All IsAlone) (sym none) (All-nil IsAlone); same = none ∙ ap (map whole_of) (sym own_nil) }
+alone_up_to (suc n) (byte ∷ bytes) few = ⊎_elim
+    (λ (ends : ends_line byte ≡ true).
+    let later = alone_up_to n bytes (omega (arith, few)) in
+    let same : whole_records (byte ∷ bytes) ≡ whole_records bytes =
+    ap (λ (t : List (List ℕ)). beside t (column_records (byte ∷ bytes))) (own_end byte bytes ends) ∙ ap (beside (own_texts bytes)) (column_records-end byte bytes ends) in
+    record {
+      each = subst (All IsAlone) (sym same) later.each;
+      same = same ∙ later.same ∙ ap (map whole_of) (sym (own_end byte bytes ends));
+    })
+    (λ (within : ends_line byte ≡ false).
+    let first = read_first byte bytes within in
+    alone_first (byte ∷ bytes) first.0 first.1 first.3 (alone_up_to n first.1 (omega (arith, few, first.2))))
+    (cases_Bool (ends_line byte))
+
+are_alone : (bytes : List ℕ) → AreAlone bytes
+are_alone bytes = alone_up_to (length bytes + 1) bytes (omega arith)
+
+pub each_alone : (bytes : List ℕ) → All (λ (w : Whole). column_records w.own ≡ w.fields ∷ []) (whole_records bytes)
+each_alone bytes = (are_alone bytes).each
+
+pub of_own_bytes : (bytes : List ℕ) → whole_records bytes ≡ map whole_of (own_texts bytes)
+of_own_bytes bytes = (are_alone bytes).same

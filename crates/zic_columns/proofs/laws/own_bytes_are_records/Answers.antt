@@ -1,0 +1,5 @@
+use Rattle.zic_columns.proofs.OwnRecords.{each_alone}
+use Rattle.zic_columns.proofs.laws.own_bytes_are_records.Goals as goal
+
+pub returns : goal.returns
+returns c = each_alone

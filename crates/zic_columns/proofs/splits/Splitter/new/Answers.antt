@@ -1,0 +1,7 @@
+use Rattle.std.proofs.Common.{arith}
+use Rattle.zic_columns.proofs.SomeRecords.{few_records}
+use Rattle.zic_columns.proofs.Wholes.{wholes_counted}
+use Rattle.zic_columns.proofs.splits.Splitter.new.Goals as goal
+
+pub returns-clause-few : goal.returns-clause-few
+returns-clause-few c = omega (arith, few_records c.args.piece.now, wholes_counted c.args.piece.now)

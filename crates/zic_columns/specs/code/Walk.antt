@@ -1,0 +1,55 @@
+-- A record of a piece, field by field.
+use Rattle.std.specs.Prelude.{◌≡◌, ◌+◌, ◌-◌, ◌<◌, ◌≤◌, ◌⊎◌, ℕ, true, List, [], ◌∷◌, ◌++◌, Option, MatchOption, Some, drop, length, slice_index, slice_range}
+use Rattle.csv.specs.Machine.{next_record}
+use Rattle.csv.specs.Reading.{default_config}
+use Rattle.csv.specs.declared.parser.State.TheVariants as st
+use Rattle.zic_columns.specs.Own.{own_texts}
+use Rattle.zic_columns.specs.Record.{IsSplit, Splitting, StandsIn, bytes_at, field_text, record_at, wanted_text}
+use Rattle.zic_columns.specs.code.Block.{ends_field}
+use Rattle.zic_columns.specs.code.Machine.{IsEndOfRecord, ReadsTo}
+use Rattle.zic_columns.specs.declared.fields.Record.{Record}
+use Rattle.zic_columns.specs.declared.fields.Wanted.{Wanted}
+use Rattle.memchr.specs.Find.{Nowhere, Passes}
+
+-- no comma or line end stands from an index up to another, at which there is one or the end
+pub record IsFieldEnd (bytes : List ℕ) (at stop : ℕ) : Type 0 where
+  pub low : at ≤ stop
+  pub high : stop ≤ length bytes
+  pub before : Nowhere (Passes ends_field bytes) at stop
+  pub ends : (stop ≡ length bytes) ⊎ (ends_field (slice_index bytes stop) ≡ true)
+
+-- a double quote stands there
+pub record IsQuoteAt (bytes : List ℕ) (at : ℕ) : Type 0 where
+  pub within : at < length bytes
+  pub here : slice_index bytes at ≡ 34
+
+-- of these fields a record has the number and the wanted ones
+pub record HasFields (piece : List ℕ) (wanted : Wanted) (fields : List (List ℕ)) (given : Record) : Type 0 where
+  pub count : given.count ≡ length fields
+  pub zone_stands : StandsIn piece given.zone
+  pub zone : field_text piece given.zone ≡ wanted_text fields wanted.zone
+  pub time_stands : StandsIn piece given.time
+  pub time : field_text piece given.time ≡ wanted_text fields (Some wanted.time)
+
+-- the fields of a record were read up to an index, at which another begins
+pub record HasWalked (piece : List ℕ) (start : ℕ) (wanted : Wanted) (given : Record) (at : ℕ) : Type 0 where
+  pub own : given.own.start ≡ start
+  pub low : start ≤ at
+  pub high : at ≤ length piece
+  pub few : given.count ≤ at
+  pub fields : List (List ℕ)
+  pub has : HasFields piece wanted fields given
+  pub reads : (more : List ℕ) → next_record default_config st.StartField [] [] (slice_range piece start at ++ more) ≡ next_record default_config st.StartField fields [] more
+  pub any : ReadsTo st.StartField (slice_range piece start at) st.StartField
+
+-- the record that begins at an index
+pub record IsRecordFrom (piece : List ℕ) (start : ℕ) (wanted : Wanted) (given : Record) : Type 0 where
+  pub at : given.own.start ≡ start
+  pub split : IsSplit piece wanted given
+  pub owns : own_texts (drop start piece) ≡ bytes_at piece given.own ∷ own_texts (drop given.own.end piece)
+  pub ended : given.own.end < length piece → IsEndOfRecord st.StartField (drop start piece) (given.own.end - start + 1)
+
+-- the next record of a piece, if there is one
+abbrev pub IsNext : Splitting → Option Record → Splitting → Type 0
+IsNext old given new = MatchOption given ((old.left ≡ []) × (new.left ≡ []))
+    (λ first. (old.left ≡ record_at old.piece first ∷ new.left) × IsSplit old.piece old.wanted first)

@@ -1,0 +1,93 @@
+//! Records of a piece: where their bytes stand, and the fields that rows need.
+
+ghost use Rattle.std.specs.Prelude.{◌≡◌, ◌++◌, OnOk};
+ghost use Rattle.zic_columns.specs.Record.{IsWithin, StandsIn, bytes_at, field_text, text_alone};
+
+use crate::line::after_line_ends;
+use crate::machine::{Place, field_byte};
+use std::alloc::AllocError;
+
+/// A range of bytes of a piece: from its start up to its end.
+#[derive(Clone, Copy, Drop)]
+pub struct Span {
+    pub start: usize,
+    pub end: usize,
+}
+
+/// Where a field of a record stands in its piece.
+#[derive(Clone, Copy, Drop)]
+pub enum Field {
+    /// The text of the field, as it stands in the piece: no bytes for a field that is missing.
+    Plain(Span),
+    /// The field with its double quotes. Its text is what a CSV reader makes of it.
+    Quoted(Span),
+}
+
+/// The fields of a record that rows need, by their index from 0.
+#[derive(Clone, Copy, Drop)]
+pub struct Wanted {
+    /// The field that names a zone, or `None` where every row is in one zone.
+    pub zone: Option<usize>,
+    /// The field that tells a time.
+    pub time: usize,
+}
+
+/// A record of a piece, without its line end.
+#[derive(Clone, Copy, Drop)]
+pub struct Record {
+    /// The record's own bytes, with delimiters and double quotes.
+    pub own: Span,
+    /// The number of fields.
+    pub count: usize,
+    /// The field that names a zone.
+    pub zone: Field,
+    /// The field that tells a time.
+    pub time: Field,
+}
+
+impl Span {
+    /// Returns the bytes of a piece that stand there.
+    pub fn of<'a>(self, piece: &'a [u8]) -> &'a [u8]
+        requires { IsWithin piece.now self }
+        ensures { result.now ≡ bytes_at piece.now self }
+    {
+        &piece[self.start..self.end]
+    }
+}
+
+/// Appends the text of a field of a piece.
+///
+/// # Errors
+///
+/// Fails where memory is refused.
+pub fn push_field(text: &mut Vec<u8>, piece: &[u8], field: Field) -> Result<(), AllocError>
+    requires { StandsIn piece.now field }
+    ensures { OnOk result (text.new.items ≡ text.old.items ++ field_text piece.now field) }
+{
+    match field {
+        Field::Plain(span) => text.extend_from_slice(span.of(piece)),
+        Field::Quoted(span) => push_quoted(text, span.of(piece)),
+    }
+}
+
+/// Appends the text of the first field of some bytes.
+///
+/// # Errors
+///
+/// Fails where memory is refused.
+fn push_quoted(text: &mut Vec<u8>, bytes: &[u8]) -> Result<(), AllocError>
+    ensures { OnOk result (text.new.items ≡ text.old.items ++ text_alone bytes.now) }
+{
+    let mut stands = Place::Start;
+    let rest = after_line_ends(bytes);
+    for byte in rest {
+        let Some(read) = field_byte(stands, *byte) else {
+            return Ok(());
+        };
+        if read.is_text {
+            text.push(*byte)?;
+        }
+        stands = read.next;
+    }
+    Ok(())
+}

@@ -1,0 +1,186 @@
+//! A record of a piece, field by field.
+
+ghost use Rattle.std.specs.Prelude.{◌≡◌, ◌+◌, ◌^◌, ◌<◌, ◌≤◌, ◌==◌, ◌∷◌, ◌++◌, ℕ, List, [], drop, length, Some, IfSome, MatchResult};
+ghost use Rattle.memchr.specs.Find.{IsFirst, Passes};
+ghost use Rattle.zic_columns.specs.Record.{StandsIn, field_text};
+ghost use Rattle.zic_columns.specs.code.Field.{IsFieldAt};
+ghost use Rattle.zic_columns.specs.code.Machine.{BeginsRecord, IsEndOfRecord, ReadsTo, state_at};
+ghost use Rattle.zic_columns.specs.code.Own.{IsOwnLen};
+ghost use Rattle.zic_columns.specs.code.Walk.{HasFields, IsFieldEnd, IsQuoteAt, IsRecordFrom};
+ghost use Rattle.zic_columns.specs.declared.machine.Place.TheVariants as place;
+
+use crate::blocks::{near_field_end, near_quote};
+use crate::fields::{Field, Record, Span, Wanted};
+use crate::line::ends_line;
+use crate::machine::{Place, field_len, record_end};
+use memchr::{memchr, memchr3};
+
+/// A field of a piece, and the index of the comma or line end after it, or of the piece's end.
+#[derive(Clone, Copy, Drop)]
+pub(crate) struct FoundField {
+    field: Field,
+    stop: usize,
+}
+
+/// Returns the index of the first double quote.
+#[inline(always)]
+fn quote_end(bytes: &[u8]) -> Option<usize>
+    ensures { IfSome result (λ at.
+        IsFirst (Passes (λ byte. byte == 34) bytes.now) 0 (length bytes.now) (Some at)) }
+{
+    match near_quote(bytes) {
+        Some(at) => Some(at),
+        None => memchr(b'"', bytes),
+    }
+}
+
+/// Returns the index of the first comma or line end from an index on, or of the end.
+#[inline(always)]
+fn field_end(bytes: &[u8], at: usize) -> usize
+    requires { at ≤ length bytes.now }
+    ensures { IsFieldEnd bytes.now at result }
+{
+    if let Some(stop) = near_field_end(bytes, at) {
+        return stop;
+    }
+    match memchr3(b',', b'\r', b'\n', &bytes[at..]) {
+        Some(len) => at + len,
+        None => bytes.len(),
+    }
+}
+
+/// Returns the field between two double quotes, the first of which stands at an index, where no
+/// other stands between them and the field ends after the second.
+#[inline(always)]
+fn near_quoted(piece: &[u8], at: usize) -> Option<FoundField>
+    requires { IsQuoteAt piece.now at }
+    ensures { IfSome result (IsFieldAt piece.now at) }
+{
+    let start = at + 1;
+    let end = start + quote_end(&piece[start..])?;
+    let stop = end + 1;
+    if stop < piece.len() && piece[stop] != b',' && !ends_line(piece[stop]) {
+        return None;
+    }
+    let field = Field::Plain(Span { start, end });
+    Some(FoundField { field, stop })
+}
+
+/// Returns the field from an index on, at which a double quote stands.
+#[inline(always)]
+fn quoted_field(piece: &[u8], at: usize) -> FoundField
+    requires { IsQuoteAt piece.now at }
+    ensures { IsFieldAt piece.now at result }
+{
+    if let Some(found) = near_quoted(piece, at) {
+        return found;
+    }
+    let stop = at + field_len(&piece[at..]);
+    let field = Field::Quoted(Span {
+        start: at,
+        end: stop,
+    });
+    FoundField { field, stop }
+}
+
+/// Returns the field from an index on. One that begins with no double quote has its text up to a
+/// comma or line end: a double quote in it is text.
+#[inline(always)]
+fn next_field(piece: &[u8], at: usize) -> FoundField
+    requires { at ≤ length piece.now }
+    ensures { IsFieldAt piece.now at result }
+{
+    if at < piece.len() && piece[at] == b'"' {
+        return quoted_field(piece, at);
+    }
+    let stop = field_end(piece, at);
+    let field = Field::Plain(Span {
+        start: at,
+        end: stop,
+    });
+    FoundField { field, stop }
+}
+
+/// Returns the record with one more field, which it keeps where rows need it.
+#[inline(always)]
+fn with_field(given: Record, field: Field, wanted: Wanted) -> Record
+    requires { given.count + 1 < 2 ^ 64 }
+    ensures own { result.own ≡ given.own }
+    ensures count { result.count ≡ given.count + 1 }
+    ensures has { (piece : List ℕ) (fields : List (List ℕ)) → HasFields piece wanted fields given
+        → StandsIn piece field
+        → HasFields piece wanted (fields ++ field_text piece field ∷ []) result }
+{
+    let zone = match wanted.zone {
+        Some(index) if index == given.count => field,
+        _ => given.zone,
+    };
+    let time = if wanted.time == given.count {
+        field
+    } else {
+        given.time
+    };
+    Record {
+        own: given.own,
+        count: given.count + 1,
+        zone,
+        time,
+    }
+}
+
+/// Splits the record that begins at an index.
+#[inline(always)]
+pub(crate) fn split_record(piece: &[u8], start: usize, wanted: Wanted) -> Record
+    requires { BeginsRecord (drop start piece.now) }
+    ensures { IsRecordFrom piece.now start wanted result }
+{
+    let own = Span { start, end: start };
+    let mut given = Record {
+        own,
+        count: 0,
+        zone: Field::Plain(own),
+        time: Field::Plain(own),
+    };
+    let mut at = start;
+    loop {
+        let found = next_field(piece, at);
+        given = with_field(given, found.field, wanted);
+        if found.stop == piece.len() || piece[found.stop] != b',' {
+            given.own.end = found.stop;
+            return given;
+        }
+        at = found.stop + 1;
+    }
+}
+
+/// Returns the number of the own bytes of the record at the start of the bytes.
+pub(crate) fn own_len(bytes: &[u8]) -> usize
+    requires { BeginsRecord bytes.now }
+    ensures own { IsOwnLen bytes.now result }
+    ensures ended { result < length bytes.now
+        → IsEndOfRecord (state_at place.Start) bytes.now (result + 1) }
+{
+    let none = Wanted {
+        zone: None,
+        time: usize::MAX,
+    };
+    split_record(bytes, 0, none).own.end
+}
+
+/// Returns the number of bytes up to the end of a record and with its line end, as [`record_end`]
+/// does at the start of a record.
+///
+/// # Errors
+///
+/// Returns the place after all bytes where none of them ends the record.
+pub(crate) fn whole_record_end(bytes: &[u8]) -> Result<usize, Place>
+    requires { BeginsRecord bytes.now }
+    ensures { MatchResult result (IsEndOfRecord (state_at place.Start) bytes.now)
+        (λ next. ReadsTo (state_at place.Start) bytes.now (state_at next)) }
+{
+    let len = own_len(bytes);
+    if len == bytes.len() {
+        return record_end(Place::Start, bytes);
+    }
+    Ok(len + 1)
+}

@@ -1,0 +1,102 @@
+-- The fault of a record's row, by what the record asks for.
+use Rattle.std.proofs.Common.{◌≡◌, ◌≤◌, ◌<◌, ◌∙◌, ℕ, ℤ, Bool, true, false, List, ◌∷◌, ◌++◌, [], Option, Some, None, ap, append_assoc, arith, le-leb, refl, subst, suc, sym}
+use Rattle.std.specs.Prelude.{bytes_eq, int_le, length, option_map, slice_get, IfSome, if◌then◌else◌}
+use Rattle.std.specs.Cmp.Lexicographic.{bytes_decides}
+use Rattle.std.proofs.lemmas.Bool.{and_parts}
+use Rattle.std.proofs.lemmas.Int.{ints}
+use Rattle.zic_columns.specs.Record.{record_at}
+use Rattle.zic_columns.specs.declared.fields.Record.{Record}
+use Rattle.zic_files.specs.File.{File}
+use Rattle.zic_plan.specs.Layout.{has_count}
+use Rattle.zic_base.specs.declared.row_fault.RowKind.{RowKind}
+use Rattle.zic_base.specs.declared.row_fault.RowKind.TheVariants as kind
+use Rattle.zic_rows.specs.Count.{second_of}
+use Rattle.zic_rows.specs.Instant.{IsRowInstant}
+use Rattle.zic_rows.specs.declared.limit.TheConstants.{FIRST_INSTANT, LAST_INSTANT}
+use Rattle.zic_zones.specs.Zones.{is_named, number_of, zone_in}
+use Rattle.zic_convert.specs.LayoutRows.{count_in, fault_by}
+use Rattle.zic_convert.specs.Rows.{is_row_instant}
+use Rattle.zic_convert.specs.code.Batch.{count_at, zone_at}
+use Rattle.zic_convert.specs.declared.piece.Piece.{Piece}
+
+none_before : (o : Option ℕ) → option_map (λ n. suc n) o ≡ None → o ≡ None
+none_before None e = refl
+none_before (Some n) e = absurd (cc e)
+
+some_before : (o : Option ℕ) (n : ℕ) → option_map (λ n. suc n) o ≡ Some n → (m : ℕ) × (o ≡ Some m) × (n ≡ suc m)
+some_before None n e = absurd (cc e)
+some_before (Some m) n e = (m, refl, cc e)
+
+module _ (file : File) (files : List File) (name : List ℕ) where
+  unnamed_by : (b : Bool) → bytes_eq file.name name ≡ b → (number_of files name ≡ None → is_named files name ≡ false)
+      → (if b then Some 0 else option_map (λ n. suc n) (number_of files name)) ≡ None → is_named (file ∷ files) name ≡ false
+  unnamed_by true e next none = absurd (cc none)
+  unnamed_by false e next none = rw e (next (none_before (number_of files name) none))
+
+  found_by : (n : ℕ) (b : Bool) → bytes_eq file.name name ≡ b → ((m : ℕ) → number_of files name ≡ Some m → (f : File) × (slice_get files m ≡ Some f) × (f.name ≡ name) × (is_named files name ≡ true))
+      → (if b then Some 0 else option_map (λ n. suc n) (number_of files name)) ≡ Some n
+      → (f : File) × (slice_get (file ∷ files) n ≡ Some f) × (f.name ≡ name) × (is_named (file ∷ files) name ≡ true)
+  found_by n true e next some =
+      let first : 0 ≡ n = cc some in
+      (file, subst (λ (k : ℕ). slice_get (file ∷ files) k ≡ Some file) first refl, (bytes_decides file.name name).0 e, rw e refl)
+  found_by n false e next some =
+      let (m, is, at) = some_before (number_of files name) n some in
+      let (f, got, called, known) = next m is in
+      (f, subst (λ (k : ℕ). slice_get (file ∷ files) k ≡ Some f) (sym at) got, called, rw e known)
+
+-- a name without a number is that of no file
+pub unnamed : (files : List File) (name : List ℕ) → number_of files name ≡ None → is_named files name ≡ false
+unnamed [] name none = refl
+unnamed (file ∷ files) name none = unnamed_by file files name (bytes_eq file.name name) refl (unnamed files name) none
+
+-- one with a number is that of the file of this number
+pub found : (files : List File) (name : List ℕ) (n : ℕ) → number_of files name ≡ Some n → (f : File) × (slice_get files n ≡ Some f) × (f.name ≡ name) × (is_named files name ≡ true)
+found [] name n some = absurd (cc some)
+found (file ∷ files) name n some = found_by file files name n (bytes_eq file.name name) refl (found files name) some
+
+pub named : (files : List File) (name : List ℕ) (n : ℕ) → number_of files name ≡ Some n → is_named files name ≡ true
+named files name n some = (found files name n some).3
+
+-- the name of that file
+pub name_told : (files : List File) (name : List ℕ) (n : ℕ) (told : List ℕ) → number_of files name ≡ Some n → IfSome (slice_get files n) (λ f. told ≡ f.name) → told ≡ name
+name_told files name n told some is =
+    let (f, got, called, known) = found files name n some in
+    let here = rw got at is in
+    here ∙ called
+
+module _ (piece : Piece) (number : ℕ) (given : Record) (le : number ≤ piece.most) where
+  module _ (admits : has_count piece.layout.now.count (length (record_at piece.bytes.now given).fields) ≡ true) where
+    -- its zone has no file
+    pub zone_missing : zone_at piece given ≡ None → fault_by piece.layout.now piece.zones.now piece.most number (record_at piece.bytes.now given).fields ≡ Some kind.RowZone
+    zone_missing none = rw (le-leb number piece.most le, admits, unnamed piece.zones.now (zone_in piece.layout.now.zone (record_at piece.bytes.now given).fields) none) refl
+
+    module _ (n : ℕ) (zone : zone_at piece given ≡ Some n) where
+      -- its instant is no count
+      pub count_missing : count_at piece given ≡ None → fault_by piece.layout.now piece.zones.now piece.most number (record_at piece.bytes.now given).fields ≡ Some kind.RowInstant
+      count_missing none =
+          rw (le-leb number piece.most le, admits, named piece.zones.now (zone_in piece.layout.now.zone (record_at piece.bytes.now given).fields) n zone, none) refl
+
+      module _ (c : ℤ) (count : count_at piece given ≡ Some c) where
+        -- its count is out of range
+        pub out_of_range : is_row_instant (Some (second_of piece.layout.now.unit c)) ≡ false
+            → fault_by piece.layout.now piece.zones.now piece.most number (record_at piece.bytes.now given).fields ≡ Some kind.RowRange
+        out_of_range out =
+            rw (le-leb number piece.most le, admits, named piece.zones.now (zone_in piece.layout.now.zone (record_at piece.bytes.now given).fields) n zone, count, out) refl
+
+        -- or it has no fault
+        pub no_fault : is_row_instant (Some (second_of piece.layout.now.unit c)) ≡ true
+            → fault_by piece.layout.now piece.zones.now piece.most number (record_at piece.bytes.now given).fields ≡ None
+        no_fault may =
+            rw (le-leb number piece.most le, admits, named piece.zones.now (zone_in piece.layout.now.zone (record_at piece.bytes.now given).fields) n zone, count, may) refl
+
+-- a row may have an instant that passes the check
+pub row_may : (t : ℤ) → is_row_instant (Some t) ≡ true → IsRowInstant t
+row_may t is =
+    let (from, to) = and_parts (int_le FIRST_INSTANT t) (int_le t LAST_INSTANT) is in
+    (grind (arith, ints, from), grind (arith, ints, to))
+
+-- what a row begins with, as it is appended
+pub start_pushed : (old name digits a b c : List ℕ) → a ≡ old ++ name → b ≡ a ++ 44 ∷ [] → c ≡ b ++ digits → c ≡ old ++ (name ++ 44 ∷ digits)
+start_pushed old name digits a b c is_a is_b is_c =
+    is_c ∙ ap (λ (l : List ℕ). l ++ digits) (is_b ∙ ap (λ (l : List ℕ). l ++ 44 ∷ []) is_a)
+    ∙ append_assoc (old ++ name) (44 ∷ []) digits ∙ append_assoc old name (44 ∷ digits)

@@ -1,0 +1,15 @@
+use Rattle.std.proofs.Common.{◌+◌, ◌≤◌, length}
+use Rattle.zic_columns.specs.Own.{whole_records}
+use Rattle.zic_convert.specs.code.Batch.{IsPen}
+use Rattle.zic_convert.specs.code.Piece.{AreSoFar}
+use Rattle.zic_convert.proofs.piece.rows_of_piece.Given as goal
+
+abbrev pub invariant-loop-count : goal.invariant-loop-count
+invariant-loop-count l = record {
+  pen : IsPen l.piece.zones.now l.pen;
+  bound : length (whole_records l.piece.bytes.now) ≤ length l.piece.bytes.now + 1;
+  far : AreSoFar l.piece l.rows l.batch l.count l.splitter;
+}
+
+abbrev pub decreases-loop-count : goal.decreases-loop-count
+decreases-loop-count l = length l.splitter.left + l.count

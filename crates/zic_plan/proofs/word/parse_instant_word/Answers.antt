@@ -1,5 +1,0 @@
-use Rattle.std.proofs.Common.{rules}
-use Rattle.zic_plan.proofs.word.parse_instant_word.Goals as goal
-
-pub returns-clause-just : goal.returns-clause-just
-returns-clause-just c = search rules

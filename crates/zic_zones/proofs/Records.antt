@@ -1,0 +1,71 @@
+-- The zones of records, learnt one after another.
+use Rattle.std.proofs.Common.{◌≡◌, ◌∙◌, ◌+◌, ℕ, List, [], ◌∷◌, ◌++◌, map, take, Option, Some, ap, sym, subst, arith}
+use Rattle.std.specs.Prelude.{All, slice_get}
+use Rattle.std.proofs.lemmas.List.{map-append}
+use Rattle.std.proofs.lemmas.List.Elements.{All-push}
+use Rattle.zic_base.proofs.Lists.{take_next}
+use Rattle.zic_columns.specs.Record.{StandsIn, field_text}
+use Rattle.zic_columns.specs.declared.fields.Field.{Field}
+use Rattle.zic_columns.specs.declared.fields.Field.TheVariants as field
+use Rattle.zic_columns.specs.declared.fields.Record.{Record}
+use Rattle.zic_files.specs.Tree.{IsKnown, Reply}
+use Rattle.zic_zones.specs.Growing.{grows_same, grows_then}
+use Rattle.zic_zones.specs.Tree.{Grows, TreeOf}
+use Rattle.zic_zones.proofs.Learning.{all_known_on, empty_known}
+
+-- the text of a record's field that names a zone
+abbrev pub zone_text : List ℕ → Record → List ℕ
+zone_text piece given = field_text piece given.zone
+
+-- a record for a number that no record has
+abbrev pub no_record : Record
+no_record = record {
+  own = record { start = 0; end = 0 };
+  count = 0;
+  zone = field.Plain (record { start = 0; end = 0 });
+  time = field.Plain (record { start = 0; end = 0 });
+}
+
+-- what was learnt of the records so far, of which the last names a zone in this field
+pub record LearnsRecords {T : Type 0} (replied : T → Option (List Reply)) (old now : TreeOf T) (piece : List ℕ) (last : Field) (done : List Record) : Type 0 where
+  pub grown : Grows replied old now
+  pub stands : StandsIn piece last
+  pub last_known : IsKnown now.learnt (field_text piece last)
+  pub known : All (IsKnown now.learnt) (map (zone_text piece) done)
+
+module _ {T : Type 0} (replied : T → Option (List Reply)) (old : TreeOf T) (piece : List ℕ) where
+  pub no_records : LearnsRecords replied old old piece (field.Plain (record { start = 0; end = 0 })) []
+  no_records = record {
+    grown = grows_same replied old;
+    stands = (omega arith, omega arith);
+    last_known = empty_known old.learnt;
+    known = λ k d lt. absurd (omega (arith, lt));
+  }
+
+  module _ (now : TreeOf T) (last : Field) (records : List Record) (i : ℕ) (given : Record) (at : slice_get records i ≡ Some given)
+      (far : LearnsRecords replied old now piece last (take i records)) where
+    known_next : (then : TreeOf T) → All (IsKnown then.learnt) (map (zone_text piece) (take i records)) → IsKnown then.learnt (zone_text piece given)
+        → All (IsKnown then.learnt) (map (zone_text piece) (take (i + 1) records))
+    known_next then known one =
+        let same : map (zone_text piece) (take (i + 1) records) ≡ map (zone_text piece) (take i records) ++ zone_text piece given ∷ [] =
+        ap (map (zone_text piece)) (take_next records i given at) ∙ map-append (zone_text piece) (take i records) (given ∷ []) in
+        subst (All (IsKnown then.learnt)) (sym same) (All-push (IsKnown then.learnt) (map (zone_text piece) (take i records)) (zone_text piece given) known one)
+
+    -- a record of the last name
+    pub record_same : zone_text piece given ≡ field_text piece last → LearnsRecords replied old now piece last (take (i + 1) records)
+    record_same same = record {
+      grown = far.grown;
+      stands = far.stands;
+      last_known = far.last_known;
+      known = known_next now far.known (subst (IsKnown now.learnt) (sym same) far.last_known);
+    }
+
+    -- a record of another name
+    pub record_next : (then : TreeOf T) → Grows replied now then → StandsIn piece given.zone → IsKnown then.learnt (zone_text piece given)
+        → LearnsRecords replied old then piece given.zone (take (i + 1) records)
+    record_next then grows stands known = record {
+      grown = grows_then replied old now then far.grown grows;
+      stands = stands;
+      last_known = known;
+      known = known_next then (all_known_on replied now then (map (zone_text piece) (take i records)) grows far.known) known;
+    }
