@@ -12,7 +12,6 @@ pub mod InMemory
 pub mod Joining
 pub mod Logs
 pub mod NextRows
-<<<<<<< HEAD
 pub mod Once
 pub mod Options
 pub mod Plain
@@ -24,8 +23,3 @@ pub mod Stops
 pub mod Totals
 pub mod Wholes
 pub mod Writings
-=======
-pub mod RowFaults
-pub mod PutBack
-pub mod MoreRows
->>>>>>> 2a3b05a152a8e45249bc24f295bc37546cbca7f4

@@ -11,16 +11,10 @@ use Rattle.zic_columns.specs.Exchange.{exchanged}
 use Rattle.zic_columns.specs.Own.{Whole}
 use Rattle.zic_files.specs.File.{File}
 use Rattle.zic_plan.specs.declared.layout.Layout.{Layout}
-<<<<<<< HEAD:crates/zic_convert/proofs/Totals.antt
 use Rattle.zic_base.specs.declared.row_fault.RowKind.{RowKind}
 use Rattle.zic_zones.specs.Zones.{is_named, zone_in}
 use Rattle.zic_convert.specs.Rows.{is_row_instant}
 use Rattle.zic_convert.specs.LayoutRows.{ComeToBy, IsRowAt, IsRowBy, IsTextBy, count_in, ends_by, fault_by, faulty_text, start_text}
-=======
-use Rattle.zic_base.specs.declared.row_fault.RowKind.{RowKind}
-use Rattle.zic_convert.specs.Rows.{is_named, is_row_instant}
-use Rattle.zic_convert.specs.LayoutRows.{ComeToBy, IsRowAt, IsRowBy, IsTextBy, count_in, ends_by, fault_by, faulty_text, start_text, zone_in}
->>>>>>> 2a3b05a152a8e45249bc24f295bc37546cbca7f4:crates/zic_convert/hold_for_engine/proofs/Totals.antt
 use Rattle.zic_convert.specs.code.Row.{AreRowsOf, RowsOf}
 use Rattle.zic_convert.proofs.Coming.{come_after, come_more}
 use Rattle.zic_convert.proofs.Sounds.{IsKnown}

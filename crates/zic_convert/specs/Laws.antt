@@ -2,12 +2,8 @@
 use Rattle.std.specs.Prelude.{◌≡◌, ◌↔◌, ℕ, List, Option}
 use Rattle.zic_files.specs.File.{File}
 use Rattle.zic_files.specs.Sound.{AreSoundFiles}
-<<<<<<< HEAD:crates/zic_convert/specs/Laws.antt
 use Rattle.zic_plan.specs.Layout.{HasPlainRows}
 use Rattle.zic_plan.specs.declared.layout.Header.TheVariants as header
-=======
-use Rattle.zic_base.specs.declared.row_fault.RowKind.{RowKind}
->>>>>>> 2a3b05a152a8e45249bc24f295bc37546cbca7f4:crates/zic_convert/hold_for_engine/specs/Laws.antt
 use Rattle.zic_plan.specs.declared.layout.Layout.{Layout}
 use Rattle.zic_base.specs.declared.row_fault.RowKind.{RowKind}
 use Rattle.zic_convert.specs.Column.{ConvertsBy, ConvertsTo}

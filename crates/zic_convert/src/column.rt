@@ -6,19 +6,11 @@ ghost use Rattle.zic_convert.specs.Column.{AreRowsOfColumn};
 use crate::piece::{Piece, rows_of_piece};
 use crate::pieces::room_for;
 use std::alloc::{AllocError, Global};
-<<<<<<< HEAD:crates/zic_convert/src/column.rt
-=======
-use zic_base::RowKind;
-use zic_columns::Split;
->>>>>>> 2a3b05a152a8e45249bc24f295bc37546cbca7f4:crates/zic_convert/hold_for_engine/column.rt
 use zic_columns::laws::column_records_are_read;
 use zic_columns::without_mark;
 use zic_files::Files;
-<<<<<<< HEAD:crates/zic_convert/src/column.rt
 use zic_plan::{Header, Layout};
 use zic_zones::{SourceZones, Zones};
-=======
->>>>>>> 2a3b05a152a8e45249bc24f295bc37546cbca7f4:crates/zic_convert/hold_for_engine/column.rt
 
 /// The rows of a column up to the first that has a fault: their text, their number, and that fault.
 #[derive(Drop)]

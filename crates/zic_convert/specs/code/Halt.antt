@@ -1,21 +1,8 @@
 -- How a conversion ends early.
 use Rattle.std.specs.Prelude.{◌≡◌, ℕ, ◌+◌, ◌<◌, ◌≤◌, ◌⊎◌, IfErr, IfOk, Result, Ok, Err}
 use Rattle.zic_counted.specs.Counts.{Counts, HasFailedSince, greatest}
-<<<<<<< HEAD:crates/zic_convert/specs/code/Halt.antt
 use Rattle.zic_base.specs.declared.run_stop.RunStop.{RunStop}
 use Rattle.zic_base.specs.declared.run_stop.RunStop.TheVariants as stop
-=======
-use Rattle.zic_files.specs.File.{File}
-use Rattle.zic_files.specs.Tree.{Learnt, Reply}
-use Rattle.zic_plan.specs.declared.layout.Layout.{Layout}
-use Rattle.zic_base.specs.declared.row_fault.RowFault.{RowFault}
-use Rattle.zic_base.specs.declared.run_stop.RunStop.{RunStop}
-use Rattle.zic_base.specs.declared.run_stop.RunStop.TheVariants as stop
-use Rattle.zic_convert.specs.Column.{ConvertsBy, header_text}
-use Rattle.zic_convert.specs.Convert.{Outcome, WritesAtOf, WritesPartOf}
-use Rattle.zic_convert.specs.Log.{AreFaultsBy, NotesAt, NotesPart}
-use Rattle.zic_convert.specs.Tree.{EndsByTree, HoldsByLearnt, Run}
->>>>>>> 2a3b05a152a8e45249bc24f295bc37546cbca7f4:crates/zic_convert/hold_for_engine/specs/code/Halt.antt
 use Rattle.zic_convert.specs.declared.halt.Halt.{Halt}
 use Rattle.zic_convert.specs.declared.halt.Halt.TheVariants as halt
 

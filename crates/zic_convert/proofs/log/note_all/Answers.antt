@@ -1,12 +1,7 @@
 use Rattle.std.proofs.Common.{List, subst}
 use Rattle.std.proofs.lemmas.List.{take_all}
-<<<<<<< HEAD:crates/zic_convert/proofs/log/note_all/Answers.antt
 use Rattle.zic_base.specs.declared.row_fault.RowFault.{RowFault}
 use Rattle.zic_convert.specs.Run.{Notes}
-=======
-use Rattle.zic_base.specs.declared.row_fault.RowFault.{RowFault}
-use Rattle.zic_convert.specs.Log.{Notes}
->>>>>>> 2a3b05a152a8e45249bc24f295bc37546cbca7f4:crates/zic_convert/hold_for_engine/proofs/log/note_all/Answers.antt
 use Rattle.zic_convert.proofs.Logs.{notes_next, notes_none}
 use Rattle.zic_convert.proofs.log.note_all.Goals as goal
 
