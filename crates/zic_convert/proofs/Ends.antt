@@ -1,21 +1,27 @@
 -- How a conversion ends, by the outcome of its column.
-use Rattle.std.proofs.Common.{ℕ, List, ◌++◌, Option, None, sym, subst}
+use Rattle.std.proofs.Common.{◌≡◌, ◌∙◌, ◌++◌, ◌-◌, ◌⊎◌, ℕ, suc, List, [], ◌∷◌, length, take, Option, Some, None, inl, inr, refl, sym, ap, subst, arith}
+use Rattle.std.proofs.lemmas.List.{take_all}
 use Rattle.std.proofs.Math.Seq.{take-length}
+use Rattle.std.specs.Io.{StartsWith}
 use Rattle.std.specs.List.{concat}
 use Rattle.std.specs.Prelude.{IfErr, IfOk, IfSome, Result, Ok, Err}
+use Rattle.zic_base.specs.declared.row_fault.RowFault.{RowFault}
+use Rattle.zic_base.specs.declared.run_stop.RunStop.{RunStop}
+use Rattle.zic_base.specs.declared.run_stop.RunStop.TheVariants as stop
+use Rattle.zic_columns.specs.Own.{Whole}
 use Rattle.zic_counted.specs.Counts.{Counts}
 use Rattle.zic_files.specs.File.{File}
 use Rattle.zic_plan.specs.declared.layout.Layout.{Layout}
-use Rattle.zic_base.specs.declared.run_stop.RunStop.{RunStop}
-use Rattle.zic_base.specs.declared.run_stop.RunStop.TheVariants as stop
-use Rattle.zic_convert.specs.Convert.{IsCauseOf, Outcome, WritesAllOf, WritesAtOf, WritesPartOf}
-use Rattle.zic_convert.specs.Column.{header_text}
-use Rattle.zic_convert.specs.Tree.{ConvertsAllBy, EndsBy, Run}
-use Rattle.zic_convert.specs.code.Halt.{EndsAtHalt, IsCauseOfHalt, IsEnd, IsOwnCause, IsReadingStop, WritesAtHalt}
+use Rattle.zic_convert.specs.Convert.{IsCauseOf}
+use Rattle.zic_convert.specs.LayoutRows.{faults_by}
+use Rattle.zic_convert.specs.Run.{EndsAfterLines, EndsByZones, Notes, Output, WritesRows}
+use Rattle.zic_convert.specs.code.Halt.{IsCauseOfHalt, IsEnd, IsOwnCause, IsReadingStop, stop_of}
+use Rattle.zic_convert.specs.code.Progress.{ConvertsColumn, EndsInColumn}
 use Rattle.zic_convert.specs.declared.halt.Halt.{Halt}
 use Rattle.zic_convert.specs.declared.halt.Halt.TheVariants as halt
-use Rattle.zic_convert.proofs.Logs.{part_all}
+use Rattle.zic_convert.proofs.Coming.{all_texts}
 use Rattle.zic_convert.proofs.Options.{for_some, if_some}
+use Rattle.zic_convert.proofs.Rounds.{ends_map}
 
 module _ {R : Type 0} (reader : Counts R) (failures taken most : ℕ) where
   -- what holds of the number of rows
@@ -32,73 +38,84 @@ module _ {R : Type 0} (reader : Counts R) (failures taken most : ℕ) where
   err_end (Err halt.Unread) (Err why) P Q S all read stops is p q = read why is.stops q
   err_end (Err (halt.Stop stop)) (Err why) P Q S all read stops is p q = subst S (sym is.stops) (stops stop q)
 
-  -- what was written
-  module _ (known : Option (List ℕ)) (head : List ℕ → List ℕ) (C : List ℕ → Outcome) (old new : Option (List ℕ)) where
-    all_part : (n : ℕ) → IfSome known (λ column. WritesAllOf (head column) (C column) n old new) → IfSome known (λ column. WritesPartOf (head column) (C column) old new)
-    all_part n all = if_some known _ (λ column e.
-        let w = for_some known _ column all e in
-        record {
-          texts = w.texts;
-          fault = None;
-          converts = w.converts;
-          part = head column ++ concat w.texts;
-          starts = take-length (head column ++ concat w.texts);
-          wrote = w.wrote;
-        })
+-- all lines were written
+all_lines : (layout : Layout) (files : List File) (most : ℕ) (header : List ℕ) (wholes : List Whole) (n : ℕ) (why : RunStop) (out : Output) → WritesRows layout files most header wholes n out
+    → EndsAfterLines layout files most header wholes why out
+all_lines layout files most header wholes n why out w =
+    let texts = w.0.texts in
+    let all : concat (take (suc n) (header ∷ texts)) ≡ header ++ concat texts = ap (λ (l : List (List ℕ)). header ++ concat l) (take_all n texts (omega (arith, w.0.count))) in
+    let many = all_texts layout files most 1 wholes texts w.0.converts in
+    let rows : suc n - 1 ≡ n = omega arith in
+    let whole : take (suc n - 1) wholes ≡ wholes = ap (λ (k : ℕ). take k wholes) rows ∙ take_all n wholes (omega (arith, w.0.count, many)) in
+    record {
+      texts = texts;
+      fault = None;
+      come = w.0.converts;
+      lines = suc n;
+      part = header ++ concat texts;
+      starts = take-length (header ++ concat texts);
+      least = subst (λ (l : List ℕ). StartsWith (header ++ concat texts) l) (sym all) (take-length (header ++ concat texts));
+      exact = inl (sym all);
+      wrote = w.0.wrote;
+      noted = subst (λ (l : List Whole). Notes out.log out.log' (faults_by layout files most 1 l)) (sym whole) w.1;
+    }
 
-    part_read : (why : RunStop) → IsReadingStop reader failures taken most why → IfSome known (λ column. WritesPartOf (head column) (C column) old new)
-        → IfSome known (λ column. WritesAtOf (head column) (C column) why old new)
-    part_read stop.ReadFailed is part = part
-    part_read stop.ColumnTooLong is part = part
-    part_read stop.Memory is part = part
-    part_read (stop.Row row kind) is part = absurd is
-    part_read (stop.Source fault) is part = absurd is
-    part_read stop.WriteFailed is part = absurd is
-    part_read stop.NoThread is part = absurd is
+-- where a read failed, other causes leave the same output
+read_as : (layout : Layout) (files : List File) (most : ℕ) (header : List ℕ) (wholes : List Whole) (why : RunStop) (out : Output) → EndsAfterLines layout files most header wholes stop.ReadFailed out
+    → EndsAfterLines layout files most header wholes why out
+read_as layout files most header wholes why out w = record {
+  texts = w.texts;
+  fault = w.fault;
+  come = w.come;
+  lines = w.lines;
+  part = w.part;
+  starts = w.starts;
+  least = w.least;
+  exact = elim w.exact [
+    | inl same ↦ inl same
+    | inr failed ↦ absurd (cc failed)
+  ];
+  wrote = w.wrote;
+  noted = w.noted;
+}
 
-    pub writes_end : (outcome : Result ℕ Halt) (result : Result ℕ RunStop) → IsEnd reader failures taken most outcome result
-        → IfOk outcome (λ n. IfSome known (λ column. WritesAllOf (head column) (C column) n old new))
-        → IfErr outcome (λ why. IfSome known (λ column. WritesAtHalt (head column) (C column) why old new))
-        → IfErr result (λ why. IfSome known (λ column. WritesAtOf (head column) (C column) why old new))
-    writes_end outcome result is =
-        err_end outcome result _ (λ why. IfSome known (λ column. WritesAtHalt (head column) (C column) why old new)) _ all_part part_read (λ why w. w) is
+module _ (layout : Layout) (most : ℕ) (known : Option (List ℕ)) (out : Output) (files : List File) where
+  all_read : (n : ℕ) → ConvertsColumn layout most known n out files → EndsInColumn layout most known stop.ReadFailed out files
+  all_read n all = if_some known _ (λ column e. (let (wholes, are, w) = for_some known _ column all e in (wholes, are, all_lines layout files most _ wholes n stop.ReadFailed out w)))
 
--- what was written of a column by a layout, and noted
-module _ (layout : Layout) (most : ℕ) (run : Run) (files : List File) where
-  -- a part of the rows was written, and of their faults noted
-  abbrev EndsInPart : Type 0
-  EndsInPart = EndsAtHalt layout most halt.Unread run files
+  ends_as_read : {R : Type 0} (reader : Counts R) (failures taken most_bytes : ℕ) (why : RunStop) → IsReadingStop reader failures taken most_bytes why → EndsInColumn layout most known stop.ReadFailed out files
+      → EndsInColumn layout most known why out files
+  ends_as_read reader failures taken most_bytes stop.ReadFailed is ends = ends
+  ends_as_read reader failures taken most_bytes stop.ColumnTooLong is ends =
+      if_some known _ (λ column e. (let (wholes, are, w) = for_some known _ column ends e in (wholes, are, read_as layout files most _ wholes stop.ColumnTooLong out w)))
+  ends_as_read reader failures taken most_bytes stop.Memory is ends =
+      if_some known _ (λ column e. (let (wholes, are, w) = for_some known _ column ends e in (wholes, are, read_as layout files most _ wholes stop.Memory out w)))
+  ends_as_read reader failures taken most_bytes (stop.Row row kind) is ends = absurd is
+  ends_as_read reader failures taken most_bytes (stop.Source fault) is ends = absurd is
+  ends_as_read reader failures taken most_bytes stop.WriteFailed is ends = absurd is
+  ends_as_read reader failures taken most_bytes stop.NoThread is ends = absurd is
 
-  -- all rows are a part
-  pub all_in_part : (n : ℕ) → ConvertsAllBy layout most n run files → EndsInPart
-  all_in_part n done = if_some run.column _ (λ column e.
-      let (writes, notes) = for_some run.column _ column done e in
-      let (faults, are, noted) = notes in (
-        record {
-          texts = writes.texts;
-          fault = None;
-          converts = writes.converts;
-          part = header_text layout column ++ concat writes.texts;
-          starts = take-length (header_text layout column ++ concat writes.texts);
-          wrote = writes.wrote;
-        },
-        (faults, are, part_all run.log run.log' faults noted),
-      ))
+-- what holds of an outcome that is there, by zones
+both_ok : (outcome : Result ℕ Halt) (G : Type 0) (M : List File → Type 0) (C : ℕ → List File → Type 0) → IfOk outcome (λ _. G)
+    → ((files : List File) → M files → IfOk outcome (λ n. C n files)) → IfOk outcome (λ n. G × ((files : List File) → M files → C n files))
+both_ok (Ok n) G M C g all = (g, all)
+both_ok (Err why) G M C g all = tt
 
-  -- it ends for its reader
-  pub ends_as_read : {R : Type 0} (reader : Counts R) (failed given most_bytes : ℕ) (why : RunStop) → IsReadingStop reader failed given most_bytes why → EndsInPart → EndsBy layout most why run files
-  ends_as_read reader failed given most_bytes stop.ReadFailed is part = part
-  ends_as_read reader failed given most_bytes stop.ColumnTooLong is part = part
-  ends_as_read reader failed given most_bytes stop.Memory is part = part
-  ends_as_read reader failed given most_bytes (stop.Row row kind) is part = absurd is
-  ends_as_read reader failed given most_bytes (stop.Source fault) is part = absurd is
-  ends_as_read reader failed given most_bytes stop.WriteFailed is part = absurd is
-  ends_as_read reader failed given most_bytes stop.NoThread is part = absurd is
-
-  pub ends_by : {R : Type 0} (reader : Counts R) (failed given most_bytes : ℕ) (outcome : Result ℕ Halt) (result : Result ℕ RunStop) → IsEnd reader failed given most_bytes outcome result
-      → IfOk outcome (λ n. ConvertsAllBy layout most n run files) → IfErr outcome (λ why. EndsAtHalt layout most why run files) → IfErr result (λ why. EndsBy layout most why run files)
-  ends_by reader failed given most_bytes outcome result is =
-      err_end reader failed given most_bytes outcome result _ (λ why. EndsAtHalt layout most why run files) _ all_in_part (ends_as_read reader failed given most_bytes) (λ why ends. ends) is
+-- how a conversion by zones ends early
+pub zones_end : {R Z : Type 0} (reader : Counts R) (failures taken most_bytes : ℕ) (grown broken : Z → Z → Type 0) (may_be : Z → List File → Type 0) (old new : Z)
+    (layout : Layout) (most : ℕ) (known : Option (List ℕ)) (out : Output) (outcome : Result ℕ Halt) (result : Result ℕ RunStop) → IsEnd reader failures taken most_bytes outcome result
+    → IfOk outcome (λ _. grown old new)
+    → ((files : List File) → may_be new files → IfOk outcome (λ n. ConvertsColumn layout most known n out files))
+    → IfErr outcome (λ why. EndsByZones grown broken may_be old new (stop_of why) (EndsInColumn layout most known (stop_of why) out))
+    → IfErr result (λ why. EndsByZones grown broken may_be old new why (EndsInColumn layout most known why out))
+zones_end reader failures taken most_bytes grown broken may_be old new layout most known out outcome result is grew all ends =
+    err_end reader failures taken most_bytes outcome result
+    (λ n. grown old new × ((files : List File) → may_be new files → ConvertsColumn layout most known n out files))
+    (λ why. EndsByZones grown broken may_be old new (stop_of why) (EndsInColumn layout most known (stop_of why) out))
+    (λ why. EndsByZones grown broken may_be old new why (EndsInColumn layout most known why out))
+    (λ n done. record { then = new; grown = done.0; ends = inl refl; by = λ files may. all_read layout most known out files n (done.1 files may) })
+    (λ why read ends. ends_map grown broken may_be old new stop.ReadFailed why _ _ (λ e. absurd (cc e)) (λ files part. ends_as_read layout most known out files reader failures taken most_bytes why read part) ends)
+    (λ why ends. ends) is (both_ok outcome (grown old new) (may_be new) (λ n files. ConvertsColumn layout most known n out files) grew all) ends
 
 -- nothing is asked of rows
 all_of : (outcome : Result ℕ Halt) → IfOk outcome (λ n. Unit {0})

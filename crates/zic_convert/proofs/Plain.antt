@@ -4,45 +4,31 @@ use Rattle.std.specs.Prelude.{is_some, option_map}
 use Rattle.std.specs.Fmt.{signed_decimal}
 use Rattle.std.proofs.lemmas.Bool.{eqb-true, ne_eqb}
 use Rattle.std.proofs.lemmas.List.{map-append}
+use Rattle.csv.specs.Reading.{default_config, strip_bom}
 use Rattle.zic_base.specs.Check.{check, first_failed}
+use Rattle.zic_base.specs.State.{Shown}
+use Rattle.zic_base.specs.declared.row_fault.RowKind.{RowKind}
+use Rattle.zic_columns.proofs.Exchanges.{comma_exchanged}
+use Rattle.zic_columns.proofs.Wholes.{wholes_fields}
+use Rattle.zic_columns.specs.Column.{column_records}
+use Rattle.zic_columns.specs.Exchange.{config_of, exchange, exchanged}
+use Rattle.zic_columns.specs.Laws.{ColumnRecordsAreRead, DelimitedRecordsAreOne}
+use Rattle.zic_columns.specs.Own.{Whole, whole_records}
 use Rattle.zic_files.specs.File.{File}
 use Rattle.zic_plan.specs.Layout.{HasPlainRows}
-use Rattle.zic_plan.specs.declared.layout.AtFault.TheVariants as at_fault
-use Rattle.zic_plan.specs.declared.layout.FieldCount.TheVariants as fields
-use Rattle.zic_plan.specs.declared.layout.Header.TheVariants as header
 use Rattle.zic_plan.specs.declared.layout.Layout.{Layout}
 use Rattle.zic_plan.specs.declared.layout.RowStart.TheVariants as starts
 use Rattle.zic_plan.specs.declared.layout.Unit.{Unit}
 use Rattle.zic_plan.specs.declared.layout.Unit.TheVariants as unit
-use Rattle.zic_base.specs.State.{Shown}
-use Rattle.zic_plan.specs.declared.layout.ZoneFrom.TheVariants as zone
-use Rattle.zic_base.specs.declared.row_fault.RowKind.{RowKind}
+use Rattle.zic_rows.proofs.Counts.{count_seconds, counted_seconds, second_one}
 use Rattle.zic_rows.specs.Count.{counted_rest_text, counted_row_text, second_of}
 use Rattle.zic_rows.specs.Instant.{instant_of}
 use Rattle.zic_rows.specs.Row.{row_text}
-use Rattle.zic_rows.proofs.Counts.{count_seconds, counted_seconds, second_one}
-use Rattle.zic_columns.specs.Exchange.{exchange, exchanged}
-use Rattle.zic_columns.specs.Own.{Whole}
-use Rattle.zic_columns.proofs.Exchanges.{comma_exchanged}
-use Rattle.zic_convert.specs.Rows.{ComeTo, IsTextOf, fault_of, instant_in, is_named, is_row_instant, name_in}
-use Rattle.zic_convert.specs.LayoutRows.{ComeToBy, IsRowAt, IsRowBy, IsTextBy, ends_by, fault_by, start_text}
+use Rattle.zic_zones.specs.Zones.{is_named}
+use Rattle.zic_convert.specs.Laws.{PlainColumnsConvertAlike}
+use Rattle.zic_convert.specs.Rows.{ComeTo, IsTextOf, fault_of, instant_in, is_row_instant, name_in}
+use Rattle.zic_convert.specs.LayoutRows.{ComeToBy, IsRowAt, IsTextBy, ends_by, fault_by, start_text}
 use Rattle.zic_convert.specs.code.Row.{comma_start, fields_of_all}
-
--- one layout of plain columns
-abbrev pub plain_layout : Layout
-plain_layout = record {
-  zone = zone.Field 0;
-  time = 1;
-  count = fields.Exactly 2;
-  unit = unit.Second;
-  delimiter = 44;
-  header = header.Absent;
-  start = starts.Fields;
-  at_fault = at_fault.End;
-}
-
-pub has_plain : HasPlainRows plain_layout
-has_plain = record { zone = refl; time = refl; count = refl; unit = refl; delimiter = refl; start = refl; at_fault = refl }
 
 same_seconds : (o : Option ℤ) → option_map (second_of unit.Second) o ≡ o
 same_seconds None = refl
@@ -91,29 +77,7 @@ module _ (layout : Layout) (plain : HasPlainRows layout) (files : List File) whe
     pub plain_ends : (number : ℕ) (fields : List (List ℕ)) → ends_by layout files most number fields ≡ fault_of files most number fields
     plain_ends number fields = rw plain.at_fault (plain_fault number fields)
 
-  -- a record of two fields has the text that it has in a plain column, whatever its own bytes are
-  pub plain_text : (own : List ℕ) (fields : List (List ℕ)) (name field text : List ℕ) → fields ≡ name ∷ field ∷ [] → IsTextOf files fields text
-      → IsTextBy layout files (record { own = own; fields = fields }) text
-  plain_text own fields name field text two is =
-      let says = rw two at is.says in
-      record {
-        file = is.file;
-        among = is.among;
-        named = rw (plain.zone, two) (rw two at is.named);
-        count = is.instant;
-        says = rw (plain.time, plain.unit, two, count_seconds field) says;
-        state = is.state;
-        answers = rw (plain.unit, second_one is.instant) is.answers;
-        is = is.is ∙ sym (plain_row_text own is.file.name is.instant is.state);
-      }
-
-  -- and so has its row
-  pub plain_row : (most number : ℕ) (whole : Whole) (name field text : List ℕ) → fault_of files most number whole.fields ≡ None → whole.fields ≡ name ∷ field ∷ []
-      → IsTextOf files whole.fields text → IsRowBy layout files most number whole text
-  plain_row most number whole name field text sound two is =
-      subst (λ (o : Option RowKind). IsRowAt layout files o whole text) (sym (plain_fault most number whole.fields ∙ sound)) (plain_text whole.own whole.fields name field text two is)
-
-  -- and the other way round
+  -- a record of two fields has the text that it has without a layout
   text_plainly : (whole : Whole) (name field text : List ℕ) → whole.fields ≡ name ∷ field ∷ [] → IsTextBy layout files whole text → IsTextOf files whole.fields text
   text_plainly whole name field text two is =
       let says = rw (plain.time, plain.unit, two, count_seconds field) at is.says in
@@ -144,3 +108,20 @@ module _ (layout : Layout) (plain : HasPlainRows layout) (files : List File) whe
       let two = two_of most number whole.fields sound in
       let row = subst (λ (o : Option RowKind). IsRowAt layout files o whole text) (plain_fault most number whole.fields ∙ sound) come.1 in
       (sound, text_plainly whole two.0 two.1 text two.2 row, come_plainly most (number + 1) wholes texts fault come.2)
+
+-- a comma is what stands between fields by default
+comma_config : config_of 44 ≡ default_config
+comma_config = refl
+
+-- A column of plain rows without a header converts as it does without a layout.
+pub plain_columns : ColumnRecordsAreRead → DelimitedRecordsAreOne → PlainColumnsConvertAlike
+plain_columns read one files layout most column texts fault plain none come =
+    let bytes = strip_bom column in
+    let are = rw plain.delimiter at come.are.are in
+    let same : come.are.records ≡ column_records bytes = one 44 bytes come.are.records (column_records bytes) are (read bytes) in
+    let wholes : come.wholes ≡ whole_records bytes = rw (plain.delimiter, none, same) at come.are.is in
+    record {
+      records = column_records bytes;
+      are = read bytes;
+      rows = subst (λ (l : List (List (List ℕ))). ComeTo files most 1 l texts fault) (ap fields_of_all wholes ∙ wholes_fields bytes) (come_plainly layout plain files most 1 come.wholes texts fault come.rows);
+    }

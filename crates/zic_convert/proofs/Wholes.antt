@@ -9,17 +9,6 @@ use Rattle.zic_columns.proofs.Exchanges.{comma_exchanged}
 use Rattle.zic_columns.proofs.Wholes.{beside_none, wholes_fields}
 use Rattle.zic_convert.specs.code.Row.{fields_of_all, put_back, wholes_in, wholes_of_all}
 
--- records of which only the fields are known
-abbrev pub blank : List (List (List ℕ)) → List Whole
-blank records = map (λ (fields : List (List ℕ)). record { own = []; fields = fields }) records
-
-pub blank_fields : (records : List (List (List ℕ))) → fields_of_all (blank records) ≡ records
-blank_fields [] = refl
-blank_fields (fields ∷ records) = ap (λ (l : List (List (List ℕ))). fields ∷ l) (blank_fields records)
-
-pub blank_many : (records : List (List (List ℕ))) → length (blank records) ≡ length records
-blank_many records = length-map {B = Whole} records (λ (fields : List (List ℕ)). record { own = []; fields = fields })
-
 -- commas stay as they are
 fields_kept : (fields : List (List ℕ)) → map (exchanged 44) fields ≡ fields
 fields_kept [] = refl
