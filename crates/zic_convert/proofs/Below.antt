@@ -4,6 +4,7 @@ use Rattle.std.proofs.lemmas.List.{append-nil}
 use Rattle.std.specs.Io.{StartsWith}
 use Rattle.std.specs.Io.KnownBytes.{Appends}
 use Rattle.std.specs.List.{concat}
+use Rattle.std.specs.Prelude.{IfSome}
 use Rattle.csv.proofs.WriteFacts.{appends-more}
 use Rattle.zic_columns.specs.Own.{Whole}
 use Rattle.zic_files.specs.File.{File}
@@ -14,11 +15,12 @@ use Rattle.zic_plan.specs.declared.layout.RowStart.TheVariants as starts
 use Rattle.zic_base.specs.declared.row_fault.RowFault.{RowFault}
 use Rattle.zic_base.specs.declared.run_stop.RunStop.{RunStop}
 use Rattle.zic_base.specs.declared.run_stop.RunStop.TheVariants as stop
-use Rattle.zic_convert.specs.Column.{header_of, header_text, names_line, names_of, own_line}
+use Rattle.zic_convert.specs.Column.{AreRowRecords, header_of, header_text, names_line, names_of, own_line}
 use Rattle.zic_convert.specs.LayoutRows.{faults_by}
 use Rattle.zic_convert.specs.Run.{EndsAfterLines, EndsIn, HasNames, Notes, WritesRows}
-use Rattle.zic_convert.specs.code.Progress.{output}
+use Rattle.zic_convert.specs.code.Progress.{ConvertsColumn, EndsInColumn, output}
 use Rattle.zic_convert.proofs.Bytes.{starts_later}
+use Rattle.zic_convert.proofs.Options.{for_some, if_some}
 
 module _ (layout : Layout) (files : List File) (most : ℕ) (wholes : List Whole) (head : List ℕ) (old mid new : Option (List ℕ)) (log last : Option (List RowFault)) (begun : Appends old mid head) where
   pub rows_below : (n : ℕ) → WritesRows layout files most [] wholes n (output mid new log last) → WritesRows layout files most head wholes n (output old new log last)
@@ -126,3 +128,20 @@ module _ (layout : Layout) (files : List File) (most : ℕ) (column : List ℕ) 
   ends_after_names stop.ColumnTooLong w = both stop.ColumnTooLong w
   ends_after_names stop.Memory w = both stop.Memory w
   ends_after_names stop.NoThread w = both stop.NoThread w
+
+-- ---- a column below the line of names
+
+module _ (layout : Layout) (most : ℕ) (known : Option (List ℕ)) (files : List File) (old mid new : Option (List ℕ)) (log last : Option (List RowFault)) (begun : Appends old mid (names_line layout)) where
+  pub column_after_names : (n : ℕ) → ConvertsColumn layout most known n (output mid new log last) files
+      → IfSome known (λ column. (wholes : List Whole) × AreRowRecords layout column wholes × WritesRows layout files most (header_text layout column) wholes n (output old new log last))
+  column_after_names n all = if_some known _ (λ column e.
+      let (wholes, are, w) = for_some known _ column all e in
+      (wholes, are, rows_after_names layout files most column wholes old mid new log last begun n w))
+
+  pub column_ends_after_names : (why : RunStop) → EndsInColumn layout most known why (output mid new log last) files
+      → IfSome known (λ column. (wholes : List Whole) × AreRowRecords layout column wholes × EndsIn layout files most (header_text layout column) wholes why (output old new log last)
+      × HasNames layout (output old new log last))
+  column_ends_after_names why ends = if_some known _ (λ column e.
+      let (wholes, are, w) = for_some known _ column ends e in
+      let both = ends_after_names layout files most column wholes old mid new log last begun why w in
+      (wholes, are, both.0, both.1))

@@ -34,18 +34,21 @@ faults_front layout files most number (x ∷ xs) others [] (Some kind) come = rw
 faults_front layout files most number (x ∷ xs) others (t ∷ ts) fault come =
     rw come.0 (ap (λ (l : List RowFault). noted number (fault_by layout files most number x.fields) ++ l) (faults_front layout files most (number + 1) xs others ts fault come.2))
 
-module _ (once : FilesAnswerOnce) (layout : Layout) (files : List File) (most : ℕ) (sound : AreSoundFiles files) (number : ℕ) (done others : List Whole) where
+module _ (once : FilesAnswerOnce) (layout : Layout) (files : List File) (most : ℕ) (sound : AreSoundFiles files) (number : ℕ) (all done others : List Whole) (parts : all ≡ done ++ others)
+    (rows : RowsOf) (are : AreRowsOf layout files most number all rows) where
+  comes : ComeToBy layout files most number (done ++ others) are.texts rows.fault
+  comes = rw parts at are.come
+
   front_by : (front : RowsOf) (are_front : AreRowsOf layout files most number done front) (fault : Option RowKind) → front.fault ≡ fault
-      → (rows : RowsOf) (are : AreRowsOf layout files most number (done ++ others) rows) → (rest : List (List ℕ)) × (are.texts ≡ are_front.texts ++ rest)
-  front_by front are_front (Some kind) e rows are =
+      → (rest : List (List ℕ)) × (are.texts ≡ are_front.texts ++ rest)
+  front_by front are_front (Some kind) e =
       let come = come_more layout files most number done others are_front.texts kind (rw e at are_front.come) in
-      ([], (once_by once files sound most layout number (done ++ others) are.texts are_front.texts rows.fault (Some kind) are.come come).0 ∙ sym (append-nil are_front.texts))
-  front_by front are_front None e rows are =
+      ([], (once_by once files sound most layout number (done ++ others) are.texts are_front.texts rows.fault (Some kind) comes come).0 ∙ sym (append-nil are_front.texts))
+  front_by front are_front None e =
       let (rest, last, later) = all_come layout files most (all_known files sound once) (number + length are_front.texts) others in
       let come = come_after layout files most number done others are_front.texts rest last (rw e at are_front.come) later in
-      (rest, (once_by once files sound most layout number (done ++ others) are.texts (are_front.texts ++ rest) rows.fault last are.come come).0)
+      (rest, (once_by once files sound most layout number (done ++ others) are.texts (are_front.texts ++ rest) rows.fault last comes come).0)
 
   -- the texts of all begin with those of the first
-  pub front_texts : (front : RowsOf) (are_front : AreRowsOf layout files most number done front) (rows : RowsOf) (are : AreRowsOf layout files most number (done ++ others) rows)
-      → (rest : List (List ℕ)) × (are.texts ≡ are_front.texts ++ rest)
-  front_texts front are_front rows are = front_by front are_front front.fault refl rows are
+  pub front_texts : (front : RowsOf) (are_front : AreRowsOf layout files most number done front) → (rest : List (List ℕ)) × (are.texts ≡ are_front.texts ++ rest)
+  front_texts front are_front = front_by front are_front front.fault refl

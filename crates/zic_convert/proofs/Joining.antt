@@ -13,11 +13,12 @@ use Rattle.zic_columns.proofs.Wholes.{wholes_fields}
 use Rattle.zic_pieces.specs.Task.{AreValues}
 use Rattle.zic_files.specs.File.{File}
 use Rattle.zic_convert.specs.code.Row.{AreRowsOf, RowsOf, fields_of_all, put_back, wholes_in, wholes_of_all}
-use Rattle.zic_convert.specs.code.Written.{EndsInRound, WritesRound}
+use Rattle.zic_convert.specs.code.Written.{EndsInPieces, EndsInRound, EndsInRows, WritesRound}
 use Rattle.zic_counted.specs.Counts.{Counts}
 use Rattle.zic_plan.specs.declared.layout.Layout.{Layout}
 use Rattle.zic_base.specs.declared.row_fault.RowFault.{RowFault}
 use Rattle.zic_base.specs.declared.run_stop.RunStop.{RunStop}
+use Rattle.zic_base.specs.declared.run_stop.RunStop.TheVariants as stop
 use Rattle.zic_convert.specs.code.Pieces.{ArePieces, AreRowsOfPiece, IsOutcomeOf, Pieces, joined}
 use Rattle.zic_base.specs.declared.row_fault.RowKind.{RowKind}
 use Rattle.zic_convert.specs.LayoutRows.{ComeToBy, faults_by}
@@ -59,18 +60,51 @@ module _ (layout : Layout) (files : List File) (most size : ℕ) where
       rows_followed layout files most first (wholes_in layout.delimiter p) (wholes_of_all layout.delimiter (q ∷ ps)) x (joined values) x.fault refl (first_rows first p (q ∷ ps) x values each)
       (λ none. subst (λ (n : ℕ). AreRowsOf layout files most (first + n) (wholes_of_all layout.delimiter (q ∷ ps)) (joined values)) (sym (as_many_in layout.delimiter p ∙ cut.0)) after)
 
+  -- the rows of the first pieces
+  rows_of_front : (i first : ℕ) (pieces : List (List ℕ)) (values : List RowsOf) → ArePiecesOf size pieces → length values ≡ length pieces → AreRowsOfEach first pieces values
+      → AreRowsOf layout files most first (wholes_of_all layout.delimiter (take i pieces)) (joined (take i values))
+  rows_of_front zero first pieces values cut long each = no_rows layout files most first
+  rows_of_front (suc i) first [] [] cut long each = no_rows layout files most first
+  rows_of_front (suc i) first [] (x ∷ values) cut long each = absurd (omega (arith, long))
+  rows_of_front (suc i) first (p ∷ ps) [] cut long each = absurd (omega (arith, long))
+  rows_of_front (suc i) first (p ∷ []) (x ∷ y ∷ values) cut long each = absurd (omega (arith, long))
+  rows_of_front (suc zero) first (p ∷ []) (x ∷ []) cut long each =
+      rows_followed layout files most first (wholes_in layout.delimiter p) [] x (joined []) x.fault refl (first_rows first p [] x [] each) (λ none. no_rows layout files most (first + length (wholes_in layout.delimiter p)))
+  rows_of_front (suc (suc i)) first (p ∷ []) (x ∷ []) cut long each =
+      rows_followed layout files most first (wholes_in layout.delimiter p) [] x (joined []) x.fault refl (first_rows first p [] x [] each) (λ none. no_rows layout files most (first + length (wholes_in layout.delimiter p)))
+  rows_of_front (suc i) first (p ∷ q ∷ ps) (x ∷ values) cut long each =
+      let after = rows_of_front i (first + size) (q ∷ ps) values cut.1 (omega (arith, long)) (later_rows first p (q ∷ ps) x values each) in
+      rows_followed layout files most first (wholes_in layout.delimiter p) (wholes_of_all layout.delimiter (take i (q ∷ ps))) x (joined (take i values)) x.fault refl (first_rows first p (q ∷ ps) x values each)
+      (λ none. subst (λ (n : ℕ). AreRowsOf layout files most (first + n) (wholes_of_all layout.delimiter (take i (q ∷ ps))) (joined (take i values))) (sym (as_many_in layout.delimiter p ∙ cut.0)) after)
+
 -- the rows of all pieces of a round
 pub joined_round : (p : Pieces) (values : List RowsOf) → ArePieces p → AreValues (IsOutcomeOf p) (length p.pieces) values
     → AreRowsOf p.layout p.files p.most p.first (wholes_of_all p.layout.delimiter p.pieces) (joined values)
 joined_round p values sound are = rows_of_all p.layout p.files p.most p.size p.first p.pieces values sound.cut are.0 (λ i rows at. (are.1 i rows at).0)
 
--- a piece has no more records than a full one
-pub piece_few : (size : ℕ) (pieces : List (List ℕ)) (i : ℕ) (piece : List ℕ) → slice_get pieces i ≡ Some piece → ArePiecesOf size pieces → length (column_records piece) ≤ size
-piece_few size [] i piece e cut = absurd cc
-piece_few size (p ∷ []) zero piece e cut = subst (λ (l : List ℕ). length (column_records l) ≤ size) (same_Some p piece e) cut.1
-piece_few size (p ∷ []) (suc i) piece e cut = absurd cc
-piece_few size (p ∷ q ∷ ps) zero piece e cut = subst (λ (l : List ℕ). length (column_records l) ≤ size) (same_Some p piece e) (omega (arith, cut.0))
-piece_few size (p ∷ q ∷ ps) (suc i) piece e cut = piece_few size (q ∷ ps) i piece e cut.1
+-- the records of the first pieces, and of the others
+wholes_split : (d i : ℕ) (pieces : List (List ℕ)) → wholes_of_all d pieces ≡ wholes_of_all d (take i pieces) ++ wholes_of_all d (drop i pieces)
+wholes_split d i pieces = ap (wholes_of_all d) (sym (take-append-drop i pieces)) ∙ flat_map-append (wholes_in d) (take i pieces) (drop i pieces)
+
+-- where pieces end, their rows do
+pub pieces_end : {W : Type 0} (contents : W → Option (List ℕ)) (old new : Counts W) (log log' : Option (List RowFault)) (p : Pieces) (values : List RowsOf) → ArePieces p
+    → AreValues (IsOutcomeOf p) (length p.pieces) values → (why : RunStop) → EndsInPieces contents old new log log' p.first values why
+    → EndsInRows contents old new log log' p.layout p.files p.most p.first (wholes_of_all p.layout.delimiter p.pieces) (joined values) why
+pieces_end contents old new log log' p values sound are (stop.Row row kind) h = h
+pieces_end contents old new log log' p values sound are stop.WriteFailed (i, fails, noted) = record {
+  done = wholes_of_all p.layout.delimiter (take i p.pieces);
+  more = wholes_of_all p.layout.delimiter (drop i p.pieces);
+  parts = wholes_split p.layout.delimiter i p.pieces;
+  front = joined (take i values);
+  are = rows_of_front p.layout p.files p.most p.size i p.first p.pieces values sound.cut are.0 (λ k rows at. (are.1 k rows at).0);
+  fails = fails;
+  noted = noted;
+}
+pieces_end contents old new log log' p values sound are (stop.Source fault) h = absurd h
+pieces_end contents old new log log' p values sound are stop.ReadFailed h = absurd h
+pieces_end contents old new log log' p values sound are stop.ColumnTooLong h = absurd h
+pieces_end contents old new log log' p values sound are stop.Memory h = absurd h
+pieces_end contents old new log log' p values sound are stop.NoThread h = absurd h
 
 -- so a round has no more than so many full pieces
 round_few : (size : ℕ) (pieces : List (List ℕ)) → ArePiecesOf size pieces → length (records_of pieces) ≤ length pieces * size
@@ -201,10 +235,32 @@ module _ (p : Pieces) (i : ℕ) (found : RowsOf) (sound : ArePieces p) (lt : i <
     by_fault rows None e are = absurd (front_faults p i rows found sound lt are of_piece has e)
     by_fault rows (Some kind) e are = front_of_all p i rows kind are e
 
+    rows_again : (rows : RowsOf) (why : RunStop)
+        → EndsInRows contents old new log log' p.layout p.files p.most p.first (wholes_of_all p.layout.delimiter (take (i + 1) p.pieces)) rows why
+        → EndsInRows contents old new log log' p.layout p.files p.most p.first (wholes_of_all p.layout.delimiter p.pieces) rows why
+    rows_again rows (stop.Row row kind) h = h
+    rows_again rows stop.WriteFailed h =
+        let d = p.layout.delimiter in
+        let rest = wholes_of_all d (drop (i + 1) p.pieces) in
+        record {
+          done = h.done;
+          more = h.more ++ rest;
+          parts = wholes_split d (i + 1) p.pieces ∙ ap (λ (l : List Whole). l ++ rest) h.parts ∙ append_assoc h.done h.more rest;
+          front = h.front;
+          are = h.are;
+          fails = h.fails;
+          noted = h.noted;
+        }
+    rows_again rows (stop.Source fault) h = absurd h
+    rows_again rows stop.ReadFailed h = absurd h
+    rows_again rows stop.ColumnTooLong h = absurd h
+    rows_again rows stop.Memory h = absurd h
+    rows_again rows stop.NoThread h = absurd h
+
     -- it ends as the whole does
     pub again_err : (why : RunStop) → EndsInRound (record p { pieces = take (i + 1) p.pieces; stops = false }) contents old new log log' why → EndsInRound p contents old new log log' why
     again_err why (inl memory) = inl memory
-    again_err why (inr ends) = inr (ends.0, by_fault ends.0 ends.0.fault refl ends.1, ends.2)
+    again_err why (inr ends) = inr (ends.0, by_fault ends.0 ends.0.fault refl ends.1, rows_again ends.0 why ends.2)
 
 -- what holds of a value where more does
 pub on_ok : {X E : Type 0} (r : Result X E) (P Q : X → Type 0) → ((x : X) → P x → Q x) → IfOk r P → IfOk r Q
@@ -215,42 +271,7 @@ pub on_err : {X E : Type 0} (r : Result X E) (P Q : E → Type 0) → ((e : E) �
 on_err (Ok x) P Q f is = tt
 on_err (Err e) P Q f is = f e is
 
-if_map : {X : Type 0} (o : Option X) (P Q : X → Type 0) → ((x : X) → P x → Q x) → IfSome o P → IfSome o Q
-if_map None P Q f is = tt
-if_map (Some x) P Q f is = f x is
-
--- the rows of the records of a piece, each with its own bytes, are those of the piece
-pub rows_of_piece : (p : Pieces) (i : ℕ) (split : List Whole) (rows : RowsOf) → IfSome (slice_get p.pieces i) (λ piece. split ≡ whole_records piece)
-    → AreRowsOf p.layout p.files p.most (p.first + i * p.size) (map (put_back p.layout.delimiter) split) rows → AreRowsOfPiece p i rows
-rows_of_piece p i split rows is are =
-    let d = p.layout.delimiter in
-    if_map (slice_get p.pieces i) (λ piece. split ≡ whole_records piece) (λ piece. AreRowsOf p.layout p.files p.most (p.first + i * p.size) (wholes_in d piece) rows)
-    (λ piece same. subst (λ (l : List Whole). AreRowsOf p.layout p.files p.most (p.first + i * p.size) (map (put_back d) l) rows) same are) is
-
--- and so are those of plain records, whatever their own bytes are
-pub rows_of_plain_piece : {E : Type 0} (p : Pieces) (i : ℕ) (split : List (List (List ℕ))) (result : Result RowsOf E) → p.layout.delimiter ≡ 44 → IfSome (slice_get p.pieces i) (λ piece. split ≡ column_records piece)
-    → ((wholes : List Whole) → fields_of_all wholes ≡ split → IfOk result (AreRowsOf p.layout p.files p.most (p.first + i * p.size) wholes)) → IfOk result (AreRowsOfPiece p i)
-rows_of_plain_piece p i split (Err e) comma is each = tt
-rows_of_plain_piece p i split (Ok rows) comma is each =
-    let d = p.layout.delimiter in
-    if_map (slice_get p.pieces i) (λ piece. split ≡ column_records piece) (λ piece. AreRowsOf p.layout p.files p.most (p.first + i * p.size) (wholes_in d piece) rows)
-    (λ piece same. each (wholes_in d piece) (comma_fields_in d comma piece ∙ sym same)) is
-
--- the numbers of a piece's rows are no great ones
-pub few_of_piece : (p : Pieces) (i n : ℕ) → ArePieces p → i < length p.pieces → IfSome (slice_get p.pieces i) (λ piece. n ≡ length (column_records piece))
-    → p.first + i * p.size + n < 18446744073709551616
-few_of_piece p i n sound lt is =
-    let piece = get_or p.pieces i [] in
-    let e : slice_get p.pieces i ≡ Some piece = slice_get-get_or p.pieces i [] lt in
-    let same : n ≡ length (column_records piece) = rw e at is in
-    omega (arith, small_number p i sound lt, same, piece_few p.size p.pieces i piece e sound.cut, sound.small)
-
--- as many as the records that a piece was divided into
-pub many_plain : (p : Pieces) (i : ℕ) (split : List (List (List ℕ))) → IfSome (slice_get p.pieces i) (λ piece. split ≡ column_records piece)
-    → IfSome (slice_get p.pieces i) (λ piece. length split ≡ length (column_records piece))
-many_plain p i split is = if_map (slice_get p.pieces i) (λ piece. split ≡ column_records piece) (λ piece. length split ≡ length (column_records piece)) (λ piece same. ap length same) is
-
-pub many_whole : (p : Pieces) (i : ℕ) (split : List Whole) → IfSome (slice_get p.pieces i) (λ piece. split ≡ whole_records piece)
-    → IfSome (slice_get p.pieces i) (λ piece. length split ≡ length (column_records piece))
-many_whole p i split is = if_map (slice_get p.pieces i) (λ piece. split ≡ whole_records piece) (λ piece. length split ≡ length (column_records piece))
-    (λ piece same. ap length same ∙ sym (length-map (whole_records piece) (λ (w : Whole). w.fields)) ∙ ap length (wholes_fields piece)) is
+-- the rows of a piece's bytes are those of the piece
+pub rows_of_bytes : (p : Pieces) (i : ℕ) (piece : List ℕ) (rows : RowsOf) → slice_get p.pieces i ≡ Some piece
+    → AreRowsOf p.layout p.files p.most (p.first + i * p.size) (wholes_in p.layout.delimiter piece) rows → AreRowsOfPiece p i rows
+rows_of_bytes p i piece rows at are = rw at are

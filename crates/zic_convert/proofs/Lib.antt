@@ -11,12 +11,15 @@ pub mod Heads
 pub mod InMemory
 pub mod Joining
 pub mod Logs
+pub mod MoreRows
 pub mod NextRows
 pub mod Once
 pub mod Options
 pub mod Plain
 pub mod Progress
+pub mod PutBack
 pub mod Rounds
+pub mod RowFaults
 pub mod Sounds
 pub mod Staying
 pub mod Stops

@@ -167,7 +167,7 @@ module _ (layout : Layout) (files : List File) (most : ℕ) (all : List Whole) w
             let (more, next) = for_some left _ far.rest come far.bytes in
             let whole = far.goes_on ∙ ap (λ (r : List Whole). far.wholes ++ r) next in
             let (texts, end, comes, later, longer) = come_to_more layout files most (all_known files sound once) (n + 1) rs more rows are in
-            let (rest, front_first) = front_texts once layout files most sound (n + 1) done others front are_front rows (rw parts at are) in
+            let (rest, front_first) = front_texts once layout files most sound (n + 1) rs done others parts rows are front are_front in
             let m = length are_front.texts in
             let base = concat far.texts in
             let shown : concat texts ≡ rows.text ++ concat later = ap concat longer ∙ concat-append are.texts later ∙ ap (λ (l : List ℕ). l ++ concat later) (sym are.text) in

@@ -9,7 +9,9 @@ use Rattle.zic_convert.specs.code.Pieces.{followed_by, joined}
 
 -- rows after none
 after_none : (rows : RowsOf) → followed_by empty_rows rows None ≡ rows
-after_none rows = refl
+after_none rows =
+    let count : 0 + rows.count ≡ rows.count = omega arith in
+    rw count refl
 
 -- rows, and no rows after them
 pub record AreSame (a b : RowsOf) : Type 0 where

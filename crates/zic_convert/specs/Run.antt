@@ -61,7 +61,7 @@ EndsAtRow layout files most header wholes row kind out =
 
 -- Some lines were written, of the header and the first rows, and the faults of these rows were noted, and no others. Nothing was written
 -- after these lines, unless the writer failed: then perhaps a beginning of those that come next.
-pub record EndsAfterLines (layout : Layout) (files : List File) (most : ℕ) (header : List ℕ) (wholes : List Whole) (stop : RunStop) (out : Output) : Type 0 where
+pub record EndsAfterLines (layout : Layout) (files : List File) (most : ℕ) (header : List ℕ) (wholes : List Whole) (why : RunStop) (out : Output) : Type 0 where
   pub texts : List (List ℕ)
   pub fault : Option RowKind
   pub come : ComeToBy layout files most 1 wholes texts fault
@@ -69,7 +69,7 @@ pub record EndsAfterLines (layout : Layout) (files : List File) (most : ℕ) (he
   pub part : List ℕ
   pub starts : StartsWith (header ++ concat texts) part
   pub least : StartsWith part (concat (take lines (header ∷ texts)))
-  pub exact : (part ≡ concat (take lines (header ∷ texts))) ⊎ (stop ≡ stop.WriteFailed)
+  pub exact : (part ≡ concat (take lines (header ∷ texts))) ⊎ (why ≡ stop.WriteFailed)
   pub wrote : Appends out.held out.held' part
   pub noted : Notes out.log out.log' (faults_by layout files most 1 (take (lines - 1) wholes))
 
@@ -77,7 +77,7 @@ pub record EndsAfterLines (layout : Layout) (files : List File) (most : ℕ) (he
 abbrev pub EndsIn : Layout → List File → ℕ → List ℕ → List Whole → RunStop → Output → Type 0
 EndsIn layout files most header wholes (stop.Row row kind) out = EndsAtRow layout files most header wholes row kind out
 EndsIn layout files most header wholes (stop.Source fault) out = ⊥
-EndsIn layout files most header wholes stop out = EndsAfterLines layout files most header wholes stop out
+EndsIn layout files most header wholes why out = EndsAfterLines layout files most header wholes why out
 
 -- by these files, all rows of the column were written, there are n, and their faults were noted
 abbrev pub ConvertsAllBy : {R W : Type 0} → Layout → ℕ → ℕ → Run R W → List File → Type 0
@@ -90,12 +90,12 @@ HasNames layout out = (rest : List ℕ) × Appends out.held out.held' (names_lin
 
 -- by these files, the conversion of the column ended early, after the line of names
 abbrev pub EndsBy : {R W : Type 0} → Layout → ℕ → RunStop → Run R W → List File → Type 0
-EndsBy layout most stop run files = IfSome run.column (λ column.
-    (wholes : List Whole) × AreRowRecords layout column wholes × EndsIn layout files most (header_text layout column) wholes stop run.output × HasNames layout run.output)
+EndsBy layout most why run files = IfSome run.column (λ column.
+    (wholes : List Whole) × AreRowRecords layout column wholes × EndsIn layout files most (header_text layout column) wholes why run.output × HasNames layout run.output)
 
 -- The line of names could not be written: nothing was read of the column, no zone was asked for, and no fault was noted.
-pub record EndsAtNames {R W Z : Type 0} (layout : Layout) (stop : RunStop) (run : Run R W) (zones zones' : Z) : Type 0 where
-  pub is : stop ≡ stop.WriteFailed
+pub record EndsAtNames {R W Z : Type 0} (layout : Layout) (why : RunStop) (run : Run R W) (zones zones' : Z) : Type 0 where
+  pub is : why ≡ stop.WriteFailed
   pub unread : run.reader' ≡ run.reader
   pub unasked : zones' ≡ zones
   pub unnoted : run.output.log' ≡ run.output.log
@@ -105,8 +105,8 @@ pub record EndsAtNames {R W Z : Type 0} (layout : Layout) (stop : RunStop) (run 
 
 -- The zones grew as names were asked for, until the end or until memory was refused. By all files that rows may be made by then, `Ends`
 -- holds.
-pub record EndsByZones {Z : Type 0} (grown broken : Z → Z → Type 0) (may_be : Z → List File → Type 0) (old new : Z) (stop : RunStop) (Ends : List File → Type 0) : Type 0 where
+pub record EndsByZones {Z : Type 0} (Grows Breaks : Z → Z → Type 0) (MayBe : Z → List File → Type 0) (old new : Z) (why : RunStop) (Ends : List File → Type 0) : Type 0 where
   pub then : Z
-  pub grown : grown old then
-  pub ends : (new ≡ then) ⊎ ((stop ≡ stop.Memory) × broken then new)
-  pub by : (files : List File) → may_be then files → Ends files
+  pub grown : Grows old then
+  pub ends : (new ≡ then) ⊎ ((why ≡ stop.Memory) × Breaks then new)
+  pub by : (files : List File) → MayBe then files → Ends files

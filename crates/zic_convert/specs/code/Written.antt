@@ -21,10 +21,10 @@ abbrev pub Wrote : {W : Type 0} → (W → Option (List ℕ)) → Counts W → C
 Wrote contents old new bytes = Appends (contents old.inner) (contents new.inner) bytes × (new.failures ≡ old.failures)
 
 -- they grew by some bytes, perhaps by a beginning of others after these, and then the writer failed
-pub record FailsAfter {W : Type 0} (contents : W → Option (List ℕ)) (old new : Counts W) (least all : List ℕ) : Type 0 where
+pub record FailsAfter {W : Type 0} (contents : W → Option (List ℕ)) (old new : Counts W) (first all : List ℕ) : Type 0 where
   pub part : List ℕ
   pub starts : StartsWith all part
-  pub least : StartsWith part least
+  pub least : StartsWith part first
   pub wrote : Appends (contents old.inner) (contents new.inner) part
   pub failed : HasFailedSince new old.failures
 

@@ -1,9 +1,9 @@
 use Rattle.std.proofs.Common.{inr, arith}
 use Rattle.zic_convert.specs.code.Pieces.{joined}
 use Rattle.zic_convert.specs.code.Row.{wholes_of_all}
-use Rattle.zic_convert.specs.code.Written.{EndsAtRow, EndsInRound, WritesRound, WritesRows}
+use Rattle.zic_convert.specs.code.Written.{EndsInPieces, EndsInRound, WritesRound, WroteRows}
 use Rattle.zic_convert.proofs.Halts.{few}
-use Rattle.zic_convert.proofs.Joining.{few_records, joined_round, on_err, on_ok}
+use Rattle.zic_convert.proofs.Joining.{few_records, joined_round, on_err, on_ok, pieces_end}
 use Rattle.zic_convert.proofs.round.write_round.Goals as goal
 
 pub write_rows-requires : goal.write_rows-requires
@@ -22,7 +22,7 @@ returns-clause-ok g c =
     let log = g.L.FaultLog.noted c.args.log.now in
     let log' = g.L.FaultLog.noted c.write_rows.new.log in
     let all = joined_round p rows c.first.ensures.sound c.requires in
-    on_ok c.write_rows.result (WritesRows contents c.args.writer.now c.write_rows.new.writer log log' (joined rows)) (WritesRound p contents c.args.writer.now c.write_rows.new.writer log log')
+    on_ok c.write_rows.result (WroteRows contents c.args.writer.now c.write_rows.new.writer log log' (joined rows)) (WritesRound p contents c.args.writer.now c.write_rows.new.writer log log')
     (λ count wrote. (joined rows, all, wrote)) c.write_rows.ensures.ok
 
 pub returns-clause-stop : goal.returns-clause-stop
@@ -33,5 +33,5 @@ returns-clause-stop g c =
     let log = g.L.FaultLog.noted c.args.log.now in
     let log' = g.L.FaultLog.noted c.write_rows.new.log in
     let all = joined_round p rows c.first.ensures.sound c.requires in
-    on_err c.write_rows.result (EndsAtRow contents c.args.writer.now c.write_rows.new.writer log log' p.first (joined rows)) (EndsInRound p contents c.args.writer.now c.write_rows.new.writer log log')
-    (λ why ends. inr (joined rows, all, ends)) (rw c.first.ensures.first at c.write_rows.ensures.err)
+    on_err c.write_rows.result (EndsInPieces contents c.args.writer.now c.write_rows.new.writer log log' p.first rows) (EndsInRound p contents c.args.writer.now c.write_rows.new.writer log log')
+    (λ why ends. inr (joined rows, all, pieces_end contents c.args.writer.now c.write_rows.new.writer log log' p rows c.first.ensures.sound c.requires why ends)) (rw c.first.ensures.first at c.write_rows.ensures.err)
