@@ -14,6 +14,7 @@ use Rattle.zic_base.specs.declared.row_fault.RowFault.{RowFault}
 use Rattle.zic_base.specs.declared.row_fault.RowKind.{RowKind}
 use Rattle.zic_base.specs.declared.row_fault.RowKind.TheVariants as kinds
 use Rattle.zic_convert.specs.LayoutRows.{ComeToBy, IsRowBy, ending, ends_by, fault_by, faults_by, noted}
+use Rattle.zic_convert.specs.code.Pieces.{followed_by}
 use Rattle.zic_convert.specs.code.Row.{AreRowsOf, RowsOf}
 
 -- a record that is one too many ends each run

@@ -1,3 +1,11 @@
 pub mod code
 pub mod Rows
 pub mod LayoutRows
+pub mod Column
+pub mod Convert
+pub mod Run
+pub mod Laws
+pub use Rattle.zic_rows.specs.Instant
+pub use Rattle.zic_rows.specs.Row
+pub use Rattle.zic_files.specs.File
+pub use Rattle.zic_files.specs.Sound

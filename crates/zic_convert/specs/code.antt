@@ -1,4 +1,8 @@
 -- Definitions for the code of this crate and for proofs. No contract of an exported function cites them.
-pub mod Row
 pub mod Batch
+pub mod Halt
 pub mod Piece
+pub mod Pieces
+pub mod Progress
+pub mod Row
+pub mod Written

@@ -2,6 +2,17 @@
 #![tactic(auto)]
 
 mod batch;
+mod column;
+mod conversion;
 mod faulty;
+mod halt;
+pub mod laws;
+mod log;
+mod output;
 mod piece;
+mod pieces;
+mod round;
 mod row;
+
+pub use column::{ColumnRows, rows_of_column};
+pub use conversion::{Conversion, convert, convert_column};

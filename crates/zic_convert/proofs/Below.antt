@@ -1,0 +1,147 @@
+-- Rows below a header that was written.
+use Rattle.std.proofs.Common.{◌≡◌, ◌∙◌, ◌++◌, ◌-◌, ◌⊎◌, ℕ, zero, suc, List, [], ◌∷◌, Option, take, inl, inr, refl, sym, ap, subst, append_assoc, arith}
+use Rattle.std.proofs.lemmas.List.{append-nil}
+use Rattle.std.specs.Io.{StartsWith}
+use Rattle.std.specs.Io.KnownBytes.{Appends}
+use Rattle.std.specs.List.{concat}
+use Rattle.std.specs.Prelude.{IfSome}
+use Rattle.csv.proofs.WriteFacts.{appends-more}
+use Rattle.zic_columns.specs.Own.{Whole}
+use Rattle.zic_files.specs.File.{File}
+use Rattle.zic_plan.specs.declared.layout.Header.{Header}
+use Rattle.zic_plan.specs.declared.layout.Layout.{Layout}
+use Rattle.zic_plan.specs.declared.layout.RowStart.{RowStart}
+use Rattle.zic_plan.specs.declared.layout.RowStart.TheVariants as starts
+use Rattle.zic_base.specs.declared.row_fault.RowFault.{RowFault}
+use Rattle.zic_base.specs.declared.run_stop.RunStop.{RunStop}
+use Rattle.zic_base.specs.declared.run_stop.RunStop.TheVariants as stop
+use Rattle.zic_convert.specs.Column.{AreRowRecords, header_of, header_text, names_line, names_of, own_line}
+use Rattle.zic_convert.specs.LayoutRows.{faults_by}
+use Rattle.zic_convert.specs.Run.{EndsAfterLines, EndsIn, HasNames, Notes, WritesRows}
+use Rattle.zic_convert.specs.code.Progress.{ConvertsColumn, EndsInColumn, output}
+use Rattle.zic_convert.proofs.Bytes.{starts_later}
+use Rattle.zic_convert.proofs.Options.{for_some, if_some}
+
+module _ (layout : Layout) (files : List File) (most : ℕ) (wholes : List Whole) (head : List ℕ) (old mid new : Option (List ℕ)) (log last : Option (List RowFault)) (begun : Appends old mid head) where
+  pub rows_below : (n : ℕ) → WritesRows layout files most [] wholes n (output mid new log last) → WritesRows layout files most head wholes n (output old new log last)
+  rows_below n w = (record { texts = w.0.texts; converts = w.0.converts; count = w.0.count; wrote = appends-more old mid new head (concat w.0.texts) begun w.0.wrote }, w.1)
+
+  module _ (why : RunStop) (w : EndsAfterLines layout files most [] wholes why (output mid new log last)) where
+    lines_with : (lines : ℕ) (text : List ℕ) → concat (take w.lines ([] ∷ w.texts)) ≡ text → concat (take lines (head ∷ w.texts)) ≡ head ++ text → lines - 1 ≡ w.lines - 1
+        → EndsAfterLines layout files most head wholes why (output old new log last)
+    lines_with lines text before after rows = record {
+      texts = w.texts;
+      fault = w.fault;
+      come = w.come;
+      lines = lines;
+      part = head ++ w.part;
+      starts = subst (λ (l : List ℕ). StartsWith l (head ++ w.part)) (append-nil (head ++ concat w.texts)) (starts_later head (concat w.texts) w.part [] w.starts);
+      least = subst (λ (l : List ℕ). StartsWith (head ++ w.part) l) (sym after)
+          (subst (λ (l : List ℕ). StartsWith l (head ++ text)) (append-nil (head ++ w.part)) (starts_later head w.part text [] (subst (StartsWith w.part) before w.least)));
+      exact = elim w.exact [
+        | inl same ↦ inl (ap (λ (l : List ℕ). head ++ l) (same ∙ before) ∙ sym after)
+        | inr failed ↦ inr failed
+      ];
+      wrote = appends-more old mid new head w.part begun w.wrote;
+      noted = subst (λ (k : ℕ). Notes log last (faults_by layout files most 1 (take k wholes))) (sym rows) w.noted;
+    }
+
+    by_lines : (lines : ℕ) → w.lines ≡ lines → EndsAfterLines layout files most head wholes why (output old new log last)
+    by_lines zero e = lines_with 1 [] (ap (λ (k : ℕ). concat (take k ([] ∷ w.texts))) e) refl (omega (arith, e))
+    by_lines (suc k) e = lines_with (suc k) (concat (take k w.texts)) (ap (λ (k : ℕ). concat (take k ([] ∷ w.texts))) e) refl (omega (arith, e))
+
+    pub lines_below : EndsAfterLines layout files most head wholes why (output old new log last)
+    lines_below = by_lines w.lines refl
+
+  pub ends_below : (why : RunStop) → EndsIn layout files most [] wholes why (output mid new log last) → EndsIn layout files most head wholes why (output old new log last)
+  ends_below (stop.Row row kind) w =
+      (record { texts = w.0.texts; converts = w.0.converts; number = w.0.number; wrote = appends-more old mid new head (concat w.0.texts) begun w.0.wrote }, w.1)
+  ends_below (stop.Source fault) w = absurd w
+  ends_below stop.ReadFailed w = lines_below stop.ReadFailed w
+  ends_below stop.WriteFailed w = lines_below stop.WriteFailed w
+  ends_below stop.ColumnTooLong w = lines_below stop.ColumnTooLong w
+  ends_below stop.Memory w = lines_below stop.Memory w
+  ends_below stop.NoThread w = lines_below stop.NoThread w
+
+-- one of the two lines of a header has no byte
+one_line : (start : RowStart) (header : Header) (d : ℕ) (own : List ℕ) → (names_of start header d ≡ []) ⊎ (header_of start d own ≡ [])
+one_line starts.Fields header d own = inr refl
+one_line starts.Record header d own = inl refl
+
+-- ---- below the line of names
+
+module _ (layout : Layout) (files : List File) (most : ℕ) (column : List ℕ) (wholes : List Whole) (old mid new : Option (List ℕ)) (log last : Option (List RowFault))
+    (begun : Appends old mid (names_line layout)) where
+  longer : (texts : List (List ℕ)) → Appends mid new (own_line layout column ++ concat texts) → Appends old new (header_text layout column ++ concat texts)
+  longer texts wrote =
+      subst (λ (l : List ℕ). Appends old new l) (sym (append_assoc (names_line layout) (own_line layout column) (concat texts)))
+      (appends-more old mid new (names_line layout) (own_line layout column ++ concat texts) begun wrote)
+
+  pub rows_after_names : (n : ℕ) → WritesRows layout files most (own_line layout column) wholes n (output mid new log last) → WritesRows layout files most (header_text layout column) wholes n (output old new log last)
+  rows_after_names n w = (record { texts = w.0.texts; converts = w.0.converts; count = w.0.count; wrote = longer w.0.texts w.0.wrote }, w.1)
+
+  module _ (why : RunStop) where
+    no_names : (names own : List ℕ) → Appends old mid names → names ≡ [] → EndsAfterLines layout files most own wholes why (output mid new log last)
+        → EndsAfterLines layout files most (names ++ own) wholes why (output old new log last)
+    no_names names own first none w = rw none (record {
+      texts = w.texts;
+      fault = w.fault;
+      come = w.come;
+      lines = w.lines;
+      part = w.part;
+      starts = w.starts;
+      least = w.least;
+      exact = w.exact;
+      wrote = appends-more old mid new [] w.part (rw none at first) w.wrote;
+      noted = w.noted;
+    })
+
+    no_own : (names own : List ℕ) → Appends old mid names → own ≡ [] → EndsAfterLines layout files most own wholes why (output mid new log last)
+        → EndsAfterLines layout files most (names ++ own) wholes why (output old new log last)
+    no_own names own first none w =
+        subst (λ (l : List ℕ). EndsAfterLines layout files most l wholes why (output old new log last)) (sym (ap (λ (l : List ℕ). names ++ l) none ∙ append-nil names))
+        (lines_below layout files most wholes names old mid new log last first why (rw none at w))
+
+    lines_after_names : EndsAfterLines layout files most (own_line layout column) wholes why (output mid new log last)
+        → EndsAfterLines layout files most (header_text layout column) wholes why (output old new log last)
+    lines_after_names w = elim (one_line layout.start layout.header layout.delimiter _) [
+      | inl none ↦ no_names (names_line layout) (own_line layout column) begun none w
+      | inr none ↦ no_own (names_line layout) (own_line layout column) begun none w
+    ]
+
+    with_names : EndsAfterLines layout files most (own_line layout column) wholes why (output mid new log last) → HasNames layout (output old new log last)
+    with_names w = (w.part, appends-more old mid new (names_line layout) w.part begun w.wrote)
+
+    both : EndsAfterLines layout files most (own_line layout column) wholes why (output mid new log last)
+        → EndsAfterLines layout files most (header_text layout column) wholes why (output old new log last) × HasNames layout (output old new log last)
+    both w = (lines_after_names w, with_names w)
+
+  pub ends_after_names : (why : RunStop) → EndsIn layout files most (own_line layout column) wholes why (output mid new log last)
+      → EndsIn layout files most (header_text layout column) wholes why (output old new log last) × HasNames layout (output old new log last)
+  ends_after_names (stop.Row row kind) w = (
+    (record { texts = w.0.texts; converts = w.0.converts; number = w.0.number; wrote = longer w.0.texts w.0.wrote }, w.1),
+    (own_line layout column ++ concat w.0.texts, appends-more old mid new (names_line layout) (own_line layout column ++ concat w.0.texts) begun w.0.wrote),
+  )
+  ends_after_names (stop.Source fault) w = absurd w
+  ends_after_names stop.ReadFailed w = both stop.ReadFailed w
+  ends_after_names stop.WriteFailed w = both stop.WriteFailed w
+  ends_after_names stop.ColumnTooLong w = both stop.ColumnTooLong w
+  ends_after_names stop.Memory w = both stop.Memory w
+  ends_after_names stop.NoThread w = both stop.NoThread w
+
+-- ---- a column below the line of names
+
+module _ (layout : Layout) (most : ℕ) (known : Option (List ℕ)) (files : List File) (old mid new : Option (List ℕ)) (log last : Option (List RowFault)) (begun : Appends old mid (names_line layout)) where
+  pub column_after_names : (n : ℕ) → ConvertsColumn layout most known n (output mid new log last) files
+      → IfSome known (λ column. (wholes : List Whole) × AreRowRecords layout column wholes × WritesRows layout files most (header_text layout column) wholes n (output old new log last))
+  column_after_names n all = if_some known _ (λ column e.
+      let (wholes, are, w) = for_some known _ column all e in
+      (wholes, are, rows_after_names layout files most column wholes old mid new log last begun n w))
+
+  pub column_ends_after_names : (why : RunStop) → EndsInColumn layout most known why (output mid new log last) files
+      → IfSome known (λ column. (wholes : List Whole) × AreRowRecords layout column wholes × EndsIn layout files most (header_text layout column) wholes why (output old new log last)
+      × HasNames layout (output old new log last))
+  column_ends_after_names why ends = if_some known _ (λ column e.
+      let (wholes, are, w) = for_some known _ column ends e in
+      let both = ends_after_names layout files most column wholes old mid new log last begun why w in
+      (wholes, are, both.0, both.1))

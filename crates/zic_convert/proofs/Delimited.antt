@@ -1,0 +1,144 @@
+-- Columns in which the delimiter and the comma stand in each other's place.
+use Rattle.std.proofs.Common.{◌≡◌, ◌≢◌, ◌<◌, ◌==◌, ℕ, Bool, true, false, not, List, [], ◌∷◌, map, drop, refl, sym, ap, ◌∙◌, arith}
+use Rattle.std.specs.Prelude.{nat_le, ◌&&◌, ◌||◌, if◌then◌else◌, length}
+use Rattle.std.specs.Char.{is_ascii_alphanumeric}
+use Rattle.std.specs.List.{list_all, slice_split}
+use Rattle.std.proofs.Math.ListN.{get_or-map}
+use Rattle.std.proofs.lemmas.Bool.{and_parts, cond_both, eqb-false, eqb-true}
+use Rattle.std.proofs.lemmas.Bool.Decides.{nat_tests}
+use Rattle.csv.specs.Reading.{strip_bom}
+use Rattle.zic_words.specs.Dash.{is_dash}
+use Rattle.zic_words.specs.Name.{is_name, is_name_byte, is_name_part}
+use Rattle.zic_words.specs.declared.name.TheConstants.{LONGEST_NAME}
+use Rattle.zic_columns.specs.Column.{column_records}
+use Rattle.zic_columns.specs.Exchange.{CanDelimit, exchange, exchanged}
+use Rattle.zic_columns.specs.Laws.{RecordsAreExchanged, TextsAreExchanged}
+use Rattle.zic_columns.specs.Own.{Whole, beside, delimited_texts, first_text, own_texts}
+use Rattle.zic_plan.specs.Delimiter.{is_csv_byte, is_delimiter, is_row_byte}
+use Rattle.zic_plan.specs.Layout.{records_before}
+use Rattle.zic_plan.specs.declared.layout.Header.{Header}
+use Rattle.zic_plan.specs.declared.layout.Header.TheVariants as headers
+use Rattle.zic_plan.specs.declared.layout.Layout.{Layout}
+use Rattle.zic_zones.specs.Zones.{field_at}
+use Rattle.zic_convert.specs.Column.{AreRowRecords, header_of, own_header, own_line}
+use Rattle.zic_convert.specs.code.Progress.{own_line_in}
+use Rattle.zic_convert.specs.code.Row.{put_back, wholes_in}
+
+-- what a byte that can stand between fields is not
+pub record IsOutside (d : ℕ) : Type 0 where
+  ascii : d < 128
+  row : is_row_byte d ≡ false
+  csv : is_csv_byte d ≡ false
+
+not_false : (b : Bool) → not b ≡ true → b ≡ false
+not_false true h = absurd (cc h)
+not_false false h = refl
+
+pub outside : (d : ℕ) → is_delimiter d ≡ true → IsOutside d
+outside d is =
+    let (others, csv) = and_parts _ (not (is_csv_byte d)) is in
+    let (ascii, row) = and_parts _ (not (is_row_byte d)) others in
+    record { ascii = grind (arith, nat_tests, ascii); row = not_false _ row; csv = not_false _ csv }
+
+or_false : (a b : Bool) → (a || b) ≡ false → (a ≡ false) × (b ≡ false)
+or_false true b h = absurd (cc h)
+or_false false b h = (refl, h)
+
+unequal : (a c : ℕ) → (a == c) ≡ false → a ≢ c
+unequal a c other same = eqb-false a c other same
+
+pub can_delimit : (d : ℕ) → is_delimiter d ≡ true → CanDelimit d
+can_delimit d is =
+    let o = outside d is in
+    let (front, return) = or_false _ (d == 13) o.csv in
+    let (quote, feed) = or_false (d == 34) (d == 10) front in
+    record { ascii = o.ascii; quote = unequal d 34 quote; feed = unequal d 10 feed; return = unequal d 13 return }
+
+or_true : (a : Bool) → (a || true) ≡ true
+or_true true = refl
+or_true false = refl
+
+-- what a name may have, a field of a row may have
+name_in_row : (a p q r s t u : Bool) → (a || t || q || p || r || s) ≡ true → (a || p || q || r || s || u || t) ≡ true
+name_in_row true p q r s t u h = refl
+name_in_row false true q r s t u h = refl
+name_in_row false false true r s t u h = refl
+name_in_row false false false true s t u h = refl
+name_in_row false false false false true t u h = refl
+name_in_row false false false false false true u h = or_true u
+name_in_row false false false false false false u h = absurd (cc h)
+
+name_row : (b : ℕ) → is_name_byte b ≡ true → is_row_byte b ≡ true
+name_row b is = name_in_row (is_ascii_alphanumeric b) (b == 43) (b == 45) (b == 46) (b == 47) (b == 95) (b == 58) is
+
+module _ (d : ℕ) (o : IsOutside d) where
+  -- what a field of a row may have, stays as it is
+  kept : (b : ℕ) → is_row_byte b ≡ true → exchange d b ≡ b
+  kept b is =
+      cond_both (b == 44) d (if b == d then 44 else b) (λ x. x ≡ b)
+      (λ comma. absurd (let e = rw (eqb-true b 44 comma) at is in cc e))
+      (λ _. cond_both (b == d) 44 b (λ x. x ≡ b) (λ same. absurd (let e = rw (eqb-true b d same) at is in cc (e, o.row))) (λ _. refl))
+
+  all_kept : (p : ℕ → Bool) → ((b : ℕ) → p b ≡ true → is_row_byte b ≡ true) → (bytes : List ℕ) → list_all p bytes ≡ true → exchanged d bytes ≡ bytes
+  all_kept p in_row [] is = refl
+  all_kept p in_row (b ∷ bytes) is =
+      let (here, rest) = and_parts (p b) (list_all p bytes) is in
+      rw (kept b (in_row b here), all_kept p in_row bytes rest) refl
+
+  -- a name stays as it is
+  pub name_as_put : (name : List ℕ) → is_name name ≡ true → exchanged d name ≡ name
+  name_as_put name is =
+      let (front, parts) = and_parts (nat_le (length name) LONGEST_NAME && not (is_dash name) && list_all is_name_byte name) (list_all is_name_part (slice_split (λ byte. byte == 47) name)) is in
+      let (others, bytes) = and_parts (nat_le (length name) LONGEST_NAME && not (is_dash name)) (list_all is_name_byte name) front in
+      all_kept is_name_byte name_row name bytes
+
+  pub field_same : (fields : List (List ℕ)) (index : ℕ) → field_at (map (exchanged d) fields) index ≡ exchanged d (field_at fields index)
+  field_same fields index = get_or-map (exchanged d) fields index []
+
+-- records and their own bytes, with the delimiter put back in both
+beside_put : (d : ℕ) (texts : List (List ℕ)) (records : List (List (List ℕ)))
+    → beside (map (exchanged d) texts) (map (map (exchanged d)) records) ≡ map (put_back d) (beside texts records)
+beside_put d [] records = refl
+beside_put d (own ∷ texts) [] = refl
+beside_put d (own ∷ texts) (fields ∷ records) =
+    ap (λ (l : List Whole). record { own = exchanged d own; fields = map (exchanged d) fields } ∷ l) (beside_put d texts records)
+
+-- the records of a column with another delimiter that make rows are those with the delimiter put back
+wholes_delimited : (layout : Layout) → TextsAreExchanged → is_delimiter layout.delimiter ≡ true → (column : List ℕ)
+    → let d = layout.delimiter in
+    let inside = strip_bom (exchanged d column) in
+    let k = records_before layout.header in
+    drop k (beside (delimited_texts d (strip_bom column)) (map (map (exchanged d)) (column_records inside))) ≡ drop k (wholes_in d inside)
+wholes_delimited layout own_law is column =
+    let d = layout.delimiter in
+    let inside = strip_bom (exchanged d column) in
+    let records = column_records inside in
+    let k = records_before layout.header in
+    ap (λ (t : List (List ℕ)). drop k (beside t (map (map (exchanged d)) records))) (own_law d column (can_delimit d is)) ∙ ap (drop k) (beside_put d (own_texts inside) records)
+
+-- so are its records that make rows
+pub row_records : (layout : Layout) → RecordsAreExchanged → TextsAreExchanged → is_delimiter layout.delimiter ≡ true → (column : List ℕ)
+    → AreRowRecords layout column (drop (records_before layout.header) (wholes_in layout.delimiter (strip_bom (exchanged layout.delimiter column))))
+row_records layout law own_law is column =
+    let d = layout.delimiter in
+    record {
+      records = map (map (exchanged d)) (column_records (strip_bom (exchanged d column)));
+      are = law d column (can_delimit d is);
+      is = sym (wholes_delimited layout own_law is column);
+    }
+
+first_put : (d : ℕ) (texts : List (List ℕ)) → exchanged d (first_text texts) ≡ first_text (map (exchanged d) texts)
+first_put d [] = refl
+first_put d (text ∷ texts) = refl
+
+header_put : (d : ℕ) (header : Header) (texts : List (List ℕ)) → exchanged d (own_header header texts) ≡ own_header header (map (exchanged d) texts)
+header_put d headers.Absent texts = refl
+header_put d headers.First texts = first_put d texts
+
+-- and so is its own header
+pub own_line_delimited : (layout : Layout) → TextsAreExchanged → is_delimiter layout.delimiter ≡ true → (column : List ℕ)
+    → own_line_in layout (exchanged layout.delimiter column) ≡ own_line layout column
+own_line_delimited layout own_law is column =
+    let d = layout.delimiter in
+    let texts = own_texts (strip_bom (exchanged d column)) in
+    ap (header_of layout.start d) (header_put d layout.header texts ∙ ap (own_header layout.header) (sym (own_law d column (can_delimit d is))))

@@ -1,0 +1,149 @@
+-- How a conversion ends, by the outcome of its column.
+use Rattle.std.proofs.Common.{◌≡◌, ◌∙◌, ◌++◌, ◌-◌, ◌⊎◌, ℕ, suc, List, [], ◌∷◌, length, take, Option, Some, None, inl, inr, refl, sym, ap, subst, arith}
+use Rattle.std.proofs.lemmas.List.{take_all}
+use Rattle.std.proofs.Math.Seq.{take-length}
+use Rattle.std.specs.Io.{StartsWith}
+use Rattle.std.specs.List.{concat}
+use Rattle.std.specs.Prelude.{IfErr, IfOk, IfSome, Result, Ok, Err}
+use Rattle.zic_base.specs.declared.row_fault.RowFault.{RowFault}
+use Rattle.zic_base.specs.declared.run_stop.RunStop.{RunStop}
+use Rattle.zic_base.specs.declared.run_stop.RunStop.TheVariants as stop
+use Rattle.zic_columns.specs.Own.{Whole}
+use Rattle.zic_counted.specs.Counts.{Counts}
+use Rattle.zic_files.specs.File.{File}
+use Rattle.zic_plan.specs.declared.layout.Layout.{Layout}
+use Rattle.zic_convert.specs.Convert.{IsCauseOf}
+use Rattle.zic_convert.specs.LayoutRows.{faults_by}
+use Rattle.zic_convert.specs.Run.{EndsAfterLines, EndsByZones, Notes, Output, WritesRows}
+use Rattle.zic_convert.specs.code.Halt.{IsCauseOfHalt, IsEnd, IsOwnCause, IsReadingStop, stop_of}
+use Rattle.zic_convert.specs.code.Progress.{ConvertsColumn, EndsInColumn}
+use Rattle.zic_convert.specs.declared.halt.Halt.{Halt}
+use Rattle.zic_convert.specs.declared.halt.Halt.TheVariants as halt
+use Rattle.zic_convert.proofs.Coming.{all_texts}
+use Rattle.zic_convert.proofs.Options.{for_some, if_some}
+use Rattle.zic_convert.proofs.Rounds.{ends_map}
+
+module _ {R : Type 0} (reader : Counts R) (failures taken most : ℕ) where
+  -- what holds of the number of rows
+  pub ok_end : (outcome : Result ℕ Halt) (result : Result ℕ RunStop) (P : ℕ → Type 0) → IsEnd reader failures taken most outcome result → IfOk outcome P → IfOk result P
+  ok_end outcome (Ok n) P is p = rw is.rows at p
+  ok_end outcome (Err why) P is p = tt
+
+  -- what holds of an early end: where all was converted, what holds where the column can't be read on holds too
+  pub err_end : (outcome : Result ℕ Halt) (result : Result ℕ RunStop) (P : ℕ → Type 0) (Q : Halt → Type 0) (S : RunStop → Type 0) → ((n : ℕ) → P n → Q halt.Unread)
+      → ((why : RunStop) → IsReadingStop reader failures taken most why → Q halt.Unread → S why) → ((why : RunStop) → Q (halt.Stop why) → S why)
+      → IsEnd reader failures taken most outcome result → IfOk outcome P → IfErr outcome Q → IfErr result S
+  err_end outcome (Ok count) P Q S all read stops is p q = tt
+  err_end (Ok n) (Err why) P Q S all read stops is p q = read why is.stops (all n p)
+  err_end (Err halt.Unread) (Err why) P Q S all read stops is p q = read why is.stops q
+  err_end (Err (halt.Stop stop)) (Err why) P Q S all read stops is p q = subst S (sym is.stops) (stops stop q)
+
+-- all lines were written
+all_lines : (layout : Layout) (files : List File) (most : ℕ) (header : List ℕ) (wholes : List Whole) (n : ℕ) (why : RunStop) (out : Output) → WritesRows layout files most header wholes n out
+    → EndsAfterLines layout files most header wholes why out
+all_lines layout files most header wholes n why out w =
+    let texts = w.0.texts in
+    let all : concat (take (suc n) (header ∷ texts)) ≡ header ++ concat texts = ap (λ (l : List (List ℕ)). header ++ concat l) (take_all n texts (omega (arith, w.0.count))) in
+    let many = all_texts layout files most 1 wholes texts w.0.converts in
+    let rows : suc n - 1 ≡ n = omega arith in
+    let whole : take (suc n - 1) wholes ≡ wholes = ap (λ (k : ℕ). take k wholes) rows ∙ take_all n wholes (omega (arith, w.0.count, many)) in
+    record {
+      texts = texts;
+      fault = None;
+      come = w.0.converts;
+      lines = suc n;
+      part = header ++ concat texts;
+      starts = take-length (header ++ concat texts);
+      least = subst (λ (l : List ℕ). StartsWith (header ++ concat texts) l) (sym all) (take-length (header ++ concat texts));
+      exact = inl (sym all);
+      wrote = w.0.wrote;
+      noted = subst (λ (l : List Whole). Notes out.log out.log' (faults_by layout files most 1 l)) (sym whole) w.1;
+    }
+
+-- where a read failed, other causes leave the same output
+read_as : (layout : Layout) (files : List File) (most : ℕ) (header : List ℕ) (wholes : List Whole) (why : RunStop) (out : Output) → EndsAfterLines layout files most header wholes stop.ReadFailed out
+    → EndsAfterLines layout files most header wholes why out
+read_as layout files most header wholes why out w = record {
+  texts = w.texts;
+  fault = w.fault;
+  come = w.come;
+  lines = w.lines;
+  part = w.part;
+  starts = w.starts;
+  least = w.least;
+  exact = elim w.exact [
+    | inl same ↦ inl same
+    | inr failed ↦ absurd (cc failed)
+  ];
+  wrote = w.wrote;
+  noted = w.noted;
+}
+
+module _ (layout : Layout) (most : ℕ) (known : Option (List ℕ)) (out : Output) (files : List File) where
+  all_read : (n : ℕ) → ConvertsColumn layout most known n out files → EndsInColumn layout most known stop.ReadFailed out files
+  all_read n all = if_some known _ (λ column e. (let (wholes, are, w) = for_some known _ column all e in (wholes, are, all_lines layout files most _ wholes n stop.ReadFailed out w)))
+
+  ends_as_read : {R : Type 0} (reader : Counts R) (failures taken most_bytes : ℕ) (why : RunStop) → IsReadingStop reader failures taken most_bytes why → EndsInColumn layout most known stop.ReadFailed out files
+      → EndsInColumn layout most known why out files
+  ends_as_read reader failures taken most_bytes stop.ReadFailed is ends = ends
+  ends_as_read reader failures taken most_bytes stop.ColumnTooLong is ends =
+      if_some known _ (λ column e. (let (wholes, are, w) = for_some known _ column ends e in (wholes, are, read_as layout files most _ wholes stop.ColumnTooLong out w)))
+  ends_as_read reader failures taken most_bytes stop.Memory is ends =
+      if_some known _ (λ column e. (let (wholes, are, w) = for_some known _ column ends e in (wholes, are, read_as layout files most _ wholes stop.Memory out w)))
+  ends_as_read reader failures taken most_bytes (stop.Row row kind) is ends = absurd is
+  ends_as_read reader failures taken most_bytes (stop.Source fault) is ends = absurd is
+  ends_as_read reader failures taken most_bytes stop.WriteFailed is ends = absurd is
+  ends_as_read reader failures taken most_bytes stop.NoThread is ends = absurd is
+
+-- what holds of an outcome that is there, by zones
+both_ok : (outcome : Result ℕ Halt) (G : Type 0) (M : List File → Type 0) (C : ℕ → List File → Type 0) → IfOk outcome (λ _. G)
+    → ((files : List File) → M files → IfOk outcome (λ n. C n files)) → IfOk outcome (λ n. G × ((files : List File) → M files → C n files))
+both_ok (Ok n) G M C g all = (g, all)
+both_ok (Err why) G M C g all = tt
+
+-- how a conversion by zones ends early
+pub zones_end : {R Z : Type 0} (reader : Counts R) (failures taken most_bytes : ℕ) (grown broken : Z → Z → Type 0) (may_be : Z → List File → Type 0) (old new : Z)
+    (layout : Layout) (most : ℕ) (known : Option (List ℕ)) (out : Output) (outcome : Result ℕ Halt) (result : Result ℕ RunStop) → IsEnd reader failures taken most_bytes outcome result
+    → IfOk outcome (λ _. grown old new)
+    → ((files : List File) → may_be new files → IfOk outcome (λ n. ConvertsColumn layout most known n out files))
+    → IfErr outcome (λ why. EndsByZones grown broken may_be old new (stop_of why) (EndsInColumn layout most known (stop_of why) out))
+    → IfErr result (λ why. EndsByZones grown broken may_be old new why (EndsInColumn layout most known why out))
+zones_end reader failures taken most_bytes grown broken may_be old new layout most known out outcome result is grew all ends =
+    err_end reader failures taken most_bytes outcome result
+    (λ n. grown old new × ((files : List File) → may_be new files → ConvertsColumn layout most known n out files))
+    (λ why. EndsByZones grown broken may_be old new (stop_of why) (EndsInColumn layout most known (stop_of why) out))
+    (λ why. EndsByZones grown broken may_be old new why (EndsInColumn layout most known why out))
+    (λ n done. record { then = new; grown = done.0; ends = inl refl; by = λ files may. all_read layout most known out files n (done.1 files may) })
+    (λ why read ends. ends_map grown broken may_be old new stop.ReadFailed why _ _ (λ e. absurd (cc e)) (λ files part. ends_as_read layout most known out files reader failures taken most_bytes why read part) ends)
+    (λ why ends. ends) is (both_ok outcome (grown old new) (may_be new) (λ n files. ConvertsColumn layout most known n out files) grew all) ends
+
+-- nothing is asked of rows
+all_of : (outcome : Result ℕ Halt) → IfOk outcome (λ n. Unit {0})
+all_of (Ok n) = tt
+all_of (Err why) = tt
+
+-- the cause
+module _ {R W : Type 0} (most : ℕ) (old new : Counts R) (held now : Counts W) where
+  reading_cause : (why : RunStop) → IsReadingStop new old.failures old.taken most why → IsCauseOf most old new held now why
+  reading_cause stop.ReadFailed is = is
+  reading_cause stop.ColumnTooLong is = is
+  reading_cause stop.Memory is = is
+  reading_cause (stop.Row row kind) is = absurd is
+  reading_cause (stop.Source fault) is = absurd is
+  reading_cause stop.WriteFailed is = absurd is
+  reading_cause stop.NoThread is = absurd is
+
+  own_cause : (why : RunStop) → IsOwnCause held now why → IsCauseOf most old new held now why
+  own_cause (stop.Row row kind) is = is
+  own_cause stop.WriteFailed is = is
+  own_cause stop.Memory is = is
+  own_cause stop.ReadFailed is = absurd is
+  own_cause stop.ColumnTooLong is = absurd is
+  own_cause (stop.Source fault) is = absurd is
+  own_cause stop.NoThread is = absurd is
+
+  pub cause_end : (outcome : Result ℕ Halt) (result : Result ℕ RunStop) → IsEnd new old.failures old.taken most outcome result → IfErr outcome (IsCauseOfHalt held now)
+      → IfErr result (IsCauseOf most old new held now)
+  cause_end outcome result is cause =
+      err_end new old.failures old.taken most outcome result (λ n. Unit {0}) (IsCauseOfHalt held now) (IsCauseOf most old new held now) (λ n u. tt) (λ why read u. reading_cause why read) own_cause is
+      (all_of outcome) cause

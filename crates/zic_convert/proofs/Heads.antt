@@ -1,0 +1,159 @@
+-- The header before rows, and the rows of a column after it.
+use Rattle.std.proofs.Common.{◌≡◌, ◌∙◌, ◌++◌, ◌⊎◌, ℕ, true, List, [], Option, Some, drop, map, inl, inr, refl, sym, ap, subst}
+use Rattle.std.proofs.lemmas.List.{append-nil, drop-map}
+use Rattle.std.specs.Io.{StartsWith}
+use Rattle.std.specs.Io.KnownBytes.{Appends}
+use Rattle.std.specs.List.{concat}
+use Rattle.std.specs.Prelude.{IfErr, IfOk, IfSome, Result, Ok, Err, option_map}
+use Rattle.csv.specs.Reading.{strip_bom}
+use Rattle.csv.proofs.WriteFacts.{appends-none}
+use Rattle.zic_columns.specs.Exchange.{exchanged}
+use Rattle.zic_columns.specs.Laws.{RecordsAreExchanged, TextsAreExchanged}
+use Rattle.zic_columns.specs.Own.{Whole, own_texts, whole_records}
+use Rattle.zic_counted.specs.Counts.{Counts}
+use Rattle.zic_counted.specs.Written.{FailsWithin}
+use Rattle.zic_tzif.specs.Laws.{FilesAnswerOnce}
+use Rattle.zic_files.specs.File.{File}
+use Rattle.zic_files.specs.Sound.{AreSoundFiles}
+use Rattle.zic_plan.specs.Delimiter.{is_delimiter}
+use Rattle.zic_plan.specs.Layout.{records_before}
+use Rattle.zic_plan.specs.declared.layout.Layout.{Layout}
+use Rattle.zic_base.specs.declared.row_fault.RowFault.{RowFault}
+use Rattle.zic_base.specs.declared.run_stop.RunStop.{RunStop}
+use Rattle.zic_base.specs.declared.run_stop.RunStop.TheVariants as stop
+use Rattle.zic_convert.specs.Column.{AreRowRecords, header_of, own_header, own_line}
+use Rattle.zic_convert.specs.Run.{EndsAfterLines, EndsIn, Output, WritesRows}
+use Rattle.zic_convert.specs.code.Halt.{IsCauseOfHalt, stop_of}
+use Rattle.zic_convert.specs.code.Progress.{BeginsRows, ConvertsColumn, ConvertsRest, EndsInColumn, EndsInRest, HaltsAtHead, output, own_line_in}
+use Rattle.zic_convert.specs.code.Row.{put_back, wholes_in}
+use Rattle.zic_convert.specs.code.Written.{EndsAtHead, Wrote}
+use Rattle.zic_convert.specs.declared.halt.Halt.{Halt}
+use Rattle.zic_convert.specs.declared.halt.Halt.TheVariants as halt
+use Rattle.zic_convert.proofs.Below.{ends_below, rows_below}
+use Rattle.zic_convert.proofs.Bytes.{fails_later, starts_later, wrote_both}
+use Rattle.zic_convert.proofs.Delimited.{own_line_delimited, row_records}
+use Rattle.zic_convert.proofs.Logs.{notes_none}
+use Rattle.zic_convert.proofs.Options.{for_some, if_some}
+use Rattle.zic_convert.proofs.Sounds.{all_known}
+use Rattle.zic_convert.proofs.Totals.{all_come}
+
+module _ {W : Type 0} (contents : W → Option (List ℕ)) where
+  -- a header was written, and then passed on
+  pub head_passed : (a b c : Counts W) (head : List ℕ) (result : Result (Unit {0}) RunStop) → Wrote contents a b head → IfOk result (λ _. Wrote contents b c []) → IfOk result (λ _. Wrote contents a c head)
+  head_passed a b c head (Ok u) wrote flushed = subst (λ (l : List ℕ). Wrote contents a c l) (append-nil head) (wrote_both contents a b c head [] wrote flushed)
+  head_passed a b c head (Err why) wrote flushed = tt
+
+  -- or it was not
+  pub head_kept : (a b c : Counts W) (head : List ℕ) (result : Result (Unit {0}) RunStop) → Wrote contents a b head → IfErr result (λ why. (why ≡ stop.WriteFailed) × FailsWithin contents b c [])
+      → IfErr result (EndsAtHead contents a c head)
+  head_kept a b c head (Ok u) wrote failed = tt
+  head_kept a b c head (Err why) wrote failed =
+      rw failed.0 (subst (λ (l : List ℕ). FailsWithin contents a c l) (append-nil head) (fails_later contents a b c head [] wrote failed.1))
+
+  module _ (old new : Counts W) (layout : Layout) (known : Option (List ℕ)) where
+    -- a header was not written whole
+    pub halts_before : (own : List ℕ) → IfSome known (λ column. own ≡ own_header layout.header (own_texts (strip_bom column))) → (why : RunStop)
+        → EndsAtHead contents old new (header_of layout.start layout.delimiter (exchanged layout.delimiter own)) why → HaltsAtHead contents old new layout known (halt.Stop why)
+    halts_before own is stop.WriteFailed fails = (
+      fails.failed,
+      if_some known _ (λ column e. subst (λ (l : List ℕ). FailsWithin contents old new (header_of layout.start layout.delimiter (exchanged layout.delimiter l))) (for_some known _ column is e) fails),
+    )
+    halts_before own is stop.Memory same = same
+    halts_before own is (stop.Row row kind) ends = absurd ends
+    halts_before own is (stop.Source fault) ends = absurd ends
+    halts_before own is stop.ReadFailed ends = absurd ends
+    halts_before own is stop.ColumnTooLong ends = absurd ends
+    halts_before own is stop.NoThread ends = absurd ends
+
+    -- the cause
+    pub cause_at_head : (why : Halt) → HaltsAtHead contents old new layout known why → IsCauseOfHalt old new why
+    cause_at_head halt.Unread same = tt
+    cause_at_head (halt.Stop stop.Memory) same = tt
+    cause_at_head (halt.Stop stop.WriteFailed) failed = failed.0
+    cause_at_head (halt.Stop (stop.Row row kind)) ends = absurd ends
+    cause_at_head (halt.Stop (stop.Source fault)) ends = absurd ends
+    cause_at_head (halt.Stop stop.ReadFailed) ends = absurd ends
+    cause_at_head (halt.Stop stop.ColumnTooLong) ends = absurd ends
+    cause_at_head (halt.Stop stop.NoThread) ends = absurd ends
+
+-- not even a header was written whole
+pub no_line : FilesAnswerOnce → (layout : Layout) (files : List File) (most : ℕ) → AreSoundFiles files → (head : List ℕ) (wholes : List Whole) (why : RunStop) (old new : Option (List ℕ)) (log : Option (List RowFault))
+    (part : List ℕ) → StartsWith head part → Appends old new part → ((part ≡ []) ⊎ (why ≡ stop.WriteFailed)) → EndsAfterLines layout files most head wholes why (output old new log log)
+no_line once layout files most sound head wholes why old new log part starts wrote exact =
+    let (texts, fault, come) = all_come layout files most (all_known files sound once) 1 wholes in
+    record {
+      texts = texts;
+      fault = fault;
+      come = come;
+      lines = 0;
+      part = part;
+      starts = starts_later [] head part (concat texts) starts;
+      least = refl;
+      exact = exact;
+      wrote = wrote;
+      noted = notes_none log;
+    }
+
+-- a column was converted in which the delimiter and commas are exchanged
+module _ (layout : Layout) (most : ℕ) (law : RecordsAreExchanged) (own_law : TextsAreExchanged) (can : is_delimiter layout.delimiter ≡ true) (known inside : Option (List ℕ))
+    (is : inside ≡ option_map (exchanged layout.delimiter) known) where
+  within : (column : List ℕ) → known ≡ Some column → inside ≡ Some (exchanged layout.delimiter column)
+  within column e = is ∙ ap (option_map (exchanged layout.delimiter)) e
+
+  row_wholes : List ℕ → List Whole
+  row_wholes column = drop (records_before layout.header) (wholes_in layout.delimiter (strip_bom (exchanged layout.delimiter column)))
+
+  -- the rows of a column did not begin
+  module _ {W : Type 0} (contents : W → Option (List ℕ)) (once : FilesAnswerOnce) (old new : Counts W) (log : Option (List RowFault)) (files : List File) (sound : AreSoundFiles files) where
+    none_written : (why : RunStop) → IfSome known (λ column. (wholes : List Whole) × AreRowRecords layout column wholes
+        × EndsAfterLines layout files most (own_line layout column) wholes why (output (contents old.inner) (contents old.inner) log log))
+    none_written why = if_some known _ (λ column e. (
+      row_wholes column,
+      row_records layout law own_law can column,
+      no_line once layout files most sound (own_line layout column) (row_wholes column) why (contents old.inner) (contents old.inner) log [] refl (appends-none (contents old.inner)) (inl refl),
+    ))
+
+    pub ends_at_head : (why : Halt) → HaltsAtHead contents old new layout inside why → EndsInColumn layout most known (stop_of why) (output (contents old.inner) (contents new.inner) log log) files
+    ends_at_head halt.Unread same = rw same (none_written stop.ReadFailed)
+    ends_at_head (halt.Stop stop.Memory) same = rw same (none_written stop.Memory)
+    ends_at_head (halt.Stop stop.WriteFailed) failed = if_some known _ (λ column e.
+        let fails = for_some inside _ (exchanged layout.delimiter column) failed.1 (within column e) in
+        let same = own_line_delimited layout own_law can column in (
+          row_wholes column,
+          row_records layout law own_law can column,
+          no_line once layout files most sound (own_line layout column) (row_wholes column) stop.WriteFailed (contents old.inner) (contents new.inner) log fails.part
+              (subst (λ (l : List ℕ). StartsWith l fails.part) same fails.starts) fails.wrote (inr refl),
+        ))
+    ends_at_head (halt.Stop (stop.Row row kind)) ends = absurd ends
+    ends_at_head (halt.Stop (stop.Source fault)) ends = absurd ends
+    ends_at_head (halt.Stop stop.ReadFailed) ends = absurd ends
+    ends_at_head (halt.Stop stop.ColumnTooLong) ends = absurd ends
+    ends_at_head (halt.Stop stop.NoThread) ends = absurd ends
+
+  -- the rest of a column was converted, once its header was written
+  module _ (files : List File) (left : Option (List ℕ)) (old mid new : Option (List ℕ)) (log last : Option (List RowFault))
+      (begins : IfSome inside (λ bytes. BeginsRows layout.header bytes left)) (head : IfSome inside (λ bytes. Appends old mid (own_line_in layout bytes))) where
+    begun_as : (P : List Whole → Type 0) (Q : List ℕ → List Whole → Type 0)
+        → ((column : List ℕ) (wholes : List Whole) → Appends old mid (own_line layout column) → P wholes → Q column wholes)
+        → IfSome left (λ bytes. P (wholes_in layout.delimiter bytes)) → IfSome known (λ column. (wholes : List Whole) × AreRowRecords layout column wholes × Q column wholes)
+    begun_as P Q below p = if_some known _ (λ column e.
+        let d = layout.delimiter in
+        let k = records_before layout.header in
+        let text = exchanged d column in
+        let (rest, at, same) = for_some inside _ text begins (within column e) in
+        let all : wholes_in d rest ≡ drop k (wholes_in d (strip_bom text)) = ap (map (put_back d)) same ∙ sym (drop-map (put_back d) k (whole_records (strip_bom text))) in
+        let line = subst (λ (l : List ℕ). Appends old mid l) (own_line_delimited layout own_law can column) (for_some inside _ text head (within column e)) in (
+          drop k (wholes_in d (strip_bom text)),
+          row_records layout law own_law can column,
+          below column (drop k (wholes_in d (strip_bom text))) line (subst P all (for_some left _ rest p at)),
+        ))
+
+    pub converts_column : (n : ℕ) → ConvertsRest layout most left n (output mid new log last) files → ConvertsColumn layout most known n (output old new log last) files
+    converts_column n = begun_as (λ wholes. WritesRows layout files most [] wholes n (output mid new log last))
+        (λ column wholes. WritesRows layout files most (own_line layout column) wholes n (output old new log last))
+        (λ column wholes line w. rows_below layout files most wholes (own_line layout column) old mid new log last line n w)
+
+    pub ends_column : (why : RunStop) → EndsInRest layout most left why (output mid new log last) files → EndsInColumn layout most known why (output old new log last) files
+    ends_column why = begun_as (λ wholes. EndsIn layout files most [] wholes why (output mid new log last))
+        (λ column wholes. EndsIn layout files most (own_line layout column) wholes why (output old new log last))
+        (λ column wholes line w. ends_below layout files most wholes (own_line layout column) old mid new log last line why w)

@@ -1,0 +1,277 @@
+-- The rows of the pieces of a round, put together.
+use Rattle.std.proofs.Common.{◌≡◌, ◌≤◌, ◌<◌, ◌+◌, ◌*◌, ℕ, zero, suc, false, List, [], ◌∷◌, ◌++◌, length, map, take, drop, get_or, true, Option, Some, None, Result, Ok, Err, inl, inr, refl, sym, ap, subst, ◌∙◌, append_assoc, arith}
+use Rattle.std.specs.Prelude.{slice_get, IfErr, IfOk, IfSome, IsSome}
+use Rattle.std.proofs.lemmas.List.{append-nil, length-append, length-map, length-take, take-append-drop}
+use Rattle.std.proofs.lemmas.Option.{same_Some, slice_get-get_or}
+use Rattle.std.proofs.lemmas.Grind.{flat_map-append}
+use mathlib.Core.Option.{some}
+use lib.ListN.{get_elem?}
+use Rattle.zic_columns.specs.Round.{ArePiecesOf, records_of}
+use Rattle.zic_columns.specs.Column.{column_records}
+use Rattle.zic_columns.specs.Own.{Whole, whole_records}
+use Rattle.zic_columns.proofs.Wholes.{wholes_fields}
+use Rattle.zic_pieces.specs.Task.{AreValues}
+use Rattle.zic_files.specs.File.{File}
+use Rattle.zic_convert.specs.code.Row.{AreRowsOf, RowsOf, fields_of_all, put_back, wholes_in, wholes_of_all}
+use Rattle.zic_convert.specs.code.Written.{EndsInPieces, EndsInRound, EndsInRows, WritesRound}
+use Rattle.zic_counted.specs.Counts.{Counts}
+use Rattle.zic_plan.specs.declared.layout.Layout.{Layout}
+use Rattle.zic_base.specs.declared.row_fault.RowFault.{RowFault}
+use Rattle.zic_base.specs.declared.run_stop.RunStop.{RunStop}
+use Rattle.zic_base.specs.declared.run_stop.RunStop.TheVariants as stop
+use Rattle.zic_convert.specs.code.Pieces.{ArePieces, AreRowsOfPiece, IsOutcomeOf, Pieces, joined}
+use Rattle.zic_base.specs.declared.row_fault.RowKind.{RowKind}
+use Rattle.zic_convert.specs.LayoutRows.{ComeToBy, faults_by}
+use Rattle.zic_convert.proofs.Coming.{come_more, faults_more, no_rows, rows_followed}
+use Rattle.zic_convert.proofs.Wholes.{as_many_in, as_many_of_all, comma_fields_in}
+
+module _ (layout : Layout) (files : List File) (most size : ℕ) where
+  -- the rows of pieces, by those of each
+  abbrev AreRowsOfEach : ℕ → List (List ℕ) → List RowsOf → Type 0
+  AreRowsOfEach first pieces values =
+      (i : ℕ) (x : RowsOf) → get_elem? values i ≡ some x → IfSome (slice_get pieces i) (λ piece. AreRowsOf layout files most (first + i * size) (wholes_in layout.delimiter piece) x)
+
+  -- those of the first piece
+  first_rows : (first : ℕ) (piece : List ℕ) (pieces : List (List ℕ)) (x : RowsOf) (values : List RowsOf) → AreRowsOfEach first (piece ∷ pieces) (x ∷ values)
+      → AreRowsOf layout files most first (wholes_in layout.delimiter piece) x
+  first_rows first piece pieces x values each =
+      let at : first + 0 * size ≡ first = omega arith in
+      subst (λ (n : ℕ). AreRowsOf layout files most n (wholes_in layout.delimiter piece) x) at (each 0 x refl)
+
+  -- those of the pieces after it
+  later_rows : (first : ℕ) (piece : List ℕ) (pieces : List (List ℕ)) (x : RowsOf) (values : List RowsOf) → AreRowsOfEach first (piece ∷ pieces) (x ∷ values)
+      → AreRowsOfEach (first + size) pieces values
+  later_rows first piece pieces x values each =
+      λ i y e.
+      let at : first + suc i * size ≡ first + size + i * size = grind arith in
+      subst (λ (n : ℕ). IfSome (slice_get pieces i) (λ piece. AreRowsOf layout files most n (wholes_in layout.delimiter piece) y)) at (each (suc i) y e)
+
+  -- the rows of all, where each piece but the last is full
+  rows_of_all : (first : ℕ) (pieces : List (List ℕ)) (values : List RowsOf) → ArePiecesOf size pieces → length values ≡ length pieces → AreRowsOfEach first pieces values
+      → AreRowsOf layout files most first (wholes_of_all layout.delimiter pieces) (joined values)
+  rows_of_all first [] [] cut long each = no_rows layout files most first
+  rows_of_all first [] (x ∷ values) cut long each = absurd (omega (arith, long))
+  rows_of_all first (p ∷ ps) [] cut long each = absurd (omega (arith, long))
+  rows_of_all first (p ∷ []) (x ∷ y ∷ values) cut long each = absurd (omega (arith, long))
+  rows_of_all first (p ∷ []) (x ∷ []) cut long each =
+      rows_followed layout files most first (wholes_in layout.delimiter p) [] x (joined []) x.fault refl (first_rows first p [] x [] each) (λ none. no_rows layout files most (first + length (wholes_in layout.delimiter p)))
+  rows_of_all first (p ∷ q ∷ ps) (x ∷ values) cut long each =
+      let after = rows_of_all (first + size) (q ∷ ps) values cut.1 (omega (arith, long)) (later_rows first p (q ∷ ps) x values each) in
+      rows_followed layout files most first (wholes_in layout.delimiter p) (wholes_of_all layout.delimiter (q ∷ ps)) x (joined values) x.fault refl (first_rows first p (q ∷ ps) x values each)
+      (λ none. subst (λ (n : ℕ). AreRowsOf layout files most (first + n) (wholes_of_all layout.delimiter (q ∷ ps)) (joined values)) (sym (as_many_in layout.delimiter p ∙ cut.0)) after)
+
+  -- the rows of the first pieces
+  rows_of_front : (i first : ℕ) (pieces : List (List ℕ)) (values : List RowsOf) → ArePiecesOf size pieces → length values ≡ length pieces → AreRowsOfEach first pieces values
+      → AreRowsOf layout files most first (wholes_of_all layout.delimiter (take i pieces)) (joined (take i values))
+  rows_of_front zero first pieces values cut long each = no_rows layout files most first
+  rows_of_front (suc i) first [] [] cut long each = no_rows layout files most first
+  rows_of_front (suc i) first [] (x ∷ values) cut long each = absurd (omega (arith, long))
+  rows_of_front (suc i) first (p ∷ ps) [] cut long each = absurd (omega (arith, long))
+  rows_of_front (suc i) first (p ∷ []) (x ∷ y ∷ values) cut long each = absurd (omega (arith, long))
+  rows_of_front (suc zero) first (p ∷ []) (x ∷ []) cut long each =
+      rows_followed layout files most first (wholes_in layout.delimiter p) [] x (joined []) x.fault refl (first_rows first p [] x [] each) (λ none. no_rows layout files most (first + length (wholes_in layout.delimiter p)))
+  rows_of_front (suc (suc i)) first (p ∷ []) (x ∷ []) cut long each =
+      rows_followed layout files most first (wholes_in layout.delimiter p) [] x (joined []) x.fault refl (first_rows first p [] x [] each) (λ none. no_rows layout files most (first + length (wholes_in layout.delimiter p)))
+  rows_of_front (suc i) first (p ∷ q ∷ ps) (x ∷ values) cut long each =
+      let after = rows_of_front i (first + size) (q ∷ ps) values cut.1 (omega (arith, long)) (later_rows first p (q ∷ ps) x values each) in
+      rows_followed layout files most first (wholes_in layout.delimiter p) (wholes_of_all layout.delimiter (take i (q ∷ ps))) x (joined (take i values)) x.fault refl (first_rows first p (q ∷ ps) x values each)
+      (λ none. subst (λ (n : ℕ). AreRowsOf layout files most (first + n) (wholes_of_all layout.delimiter (take i (q ∷ ps))) (joined (take i values))) (sym (as_many_in layout.delimiter p ∙ cut.0)) after)
+
+-- the rows of all pieces of a round
+pub joined_round : (p : Pieces) (values : List RowsOf) → ArePieces p → AreValues (IsOutcomeOf p) (length p.pieces) values
+    → AreRowsOf p.layout p.files p.most p.first (wholes_of_all p.layout.delimiter p.pieces) (joined values)
+joined_round p values sound are = rows_of_all p.layout p.files p.most p.size p.first p.pieces values sound.cut are.0 (λ i rows at. (are.1 i rows at).0)
+
+-- the records of the first pieces, and of the others
+wholes_split : (d i : ℕ) (pieces : List (List ℕ)) → wholes_of_all d pieces ≡ wholes_of_all d (take i pieces) ++ wholes_of_all d (drop i pieces)
+wholes_split d i pieces = ap (wholes_of_all d) (sym (take-append-drop i pieces)) ∙ flat_map-append (wholes_in d) (take i pieces) (drop i pieces)
+
+-- where pieces end, their rows do
+pub pieces_end : {W : Type 0} (contents : W → Option (List ℕ)) (old new : Counts W) (log log' : Option (List RowFault)) (p : Pieces) (values : List RowsOf) → ArePieces p
+    → AreValues (IsOutcomeOf p) (length p.pieces) values → (why : RunStop) → EndsInPieces contents old new log log' p.first values why
+    → EndsInRows contents old new log log' p.layout p.files p.most p.first (wholes_of_all p.layout.delimiter p.pieces) (joined values) why
+pieces_end contents old new log log' p values sound are (stop.Row row kind) h = h
+pieces_end contents old new log log' p values sound are stop.WriteFailed (i, fails, noted) = record {
+  done = wholes_of_all p.layout.delimiter (take i p.pieces);
+  more = wholes_of_all p.layout.delimiter (drop i p.pieces);
+  parts = wholes_split p.layout.delimiter i p.pieces;
+  front = joined (take i values);
+  are = rows_of_front p.layout p.files p.most p.size i p.first p.pieces values sound.cut are.0 (λ k rows at. (are.1 k rows at).0);
+  fails = fails;
+  noted = noted;
+}
+pieces_end contents old new log log' p values sound are (stop.Source fault) h = absurd h
+pieces_end contents old new log log' p values sound are stop.ReadFailed h = absurd h
+pieces_end contents old new log log' p values sound are stop.ColumnTooLong h = absurd h
+pieces_end contents old new log log' p values sound are stop.Memory h = absurd h
+pieces_end contents old new log log' p values sound are stop.NoThread h = absurd h
+
+-- so a round has no more than so many full pieces
+round_few : (size : ℕ) (pieces : List (List ℕ)) → ArePiecesOf size pieces → length (records_of pieces) ≤ length pieces * size
+round_few size [] cut = omega arith
+round_few size (p ∷ []) cut = omega (arith, length-append (column_records p) [], cut.1)
+round_few size (p ∷ q ∷ ps) cut =
+    let after = round_few size (q ∷ ps) cut.1 in
+    let both = length-append (column_records p) (records_of (q ∷ ps)) in
+    let times : (1 + length (q ∷ ps)) * size ≡ size + length (q ∷ ps) * size = grind arith in
+    omega (arith, both, cut.0, after, times)
+
+-- and some record, where it has a piece
+some_of_records : (size : ℕ) (pieces : List (List ℕ)) → 0 < length pieces → 0 < size → ArePiecesOf size pieces → 0 < length (records_of pieces)
+some_of_records size [] has positive cut = absurd (omega (arith, has))
+some_of_records size (p ∷ []) has positive cut = omega (arith, length-append (column_records p) [], cut.0)
+some_of_records size (p ∷ q ∷ ps) has positive cut = omega (arith, length-append (column_records p) (records_of (q ∷ ps)), positive, cut.0)
+
+pub some_records : (d size : ℕ) (pieces : List (List ℕ)) → 0 < length pieces → 0 < size → ArePiecesOf size pieces → 0 < length (wholes_of_all d pieces)
+some_records d size pieces has positive cut = omega (arith, as_many_of_all d pieces, some_of_records size pieces has positive cut)
+
+-- and few enough for their numbers
+product : (a b : ℕ) → a ≤ 4294967296 → b ≤ 65536 → a * b ≤ 281474976710656
+product a b h k = grind (arith, h, k)
+
+pub few_records : (p : Pieces) → ArePieces p → length (wholes_of_all p.layout.delimiter p.pieces) ≤ 281474976710656
+few_records p sound = omega (arith, as_many_of_all p.layout.delimiter p.pieces, round_few p.size p.pieces sound.cut, product (length p.pieces) p.size sound.few sound.small)
+
+pub small_number : (p : Pieces) (i : ℕ) → ArePieces p → i < length p.pieces → p.first + i * p.size ≤ 281475076710657
+small_number p i sound lt = omega (arith, product i p.size (omega (arith, lt, sound.few)) sound.small, sound.first)
+
+-- ---- the pieces up to one
+
+-- the first pieces of a round are pieces
+front_cut : (size n : ℕ) (pieces : List (List ℕ)) → 1 ≤ size → ArePiecesOf size pieces → ArePiecesOf size (take n pieces)
+front_cut size zero pieces least cut = tt
+front_cut size (suc n) [] least cut = tt
+front_cut size (suc zero) (p ∷ []) least cut = cut
+front_cut size (suc (suc n)) (p ∷ []) least cut = cut
+front_cut size (suc zero) (p ∷ q ∷ ps) least cut = (omega (arith, cut.0, least), omega (arith, cut.0))
+front_cut size (suc (suc n)) (p ∷ q ∷ ps) least cut = (cut.0, front_cut size (suc n) (q ∷ ps) least cut.1)
+
+pub front_sound : (p : Pieces) (i : ℕ) → ArePieces p → ArePieces (record p { pieces = take (i + 1) p.pieces; stops = false })
+front_sound p i sound = record {
+  some = sound.some;
+  small = sound.small;
+  cut = front_cut p.size (i + 1) p.pieces sound.some sound.cut;
+  few = omega (arith, length-take (i + 1) p.pieces, sound.few);
+  first = sound.first;
+}
+
+-- the records up to a piece, and its own
+front_records : (d size : ℕ) (pieces : List (List ℕ)) (i : ℕ) (piece : List ℕ) → ArePiecesOf size pieces → slice_get pieces i ≡ Some piece
+    → (before : List Whole) × (length before ≡ i * size) × (wholes_of_all d (take (suc i) pieces) ≡ before ++ wholes_in d piece)
+front_records d size [] i piece cut e = absurd cc
+front_records d size (p ∷ ps) zero piece cut e = ([], omega arith, append-nil (wholes_in d p) ∙ ap (wholes_in d) (same_Some p piece e))
+front_records d size (p ∷ []) (suc i) piece cut e = absurd cc
+front_records d size (p ∷ q ∷ ps) (suc i) piece cut e =
+    let later = front_records d size (q ∷ ps) i piece cut.1 e in (
+      wholes_in d p ++ later.0,
+      (let times : suc i * size ≡ size + i * size = grind arith in omega (arith, length-append (wholes_in d p) later.0, as_many_in d p, cut.0, later.1, times)),
+      ap (λ (r : List Whole). wholes_in d p ++ r) later.2 ∙ sym (append_assoc (wholes_in d p) later.0 (wholes_in d piece)),
+    )
+
+module _ (layout : Layout) (files : List File) (most : ℕ) where
+  -- records don't come to rows with a fault and without
+  one_way : (number : ℕ) (xs : List Whole) (t u : List (List ℕ)) (fault : Option RowKind) → ComeToBy layout files most number xs t None → ComeToBy layout files most number xs u fault → IsSome fault → ⊥
+  one_way number [] t u None first second has = cc has
+  one_way number [] t u (Some kind) first second has = cc second.1
+  one_way number (x ∷ xs) [] u fault first second has = cc first.1
+  one_way number (x ∷ xs) (t ∷ ts) [] None first second has = cc has
+  one_way number (x ∷ xs) (t ∷ ts) [] (Some kind) first second has = cc (second.0 ∙ first.0)
+  one_way number (x ∷ xs) (t ∷ ts) (u ∷ us) fault first second has = one_way (number + 1) xs ts us fault first.2 second.2 has
+
+  -- nor do some that come after others
+  clash : (number : ℕ) (xs ys : List Whole) (t u : List (List ℕ)) (fault : Option RowKind) → ComeToBy layout files most number (xs ++ ys) t None
+      → ComeToBy layout files most (number + length xs) ys u fault → IsSome fault → ⊥
+  clash number [] ys t u fault first second has =
+      let at : number + 0 ≡ number = omega arith in
+      one_way number ys t u fault first (subst (λ (n : ℕ). ComeToBy layout files most n ys u fault) at second) has
+  clash number (x ∷ xs) ys [] u fault first second has = cc first.1
+  clash number (x ∷ xs) ys (t ∷ ts) u fault first second has =
+      let at : number + suc (length xs) ≡ number + 1 + length xs = omega arith in
+      clash (number + 1) xs ys ts u fault first.2 (subst (λ (n : ℕ). ComeToBy layout files most n ys u fault) at second) has
+
+-- the rows up to a piece that has a fault have one
+pub front_faults : (p : Pieces) (i : ℕ) (rows found : RowsOf) → ArePieces p → i < length p.pieces → AreRowsOf p.layout p.files p.most p.first (wholes_of_all p.layout.delimiter (take (i + 1) p.pieces)) rows
+    → AreRowsOfPiece p i found → IsSome found.fault → rows.fault ≡ None → ⊥
+front_faults p i rows found sound lt are of_piece has none =
+    let piece = get_or p.pieces i [] in
+    let e : slice_get p.pieces i ≡ Some piece = slice_get-get_or p.pieces i [] lt in
+    let d = p.layout.delimiter in
+    let parts = front_records d p.size p.pieces i piece sound.cut e in
+    let here = rw e at of_piece in
+    let at : i + 1 ≡ suc i = omega arith in
+    let all : wholes_of_all d (take (i + 1) p.pieces) ≡ parts.0 ++ wholes_in d piece = ap (λ (n : ℕ). wholes_of_all d (take n p.pieces)) at ∙ parts.2 in
+    let come = rw (none, all) at are.come in
+    clash p.layout p.files p.most p.first parts.0 (wholes_in d piece) are.texts here.texts found.fault come
+    (subst (λ (n : ℕ). ComeToBy p.layout p.files p.most (p.first + n) (wholes_in d piece) here.texts found.fault) (sym parts.1) here.come) has
+
+-- rows up to a fault are those of all
+pub front_of_all : (p : Pieces) (i : ℕ) (rows : RowsOf) (kind : RowKind) → AreRowsOf p.layout p.files p.most p.first (wholes_of_all p.layout.delimiter (take (i + 1) p.pieces)) rows → rows.fault ≡ Some kind
+    → AreRowsOf p.layout p.files p.most p.first (wholes_of_all p.layout.delimiter p.pieces) rows
+front_of_all p i rows kind are has =
+    let d = p.layout.delimiter in
+    let all : wholes_of_all d p.pieces ≡ wholes_of_all d (take (i + 1) p.pieces) ++ wholes_of_all d (drop (i + 1) p.pieces) =
+    ap (wholes_of_all d) (sym (take-append-drop (i + 1) p.pieces)) ∙ flat_map-append (wholes_in d) (take (i + 1) p.pieces) (drop (i + 1) p.pieces) in
+    let front = wholes_of_all d (take (i + 1) p.pieces) in
+    let behind = wholes_of_all d (drop (i + 1) p.pieces) in
+    let come = rw has at are.come in
+    record {
+      texts = are.texts;
+      come = rw (all, has) (come_more p.layout p.files p.most p.first front behind are.texts kind come);
+      text = are.text;
+      count = are.count;
+      faults = are.faults ∙ sym (faults_more p.layout p.files p.most p.first front behind are.texts kind come) ∙ ap (faults_by p.layout p.files p.most p.first) (sym all);
+    }
+
+-- ---- a round that is converted again up to a fault
+
+module _ (p : Pieces) (i : ℕ) (found : RowsOf) (sound : ArePieces p) (lt : i < length p.pieces) (of_piece : AreRowsOfPiece p i found) (has : IsSome found.fault) where
+  module _ {W : Type 0} (contents : W → Option (List ℕ)) (old new : Counts W) (log log' : Option (List RowFault)) where
+    -- its rows are not all without a fault
+    pub again_ok : (count : ℕ) → WritesRound (record p { pieces = take (i + 1) p.pieces; stops = false }) contents old new log log' count → ⊥
+    again_ok count wrote = front_faults p i wrote.0 found sound lt wrote.1 of_piece has wrote.2.0
+
+    by_fault : (rows : RowsOf) (fault : Option RowKind) → rows.fault ≡ fault → AreRowsOf p.layout p.files p.most p.first (wholes_of_all p.layout.delimiter (take (i + 1) p.pieces)) rows
+        → AreRowsOf p.layout p.files p.most p.first (wholes_of_all p.layout.delimiter p.pieces) rows
+    by_fault rows None e are = absurd (front_faults p i rows found sound lt are of_piece has e)
+    by_fault rows (Some kind) e are = front_of_all p i rows kind are e
+
+    rows_again : (rows : RowsOf) (why : RunStop)
+        → EndsInRows contents old new log log' p.layout p.files p.most p.first (wholes_of_all p.layout.delimiter (take (i + 1) p.pieces)) rows why
+        → EndsInRows contents old new log log' p.layout p.files p.most p.first (wholes_of_all p.layout.delimiter p.pieces) rows why
+    rows_again rows (stop.Row row kind) h = h
+    rows_again rows stop.WriteFailed h =
+        let d = p.layout.delimiter in
+        let rest = wholes_of_all d (drop (i + 1) p.pieces) in
+        record {
+          done = h.done;
+          more = h.more ++ rest;
+          parts = wholes_split d (i + 1) p.pieces ∙ ap (λ (l : List Whole). l ++ rest) h.parts ∙ append_assoc h.done h.more rest;
+          front = h.front;
+          are = h.are;
+          fails = h.fails;
+          noted = h.noted;
+        }
+    rows_again rows (stop.Source fault) h = absurd h
+    rows_again rows stop.ReadFailed h = absurd h
+    rows_again rows stop.ColumnTooLong h = absurd h
+    rows_again rows stop.Memory h = absurd h
+    rows_again rows stop.NoThread h = absurd h
+
+    -- it ends as the whole does
+    pub again_err : (why : RunStop) → EndsInRound (record p { pieces = take (i + 1) p.pieces; stops = false }) contents old new log log' why → EndsInRound p contents old new log log' why
+    again_err why (inl memory) = inl memory
+    again_err why (inr ends) = inr (ends.0, by_fault ends.0 ends.0.fault refl ends.1, rows_again ends.0 why ends.2)
+
+-- what holds of a value where more does
+pub on_ok : {X E : Type 0} (r : Result X E) (P Q : X → Type 0) → ((x : X) → P x → Q x) → IfOk r P → IfOk r Q
+on_ok (Ok x) P Q f is = f x is
+on_ok (Err e) P Q f is = tt
+
+pub on_err : {X E : Type 0} (r : Result X E) (P Q : E → Type 0) → ((e : E) → P e → Q e) → IfErr r P → IfErr r Q
+on_err (Ok x) P Q f is = tt
+on_err (Err e) P Q f is = f e is
+
+-- the rows of a piece's bytes are those of the piece
+pub rows_of_bytes : (p : Pieces) (i : ℕ) (piece : List ℕ) (rows : RowsOf) → slice_get p.pieces i ≡ Some piece
+    → AreRowsOf p.layout p.files p.most (p.first + i * p.size) (wholes_in p.layout.delimiter piece) rows → AreRowsOfPiece p i rows
+rows_of_bytes p i piece rows at are = rw at are

@@ -1,0 +1,104 @@
+-- That a column converts to one list of texts, and one fault or none.
+use Rattle.std.proofs.Common.{◌≡◌, ◌≢◌, ◌+◌, ℕ, ℤ, List, [], ◌∷◌, ◌++◌, drop, Option, Some, None, refl, sym, ap, ap₂, subst, ◌∙◌}
+use Rattle.std.specs.Prelude.{Contains, IsSome}
+use Rattle.std.proofs.lemmas.List.Elements.{All-contains}
+use Rattle.std.proofs.lemmas.Option.{same_Some}
+use Rattle.csv.specs.Reading.{strip_bom}
+use Rattle.zic_columns.specs.Exchange.{exchanged}
+use Rattle.zic_columns.specs.Own.{Whole, beside, delimited_texts}
+use Rattle.zic_columns.specs.Laws.{DelimitedRecordsAreOne, RecordsAreOne}
+use Rattle.zic_tzif.specs.Answer.{Answers}
+use Rattle.zic_tzif.specs.Laws.{FilesAnswerOnce}
+use Rattle.zic_rows.specs.Count.{counted_rest_text, second_of}
+use Rattle.zic_rows.specs.Row.{row_text}
+use Rattle.zic_base.proofs.Elements.{get_contained}
+use Rattle.zic_base.proofs.OrderedLists.{one_by_key}
+use Rattle.zic_files.specs.File.{File}
+use Rattle.zic_files.specs.Sound.{AreSoundFiles, IsSoundFile}
+use Rattle.zic_plan.specs.Layout.{records_before}
+use Rattle.zic_plan.specs.declared.layout.Layout.{Layout}
+use Rattle.zic_base.specs.declared.row_fault.RowKind.{RowKind}
+use Rattle.zic_convert.specs.Laws.{ColumnsConvertOnce}
+use Rattle.zic_convert.specs.LayoutRows.{ComeToBy, IsRowAt, IsTextBy, ends_by, fault_by, start_text}
+use Rattle.zic_convert.specs.Rows.{ComeTo, IsTextOf, fault_of}
+
+module _ (answers : FilesAnswerOnce) (files : List File) (sound : AreSoundFiles files) where
+  -- a name is one file's
+  one_file : (a b : File) → Contains files a → Contains files b → a.name ≡ b.name → a ≡ b
+  one_file a b has_a has_b same =
+      let at_a = get_contained files a has_a in
+      let at_b = get_contained files b has_b in
+      let number = one_by_key (λ (f : File). f.name) (λ (m n : List ℕ). m ≢ n) (λ k differ. differ refl) files sound.names_differ has_a.0 has_b.0 a b at_a at_b same in
+      same_Some a b (sym at_a ∙ rw number at_b)
+
+  -- a record has one text
+  one_text : (fields : List (List ℕ)) (t u : List ℕ) → IsTextOf files fields t → IsTextOf files fields u → t ≡ u
+  one_text fields t u a b =
+      let file = one_file a.file b.file a.among b.among (a.named ∙ sym b.named) in
+      let instant = same_Some a.instant b.instant (sym a.says ∙ b.says) in
+      let is = All-contains IsSoundFile files a.file sound.each a.among in
+      let there = subst (λ (f : File). Answers f.image.content b.instant (Some b.state)) (sym file) b.answers in
+      let other = subst (λ (at : ℤ). Answers a.file.image.content at (Some b.state)) (sym instant) there in
+      let state = same_Some a.state b.state (answers.only a.file.image.octets a.file.image.content is.read a.instant (Some a.state) (Some b.state) a.answers other) in
+      let same : row_text a.file.name a.instant a.state ≡ row_text b.file.name b.instant b.state = rw (file, instant, state) refl in
+      a.is ∙ same ∙ sym b.is
+
+  -- also by a layout
+  one_text_by : (layout : Layout) (whole : Whole) (t u : List ℕ) → IsTextBy layout files whole t → IsTextBy layout files whole u → t ≡ u
+  one_text_by layout whole t u a b =
+      let file = one_file a.file b.file a.among b.among (a.named ∙ sym b.named) in
+      let count = same_Some a.count b.count (sym a.says ∙ b.says) in
+      let is = All-contains IsSoundFile files a.file sound.each a.among in
+      let there = subst (λ (f : File). Answers f.image.content (second_of layout.unit b.count) (Some b.state)) (sym file) b.answers in
+      let other = subst (λ (n : ℤ). Answers a.file.image.content (second_of layout.unit n) (Some b.state)) (sym count) there in
+      let state = same_Some a.state b.state (answers.only a.file.image.octets a.file.image.content is.read (second_of layout.unit a.count) (Some a.state) (Some b.state) a.answers other) in
+      let start : start_text layout whole.own a.file.name a.count ≡ start_text layout whole.own b.file.name b.count = rw (file, count) refl in
+      let rest : counted_rest_text layout.unit a.count a.state ≡ counted_rest_text layout.unit b.count b.state = rw (count, state) refl in
+      a.is ∙ ap₂ (λ (x y : List ℕ). x ++ exchanged layout.delimiter y) start rest ∙ sym b.is
+
+  -- and so has a row, with this fault or none
+  one_row : (layout : Layout) (fault : Option RowKind) (whole : Whole) (t u : List ℕ) → IsRowAt layout files fault whole t → IsRowAt layout files fault whole u → t ≡ u
+  one_row layout None whole t u a b = one_text_by layout whole t u a b
+  one_row layout (Some kind) whole t u a b = a ∙ sym b
+
+  module _ (most : ℕ) where
+    -- no fault is none that a row has
+    faultless : (fault found : Option RowKind) → fault ≡ found → IsSome fault → found ≡ None → ⊥
+    faultless fault found is has none = (let bad = rw (is, none) at has in cc bad)
+
+    -- records come to one list of texts, and one fault or none
+    pub once : (number : ℕ) (records : List (List (List ℕ))) (a b : List (List ℕ)) (fault other : Option RowKind)
+        → ComeTo files most number records a fault → ComeTo files most number records b other → (a ≡ b) × (fault ≡ other)
+    once number [] a b fault other come then = (come.0 ∙ sym then.0, come.1 ∙ sym then.1)
+    once number (x ∷ xs) [] [] fault other come then = (refl, come.0 ∙ sym then.0)
+    once number (x ∷ xs) [] (u ∷ us) fault other come then = absurd (faultless fault (fault_of files most number x) come.0 come.1 then.0)
+    once number (x ∷ xs) (t ∷ ts) [] fault other come then = absurd (faultless other (fault_of files most number x) then.0 then.1 come.0)
+    once number (x ∷ xs) (t ∷ ts) (u ∷ us) fault other come then =
+        let first = one_text x t u come.1 then.1 in
+        let rest = once (number + 1) xs ts us fault other come.2 then.2 in
+        (ap (λ (l : List ℕ). l ∷ ts) first ∙ ap (λ (l : List (List ℕ)). u ∷ l) rest.0, rest.1)
+
+    -- also by a layout
+    pub once_by : (layout : Layout) (number : ℕ) (wholes : List Whole) (a b : List (List ℕ)) (fault other : Option RowKind)
+        → ComeToBy layout files most number wholes a fault → ComeToBy layout files most number wholes b other → (a ≡ b) × (fault ≡ other)
+    once_by layout number [] a b fault other come then = (come.0 ∙ sym then.0, come.1 ∙ sym then.1)
+    once_by layout number (x ∷ xs) [] [] fault other come then = (refl, come.0 ∙ sym then.0)
+    once_by layout number (x ∷ xs) [] (u ∷ us) fault other come then = absurd (faultless fault (ends_by layout files most number x.fields) come.0 come.1 then.0)
+    once_by layout number (x ∷ xs) (t ∷ ts) [] fault other come then = absurd (faultless other (ends_by layout files most number x.fields) then.0 then.1 come.0)
+    once_by layout number (x ∷ xs) (t ∷ ts) (u ∷ us) fault other come then =
+        let first = one_row layout (fault_by layout files most number x.fields) x t u come.1 then.1 in
+        let rest = once_by layout (number + 1) xs ts us fault other come.2 then.2 in
+        (ap (λ (l : List ℕ). l ∷ ts) first ∙ ap (λ (l : List (List ℕ)). u ∷ l) rest.0, rest.1)
+
+-- and so does a column
+pub columns_once : RecordsAreOne → DelimitedRecordsAreOne → FilesAnswerOnce → ColumnsConvertOnce
+columns_once one delimited answers = record {
+  all = λ files most column a b fault other sound come then.
+      (let same = one _ come.records then.records come.are then.are in
+      once answers files sound most 1 come.records a b fault other come.rows (rw same then.rows));
+  by = λ files layout most column a b fault other sound come then.
+      (let same = delimited layout.delimiter _ come.are.records then.are.records come.are.are then.are.are in
+      let wholes : come.wholes ≡ then.wholes = come.are.is
+      ∙ ap (λ (records : List (List (List ℕ))). drop (records_before layout.header) (beside (delimited_texts layout.delimiter (strip_bom column)) records)) same ∙ sym then.are.is in
+      once_by answers files sound most layout 1 come.wholes a b fault other come.rows (rw wholes then.rows));
+}

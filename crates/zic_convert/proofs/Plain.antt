@@ -1,0 +1,127 @@
+-- Records of two plain fields, by a layout.
+use Rattle.std.proofs.Common.{◌≡◌, ◌+◌, ◌==◌, ℕ, ℤ, Bool, true, false, List, [], ◌∷◌, ◌++◌, length, Option, Some, None, append_assoc, refl, sym, ap, subst, ◌∙◌, arith}
+use Rattle.std.specs.Prelude.{is_some, option_map}
+use Rattle.std.specs.Fmt.{signed_decimal}
+use Rattle.std.proofs.lemmas.Bool.{eqb-true, ne_eqb}
+use Rattle.std.proofs.lemmas.List.{map-append}
+use Rattle.csv.specs.Reading.{default_config, strip_bom}
+use Rattle.zic_base.specs.Check.{check, first_failed}
+use Rattle.zic_base.specs.State.{Shown}
+use Rattle.zic_base.specs.declared.row_fault.RowKind.{RowKind}
+use Rattle.zic_columns.proofs.Exchanges.{comma_exchanged}
+use Rattle.zic_columns.proofs.Wholes.{wholes_fields}
+use Rattle.zic_columns.specs.Column.{column_records}
+use Rattle.zic_columns.specs.Exchange.{config_of, exchange, exchanged}
+use Rattle.zic_columns.specs.Laws.{ColumnRecordsAreRead, DelimitedRecordsAreOne}
+use Rattle.zic_columns.specs.Own.{Whole, whole_records}
+use Rattle.zic_files.specs.File.{File}
+use Rattle.zic_plan.specs.Layout.{HasPlainRows}
+use Rattle.zic_plan.specs.declared.layout.Layout.{Layout}
+use Rattle.zic_plan.specs.declared.layout.RowStart.TheVariants as starts
+use Rattle.zic_plan.specs.declared.layout.Unit.{Unit}
+use Rattle.zic_plan.specs.declared.layout.Unit.TheVariants as unit
+use Rattle.zic_rows.proofs.Counts.{count_seconds, counted_seconds, second_one}
+use Rattle.zic_rows.specs.Count.{counted_rest_text, counted_row_text, second_of}
+use Rattle.zic_rows.specs.Instant.{instant_of}
+use Rattle.zic_rows.specs.Row.{row_text}
+use Rattle.zic_zones.specs.Zones.{is_named}
+use Rattle.zic_convert.specs.Laws.{PlainColumnsConvertAlike}
+use Rattle.zic_convert.specs.Rows.{ComeTo, IsTextOf, fault_of, instant_in, is_row_instant, name_in}
+use Rattle.zic_convert.specs.LayoutRows.{ComeToBy, IsRowAt, IsTextBy, ends_by, fault_by, start_text}
+use Rattle.zic_convert.specs.code.Row.{comma_start, fields_of_all}
+
+same_seconds : (o : Option ℤ) → option_map (second_of unit.Second) o ≡ o
+same_seconds None = refl
+same_seconds (Some t) = ap (λ (x : ℤ). Some x) (second_one t)
+
+-- checks that all pass
+second_passes : (a b c d e : Bool) (k l m n o : RowKind) → first_failed (check a k ∷ check b l ∷ check c m ∷ check d n ∷ check e o ∷ []) ≡ None → b ≡ true
+second_passes false b c d e k l m n o h = absurd (cc h)
+second_passes true false c d e k l m n o h = absurd (cc h)
+second_passes true true c d e k l m n o h = refl
+
+two_fields : (fields : List (List ℕ)) → length fields ≡ 2 → (name : List ℕ) × (field : List ℕ) × (fields ≡ name ∷ field ∷ [])
+two_fields [] e = absurd (omega (arith, e))
+two_fields (a ∷ []) e = absurd (omega (arith, e))
+two_fields (a ∷ b ∷ []) e = (a, b, refl)
+two_fields (a ∷ b ∷ c ∷ rest) e = absurd (omega (arith, e))
+
+-- the text of a row, in the two parts in which it is written
+pub row_in_parts : (u : Unit) (name : List ℕ) (count : ℤ) (state : Shown) → comma_start starts.Fields [] name count ++ counted_rest_text u count state ≡ counted_row_text u name count state
+unfolding counted_row_text
+row_in_parts u name count state = append_assoc name (44 ∷ signed_decimal count) (counted_rest_text u count state)
+
+module _ (layout : Layout) (plain : HasPlainRows layout) (files : List File) where
+  -- the text of a row that begins with a name and an instant, with commas
+  plain_row_text : (own name : List ℕ) (count : ℤ) (state : Shown)
+      → start_text layout own name count ++ exchanged layout.delimiter (counted_rest_text layout.unit count state) ≡ row_text name count state
+  plain_row_text own name count state =
+      rw (plain.start, plain.delimiter, plain.unit)
+      (sym (map-append (exchange 44) (name ++ 44 ∷ signed_decimal count) (counted_rest_text unit.Second count state))
+      ∙ ap (exchanged 44) (row_in_parts unit.Second name count state)
+      ∙ comma_exchanged (counted_row_text unit.Second name count state) ∙ counted_seconds name count state)
+
+  module _ (most : ℕ) where
+    -- so does one of other than two fields
+    other_fault : (number : ℕ) (fields : List (List ℕ)) → (length fields == 2) ≡ false → fault_by layout files most number fields ≡ fault_of files most number fields
+    other_fault number fields other = rw (plain.count, other) refl
+
+    -- a record has the fault that it has in a plain column
+    pub plain_fault : (number : ℕ) (fields : List (List ℕ)) → fault_by layout files most number fields ≡ fault_of files most number fields
+    plain_fault number [] = other_fault number [] (ne_eqb (length {A = List ℕ} []) 2 (λ e. omega (arith, e)))
+    plain_fault number (a ∷ []) = other_fault number (a ∷ []) (ne_eqb (length (a ∷ [])) 2 (λ e. omega (arith, e)))
+    plain_fault number (a ∷ b ∷ []) = rw (plain.count, plain.zone, plain.time, plain.unit, count_seconds b, same_seconds (instant_of b)) refl
+    plain_fault number (a ∷ b ∷ c ∷ rest) = other_fault number (a ∷ b ∷ c ∷ rest) (ne_eqb (length (a ∷ b ∷ c ∷ rest)) 2 (λ e. omega (arith, e)))
+
+    -- which ends the run
+    pub plain_ends : (number : ℕ) (fields : List (List ℕ)) → ends_by layout files most number fields ≡ fault_of files most number fields
+    plain_ends number fields = rw plain.at_fault (plain_fault number fields)
+
+  -- a record of two fields has the text that it has without a layout
+  text_plainly : (whole : Whole) (name field text : List ℕ) → whole.fields ≡ name ∷ field ∷ [] → IsTextBy layout files whole text → IsTextOf files whole.fields text
+  text_plainly whole name field text two is =
+      let says = rw (plain.time, plain.unit, two, count_seconds field) at is.says in
+      record {
+        file = is.file;
+        among = is.among;
+        named = rw two (rw (plain.zone, two) at is.named);
+        instant = is.count;
+        says = rw two says;
+        state = is.state;
+        answers = rw (plain.unit, second_one is.count) at is.answers;
+        is = is.is ∙ plain_row_text whole.own is.file.name is.count is.state;
+      }
+
+  -- a record without a fault has two fields
+  two_of : (most number : ℕ) (fields : List (List ℕ)) → fault_of files most number fields ≡ None → (name : List ℕ) × (field : List ℕ) × (fields ≡ name ∷ field ∷ [])
+  two_of most number fields none =
+      let two = second_passes _ (length fields == 2) (is_named files (name_in fields)) (is_some (instant_in fields)) (is_row_instant (instant_in fields)) _ _ _ _ _ none in
+      two_fields fields (eqb-true (length fields) 2 two)
+
+  -- plain columns come to the same
+  pub come_plainly : (most number : ℕ) (wholes : List Whole) (texts : List (List ℕ)) (fault : Option RowKind)
+      → ComeToBy layout files most number wholes texts fault → ComeTo files most number (fields_of_all wholes) texts fault
+  come_plainly most number [] texts fault come = come
+  come_plainly most number (whole ∷ wholes) [] fault come = (come.0 ∙ plain_ends most number whole.fields, come.1)
+  come_plainly most number (whole ∷ wholes) (text ∷ texts) fault come =
+      let sound = sym (plain_ends most number whole.fields) ∙ come.0 in
+      let two = two_of most number whole.fields sound in
+      let row = subst (λ (o : Option RowKind). IsRowAt layout files o whole text) (plain_fault most number whole.fields ∙ sound) come.1 in
+      (sound, text_plainly whole two.0 two.1 text two.2 row, come_plainly most (number + 1) wholes texts fault come.2)
+
+-- a comma is what stands between fields by default
+comma_config : config_of 44 ≡ default_config
+comma_config = refl
+
+-- A column of plain rows without a header converts as it does without a layout.
+pub plain_columns : ColumnRecordsAreRead → DelimitedRecordsAreOne → PlainColumnsConvertAlike
+plain_columns read one files layout most column texts fault plain none come =
+    let bytes = strip_bom column in
+    let are = rw plain.delimiter at come.are.are in
+    let same : come.are.records ≡ column_records bytes = one 44 bytes come.are.records (column_records bytes) are (read bytes) in
+    let wholes : come.wholes ≡ whole_records bytes = rw (plain.delimiter, none, same) at come.are.is in
+    record {
+      records = column_records bytes;
+      are = read bytes;
+      rows = subst (λ (l : List (List (List ℕ))). ComeTo files most 1 l texts fault) (ap fields_of_all wholes ∙ wholes_fields bytes) (come_plainly layout plain files most 1 come.wholes texts fault come.rows);
+    }

@@ -1,0 +1,150 @@
+-- Rows by the files that are known, and by other files that may be.
+use Rattle.std.proofs.Common.{◌≡◌, ◌∙◌, ◌+◌, ◌<◌, ℕ, Bool, true, false, List, [], ◌∷◌, ◌++◌, map, Option, Some, None, ap, refl, sym, subst, arith}
+use Rattle.std.specs.Prelude.{All, Contains, bytes_eq, is_some, nat_le, option_map, length, if◌then◌else◌}
+use Rattle.std.proofs.lemmas.List.Elements.{All-contains, All-cons, All-head, All-tail}
+use Rattle.std.proofs.lemmas.Slice.Eq.{bytes_eq-Decides}
+use Rattle.zic_base.proofs.Elements.{contained_passes, one_that_passes}
+use Rattle.zic_base.specs.Check.{check, first_failed}
+use Rattle.zic_columns.specs.Exchange.{exchanged}
+use Rattle.zic_columns.specs.Own.{Whole}
+use Rattle.zic_columns.specs.Round.{records_of, wholes_of}
+use Rattle.zic_columns.proofs.Exchanges.{twice}
+use Rattle.zic_columns.proofs.Wholes.{pieces_fields}
+use Rattle.zic_files.specs.File.{File}
+use Rattle.zic_files.specs.Sound.{AreSoundFiles, IsSoundFile}
+use Rattle.zic_plan.specs.Layout.{has_count}
+use Rattle.zic_plan.specs.Delimiter.{is_delimiter}
+use Rattle.zic_plan.specs.declared.layout.Layout.{Layout}
+use Rattle.zic_plan.specs.declared.layout.ZoneFrom.{ZoneFrom}
+use Rattle.zic_plan.specs.declared.layout.ZoneFrom.TheVariants as zone
+use Rattle.zic_base.specs.declared.row_fault.RowFault.{RowFault}
+use Rattle.zic_base.specs.declared.row_fault.RowKind.{RowKind}
+use Rattle.zic_base.specs.declared.row_fault.RowKind.TheVariants as kind
+use Rattle.zic_rows.specs.Count.{second_of}
+use Rattle.zic_zones.specs.Zones.{Agree, field_at, is_named, zone_in}
+use Rattle.zic_convert.specs.Rows.{is_row_instant}
+use Rattle.zic_convert.specs.LayoutRows.{ComeToBy, IsRowAt, IsTextBy, count_in, ending, ends_by, fault_by, faults_by, noted}
+use Rattle.zic_convert.specs.code.Row.{AreRowsOf, RowsOf, fields_of_all, put_back, wholes_of_all}
+use Rattle.zic_convert.proofs.Delimited.{field_same, name_as_put, outside}
+use Rattle.zic_convert.proofs.Wholes.{all_put}
+
+both_or_none : (a b : Bool) → (a ≡ true → b ≡ true) → (b ≡ true → a ≡ true) → a ≡ b
+both_or_none true b to from = sym (to refl)
+both_or_none false true to from = from refl
+both_or_none false false to from = refl
+
+-- a file of this name is one that is known
+abbrev pub IsKnownName : List File → List File → List ℕ → Type 0
+IsKnownName known files name = (file : File) → Contains files file → file.name ≡ name → Contains known file
+
+abbrev pub IsKnownZone : ZoneFrom → List File → List File → Whole → Type 0
+IsKnownZone from known files whole = IsKnownName known files (zone_in from whole.fields)
+
+-- some file of this name is among them
+named_by : (files : List File) (name : List ℕ) (file : File) → Contains files file → file.name ≡ name → is_named files name ≡ true
+named_by files name file has is = contained_passes (λ (f : File). bytes_eq f.name name) files file has ((bytes_eq-Decides file.name name).1 is)
+
+one_named : (files : List File) (name : List ℕ) → is_named files name ≡ true → (file : File) × Contains files file × (file.name ≡ name)
+one_named files name e =
+    let (file, has, passes) = one_that_passes (λ (f : File). bytes_eq f.name name) files e in
+    (file, has, (bytes_eq-Decides file.name name).0 passes)
+
+module _ (known files : List File) (still : (file : File) → Contains known file → Contains files file) where
+  named_same : (name : List ℕ) → IsKnownName known files name → is_named known name ≡ is_named files name
+  named_same name only = both_or_none (is_named known name) (is_named files name)
+      (λ e. (let (file, has, is) = one_named known name e in named_by files name file (still file has) is))
+      (λ e. (let (file, has, is) = one_named files name e in named_by known name file (only file has is) is))
+
+  module _ (layout : Layout) (most : ℕ) where
+    -- the fault of a row
+    fault_same : (number : ℕ) (fields : List (List ℕ)) → IsKnownName known files (zone_in layout.zone fields) → fault_by layout known most number fields ≡ fault_by layout files most number fields
+    fault_same number fields only =
+        ap (λ (named : Bool). first_failed
+        (check (nat_le number most) kind.TooManyRows
+        ∷ check (has_count layout.count (length fields)) kind.RowFields
+        ∷ check named kind.RowZone
+        ∷ check (is_some (count_in layout fields)) kind.RowInstant
+        ∷ check (is_row_instant (option_map (second_of layout.unit) (count_in layout fields))) kind.RowRange
+        ∷ [])) (named_same (zone_in layout.zone fields) only)
+
+    -- and the row
+    text_same : (whole : Whole) (text : List ℕ) → IsTextBy layout known whole text → IsTextBy layout files whole text
+    text_same whole text is = record {
+      file = is.file;
+      among = still is.file is.among;
+      named = is.named;
+      count = is.count;
+      says = is.says;
+      state = is.state;
+      answers = is.answers;
+      is = is.is;
+    }
+
+    row_same : (fault : Option RowKind) (whole : Whole) (text : List ℕ) → IsRowAt layout known fault whole text → IsRowAt layout files fault whole text
+    row_same None whole text is = text_same whole text is
+    row_same (Some kind) whole text is = is
+
+    -- the outcome of records whose zones are known
+    come_same : (number : ℕ) (wholes : List Whole) (texts : List (List ℕ)) (fault : Option RowKind) → All (IsKnownZone layout.zone known files) wholes
+        → ComeToBy layout known most number wholes texts fault → ComeToBy layout files most number wholes texts fault
+    come_same number [] texts fault only come = come
+    come_same number (w ∷ wholes) [] fault only come =
+        let same = fault_same number w.fields (All-head (IsKnownZone layout.zone known files) w wholes only) in
+        (come.0 ∙ ap (ending layout.at_fault) same, come.1)
+    come_same number (w ∷ wholes) (text ∷ texts) fault only come =
+        let same = fault_same number w.fields (All-head (IsKnownZone layout.zone known files) w wholes only) in (
+          ap (ending layout.at_fault) (sym same) ∙ come.0,
+          subst (λ (f : Option RowKind). IsRowAt layout files f w text) same (row_same (fault_by layout known most number w.fields) w text come.1),
+          come_same (number + 1) wholes texts fault (All-tail (IsKnownZone layout.zone known files) w wholes only) come.2,
+        )
+
+    -- and their faults
+    faults_same : (number : ℕ) (wholes : List Whole) → All (IsKnownZone layout.zone known files) wholes
+        → faults_by layout known most number wholes ≡ faults_by layout files most number wholes
+    faults_same number [] only = refl
+    faults_same number (w ∷ wholes) only =
+        let same = fault_same number w.fields (All-head (IsKnownZone layout.zone known files) w wholes only) in
+        let rest = faults_same (number + 1) wholes (All-tail (IsKnownZone layout.zone known files) w wholes only) in
+        ap (λ (f : Option RowKind). if is_some (ending layout.at_fault f) then [] else noted number f ++ faults_by layout known most (number + 1) wholes) same
+        ∙ ap (λ (l : List RowFault). if is_some (ends_by layout files most number w.fields) then [] else noted number (fault_by layout files most number w.fields) ++ l) rest
+
+    -- the rows of records
+    pub rows_same : (first : ℕ) (wholes : List Whole) (rows : RowsOf) → All (IsKnownZone layout.zone known files) wholes
+        → AreRowsOf layout known most first wholes rows → AreRowsOf layout files most first wholes rows
+    rows_same first wholes rows only are_rows = record {
+      texts = are_rows.texts;
+      come = come_same first wholes are_rows.texts rows.fault only are_rows.come;
+      text = are_rows.text;
+      count = are_rows.count;
+      faults = are_rows.faults ∙ faults_same first wholes only;
+    }
+
+-- ---- a round whose zones were made ready
+
+-- the zones of records are known where those with commas are settled
+module _ (d : ℕ) (can : is_delimiter d ≡ true) (settled : List ℕ → Type 0) (known files : List File) (agree : Agree settled known files) (from : ZoneFrom) where
+  name_known : (name : List ℕ) → settled name → IsKnownName known files name
+  name_known name is file has same = agree.only file has (subst settled (sym same) is)
+
+  put_known : (name : List ℕ) → settled name → IsKnownName known files (exchanged d name)
+  put_known name is file has same =
+      let sound = All-contains IsSoundFile files file agree.sound.each has in
+      let back : file.name ≡ name = sym (name_as_put d (outside d can) file.name sound.named) ∙ ap (exchanged d) same ∙ twice d name in
+      agree.only file has (subst settled (sym back) is)
+
+  zone_known : (from : ZoneFrom) (fields : List (List ℕ)) → settled (zone_in from fields) → IsKnownName known files (zone_in from (map (exchanged d) fields))
+  zone_known (zone.Field index) fields is = rw (field_same d (outside d can) fields index) (put_known (field_at fields index) is)
+  zone_known (zone.Name name) fields is = name_known _ is
+
+  wholes_known : (wholes : List Whole) → All settled (map (zone_in from) (fields_of_all wholes)) → All (IsKnownZone from known files) (map (put_back d) wholes)
+  wholes_known [] all = λ k dflt lt. absurd (omega (arith, lt))
+  wholes_known (w ∷ wholes) all =
+      All-cons (IsKnownZone from known files) (put_back d w) (map (put_back d) wholes)
+      (zone_known from w.fields (All-head settled (zone_in from w.fields) (map (zone_in from) (fields_of_all wholes)) all))
+      (wholes_known wholes (All-tail settled (zone_in from w.fields) (map (zone_in from) (fields_of_all wholes)) all))
+
+  -- those of a round
+  pub round_known : (pieces : List (List ℕ)) → All settled (map (zone_in from) (records_of pieces)) → All (IsKnownZone from known files) (wholes_of_all d pieces)
+  round_known pieces all =
+      subst (All (IsKnownZone from known files)) (sym (all_put d pieces))
+      (wholes_known (wholes_of pieces) (subst (λ (records : List (List (List ℕ))). All settled (map (zone_in from) records)) (sym (pieces_fields pieces)) all))

@@ -1,0 +1,6 @@
+use Rattle.std.proofs.Common.{take}
+use Rattle.zic_convert.specs.Run.{Notes}
+use Rattle.zic_convert.proofs.log.note_all.Given as goal
+
+abbrev pub invariant-loop-fault : goal.invariant-loop-fault
+invariant-loop-fault g l = Notes (g.L.FaultLog.noted l.fn.log) (g.L.FaultLog.noted l.log) (take l.fault-index l.faults)

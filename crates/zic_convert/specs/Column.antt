@@ -1,0 +1,82 @@
+-- The rows of a column.
+use Rattle.std.specs.Prelude.{◌≡◌, ℕ, codes, List, [], ◌∷◌, ◌++◌, drop, length, Option}
+use Rattle.std.specs.List.{concat}
+use Rattle.csv.specs.Reading.{strip_bom}
+use Rattle.zic_columns.specs.Column.{AreColumnRecords}
+use Rattle.zic_columns.specs.Exchange.{AreDelimitedRecords, exchanged}
+use Rattle.zic_columns.specs.Own.{Whole, beside, delimited_texts, first_text}
+use Rattle.zic_files.specs.File.{File}
+use Rattle.zic_plan.specs.Layout.{records_before}
+use Rattle.zic_plan.specs.declared.layout.Header.{Header}
+use Rattle.zic_plan.specs.declared.layout.Header.TheVariants as header
+use Rattle.zic_plan.specs.declared.layout.Layout.{Layout}
+use Rattle.zic_plan.specs.declared.layout.RowStart.{RowStart}
+use Rattle.zic_plan.specs.declared.layout.RowStart.TheVariants as start
+use Rattle.zic_base.specs.declared.row_fault.RowKind.{RowKind}
+use Rattle.zic_convert.specs.Rows.{ComeTo}
+use Rattle.zic_convert.specs.LayoutRows.{ComeToBy}
+
+-- The texts of a column's rows up to the first that has a fault, and that fault, or none. Rows count from 1, and there may be at most
+-- this number. The records are those of CSV with commas and double quotes, without a header row. A byte order mark at the start is none
+-- of the column, and a line without a byte makes no record.
+pub record ConvertsTo (files : List File) (most : ℕ) (column : List ℕ) (texts : List (List ℕ)) (fault : Option RowKind) : Type 0 where
+  pub records : List (List (List ℕ))
+  pub are : AreColumnRecords (strip_bom column) records
+  pub rows : ComeTo files most 1 records texts fault
+
+-- The records of a column that make rows by a layout, each with its own bytes: those of CSV with the layout's delimiter and double quotes,
+-- but for the header, if there is one. A byte order mark at the start is none of the column, and a line without a byte makes no record.
+pub record AreRowRecords (layout : Layout) (column : List ℕ) (wholes : List Whole) : Type 0 where
+  pub records : List (List (List ℕ))
+  pub are : AreDelimitedRecords layout.delimiter (strip_bom column) records
+  pub is : wholes ≡ drop (records_before layout.header) (beside (delimited_texts layout.delimiter (strip_bom column)) records)
+
+-- The texts of a column's rows by a layout, up to the first that ends the run, and its fault, or none. Rows count from 1, and there may be
+-- at most this number.
+pub record ConvertsBy (files : List File) (layout : Layout) (most : ℕ) (column : List ℕ) (texts : List (List ℕ)) (fault : Option RowKind) : Type 0 where
+  pub wholes : List Whole
+  pub are : AreRowRecords layout column wholes
+  pub rows : ComeToBy layout files most 1 wholes texts fault
+
+-- the line of names before rows that begin with a name and an instant: own choice
+abbrev pub row_names : List ℕ
+row_names = codes "zone,instant,local,offset,daylight,abbreviation" ++ 10 ∷ []
+
+-- that line, where there is a header and rows begin so
+abbrev pub names_of : RowStart → Header → ℕ → List ℕ
+names_of start.Fields header.First delimiter = exchanged delimiter row_names
+names_of _ _ delimiter = []
+
+-- the names of the fields that a row adds to its record: own choice
+abbrev pub added_names : List ℕ
+added_names = codes ",local,offset,daylight,abbreviation"
+
+-- the own bytes of the header, if there is one, by those of all records
+abbrev pub own_header : Header → List (List ℕ) → List ℕ
+own_header header.Absent texts = []
+own_header header.First texts = first_text texts
+
+-- a column's header with those names, where rows begin with their records; a record has a byte or more
+abbrev pub header_of : RowStart → ℕ → List ℕ → List ℕ
+header_of start.Record delimiter (byte ∷ own) = (byte ∷ own) ++ (exchanged delimiter added_names ++ 10 ∷ [])
+header_of _ delimiter _ = []
+
+-- what is written before a column is read: the line of names, or nothing
+abbrev pub names_line : Layout → List ℕ
+names_line layout = names_of layout.start layout.header layout.delimiter
+
+-- and once its header was read
+abbrev pub own_line : Layout → List ℕ → List ℕ
+own_line layout column = header_of layout.start layout.delimiter (own_header layout.header (delimited_texts layout.delimiter (strip_bom column)))
+
+-- The header before the rows of a column that has one: own choice. It is the line of names where rows begin with a name and an instant, and
+-- else the column's own header, with the names of the fields that rows add.
+abbrev pub header_text : Layout → List ℕ → List ℕ
+header_text layout column = names_line layout ++ own_line layout column
+
+-- The text of a column's rows up to the first that has a fault, how many there are, and that fault, or none.
+pub record AreRowsOfColumn (files : List File) (most : ℕ) (column text : List ℕ) (count : ℕ) (fault : Option RowKind) : Type 0 where
+  pub texts : List (List ℕ)
+  pub converts : ConvertsTo files most column texts fault
+  pub text_is : text ≡ concat texts
+  pub count_is : count ≡ length texts

@@ -1,0 +1,112 @@
+-- How the conversion of a column went: own choice.
+use Rattle.std.specs.Prelude.{◌≡◌, ◌⊎◌, ℕ, ◌-◌, List, [], ◌∷◌, ◌++◌, take, Option, Some, IfSome}
+use Rattle.std.specs.List.{concat}
+use Rattle.std.specs.Io.{StartsWith}
+use Rattle.std.specs.Io.KnownBytes.{Appends}
+use Rattle.zic_columns.specs.Own.{Whole}
+use Rattle.zic_counted.specs.Counts.{Counts}
+use Rattle.zic_files.specs.File.{File}
+use Rattle.zic_plan.specs.declared.layout.Layout.{Layout}
+use Rattle.zic_base.specs.declared.row_fault.RowFault.{RowFault}
+use Rattle.zic_base.specs.declared.row_fault.RowKind.{RowKind}
+use Rattle.zic_base.specs.declared.run_stop.RunStop.{RunStop}
+use Rattle.zic_base.specs.declared.run_stop.RunStop.TheVariants as stop
+use Rattle.zic_convert.specs.Column.{AreRowRecords, header_text, names_line}
+use Rattle.zic_convert.specs.Convert.{WritesAllOf, WritesUpToOf}
+use Rattle.zic_convert.specs.LayoutRows.{ComeToBy, faults_by}
+
+-- what the writer held and holds, and the faults that the log had noted and has noted, where these are known
+pub record Output : Type 0 where
+  pub held : Option (List ℕ)
+  pub held' : Option (List ℕ)
+  pub log : Option (List RowFault)
+  pub log' : Option (List RowFault)
+
+-- The reader and the writer of a conversion, before it and after it, the column that the reader had left, where it is known, and the output.
+pub record Run (R W : Type 0) : Type 0 where
+  pub reader : Counts R
+  pub reader' : Counts R
+  pub writer : Counts W
+  pub writer' : Counts W
+  pub column : Option (List ℕ)
+  pub output : Output
+
+abbrev pub output_of : {W L : Type 0} → (W → Option (List ℕ)) → (L → Option (List RowFault)) → Counts W → Counts W → L → L → Output
+output_of contents noted writer writer' log log' = record { held = contents writer.inner; held' = contents writer'.inner; log = noted log; log' = noted log' }
+
+abbrev pub run_of : {R W L : Type 0} → (R → Option (List ℕ)) → (W → Option (List ℕ)) → (L → Option (List RowFault))
+    → Counts R → Counts R → Counts W → Counts W → L → L → Run R W
+run_of remaining contents noted reader reader' writer writer' log log' = record {
+  reader = reader;
+  reader' = reader';
+  writer = writer;
+  writer' = writer';
+  column = remaining reader.inner;
+  output = output_of contents noted writer writer' log log';
+}
+
+-- What a log has noted, where that is known, grew by these faults.
+abbrev pub Notes : Option (List RowFault) → Option (List RowFault) → List RowFault → Type 0
+Notes old new faults = IfSome old (λ before. new ≡ Some (before ++ faults))
+
+-- A header and all rows of these records were written, there are n rows, and their faults were noted.
+abbrev pub WritesRows : Layout → List File → ℕ → List ℕ → List Whole → ℕ → Output → Type 0
+WritesRows layout files most header wholes n out =
+    WritesAllOf header (ComeToBy layout files most 1 wholes) n out.held out.held' × Notes out.log out.log' (faults_by layout files most 1 wholes)
+
+-- A header and the rows before one that ends the conversion were written, and their faults were noted.
+abbrev pub EndsAtRow : Layout → List File → ℕ → List ℕ → List Whole → ℕ → RowKind → Output → Type 0
+EndsAtRow layout files most header wholes row kind out =
+    WritesUpToOf header (ComeToBy layout files most 1 wholes) row kind out.held out.held' × Notes out.log out.log' (faults_by layout files most 1 wholes)
+
+-- Some lines were written, of the header and the first rows, and the faults of these rows were noted, and no others. Nothing was written
+-- after these lines, unless the writer failed: then perhaps a beginning of those that come next.
+pub record EndsAfterLines (layout : Layout) (files : List File) (most : ℕ) (header : List ℕ) (wholes : List Whole) (why : RunStop) (out : Output) : Type 0 where
+  pub texts : List (List ℕ)
+  pub fault : Option RowKind
+  pub come : ComeToBy layout files most 1 wholes texts fault
+  pub lines : ℕ
+  pub part : List ℕ
+  pub starts : StartsWith (header ++ concat texts) part
+  pub least : StartsWith part (concat (take lines (header ∷ texts)))
+  pub exact : (part ≡ concat (take lines (header ∷ texts))) ⊎ (why ≡ stop.WriteFailed)
+  pub wrote : Appends out.held out.held' part
+  pub noted : Notes out.log out.log' (faults_by layout files most 1 (take (lines - 1) wholes))
+
+-- how a conversion ends early: at a row, or for another cause, but never for a fault of a source
+abbrev pub EndsIn : Layout → List File → ℕ → List ℕ → List Whole → RunStop → Output → Type 0
+EndsIn layout files most header wholes (stop.Row row kind) out = EndsAtRow layout files most header wholes row kind out
+EndsIn layout files most header wholes (stop.Source fault) out = ⊥
+EndsIn layout files most header wholes why out = EndsAfterLines layout files most header wholes why out
+
+-- by these files, all rows of the column were written, there are n, and their faults were noted
+abbrev pub ConvertsAllBy : {R W : Type 0} → Layout → ℕ → ℕ → Run R W → List File → Type 0
+ConvertsAllBy layout most n run files = IfSome run.column (λ column.
+    (wholes : List Whole) × AreRowRecords layout column wholes × WritesRows layout files most (header_text layout column) wholes n run.output)
+
+-- all of the line of names was written, if there is to be one, and perhaps more
+abbrev pub HasNames : Layout → Output → Type 0
+HasNames layout out = (rest : List ℕ) × Appends out.held out.held' (names_line layout ++ rest)
+
+-- by these files, the conversion of the column ended early, after the line of names
+abbrev pub EndsBy : {R W : Type 0} → Layout → ℕ → RunStop → Run R W → List File → Type 0
+EndsBy layout most why run files = IfSome run.column (λ column.
+    (wholes : List Whole) × AreRowRecords layout column wholes × EndsIn layout files most (header_text layout column) wholes why run.output × HasNames layout run.output)
+
+-- The line of names could not be written: nothing was read of the column, no zone was asked for, and no fault was noted.
+pub record EndsAtNames {R W Z : Type 0} (layout : Layout) (why : RunStop) (run : Run R W) (zones zones' : Z) : Type 0 where
+  pub is : why ≡ stop.WriteFailed
+  pub unread : run.reader' ≡ run.reader
+  pub unasked : zones' ≡ zones
+  pub unnoted : run.output.log' ≡ run.output.log
+  pub part : List ℕ
+  pub starts : StartsWith (names_line layout) part
+  pub wrote : Appends run.output.held run.output.held' part
+
+-- The zones grew as names were asked for, until the end or until memory was refused. By all files that rows may be made by then, `Ends`
+-- holds.
+pub record EndsByZones {Z : Type 0} (Grows Breaks : Z → Z → Type 0) (MayBe : Z → List File → Type 0) (old new : Z) (why : RunStop) (Ends : List File → Type 0) : Type 0 where
+  pub then : Z
+  pub grown : Grows old then
+  pub ends : (new ≡ then) ⊎ ((why ≡ stop.Memory) × Breaks then new)
+  pub by : (files : List File) → MayBe then files → Ends files

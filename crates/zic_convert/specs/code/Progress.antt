@@ -1,0 +1,95 @@
+-- How far a conversion has come.
+use Rattle.std.specs.Prelude.{◌≡◌, ◌≤◌, ◌<◌, ◌↔◌, ℕ, Bool, false, IsTrue, List, [], ◌++◌, length, drop, Option, Some, None, IfSome}
+use Rattle.std.specs.List.{concat}
+use Rattle.std.specs.Io.KnownBytes.{Appends}
+use Rattle.csv.specs.Reading.{strip_bom}
+use Rattle.zic_columns.specs.Exchange.{exchanged}
+use Rattle.zic_columns.specs.Own.{Whole, own_texts, whole_records}
+use Rattle.zic_columns.specs.Round.{ArePiecesOf, ColumnOf, HasNoRecord, TakesRound, unread}
+use Rattle.zic_columns.specs.declared.pieces.TheConstants.{MAX_ROUND_PIECES}
+use Rattle.zic_counted.specs.Counts.{Counts, HasFailedSince}
+use Rattle.zic_counted.specs.Written.{FailsWithin}
+use Rattle.zic_plan.specs.Layout.{records_before}
+use Rattle.zic_plan.specs.declared.layout.Header.{Header}
+use Rattle.zic_plan.specs.declared.layout.Layout.{Layout}
+use Rattle.zic_base.specs.declared.row_fault.RowFault.{RowFault}
+use Rattle.zic_base.specs.declared.run_stop.RunStop.{RunStop}
+use Rattle.zic_base.specs.declared.run_stop.RunStop.TheVariants as stop
+use Rattle.zic_files.specs.File.{File}
+use Rattle.zic_convert.specs.Column.{AreRowRecords, header_of, own_header, own_line}
+use Rattle.zic_convert.specs.LayoutRows.{ComeToBy, faults_by}
+use Rattle.zic_convert.specs.Run.{EndsIn, Notes, Output, WritesRows}
+use Rattle.zic_convert.specs.code.Row.{wholes_in}
+use Rattle.zic_convert.specs.declared.halt.Halt.{Halt}
+use Rattle.zic_convert.specs.declared.halt.Halt.TheVariants as halt
+
+abbrev pub output : Option (List ℕ) → Option (List ℕ) → Option (List RowFault) → Option (List RowFault) → Output
+output held held' log log' = record { held = held; held' = held'; log = log; log' = log' }
+
+-- Where the bytes that are left of a column are known, these records come next, and then those of the bytes that are left then. Their
+-- own bytes have the delimiter put back.
+abbrev pub Takes : ℕ → Option (List ℕ) → Option (List ℕ) → List Whole → Type 0
+Takes delimiter old new wholes = IfSome old (λ bytes. (rest : List ℕ) × (new ≡ Some rest) × (wholes_in delimiter bytes ≡ wholes ++ wholes_in delimiter rest))
+
+-- Where the bytes that are left are known, these records come next.
+abbrev pub ComeNext : ℕ → Option (List ℕ) → List Whole → Type 0
+ComeNext delimiter left wholes = IfSome left (λ bytes. (more : List Whole) × (wholes_in delimiter bytes ≡ wholes ++ more))
+
+-- Of these records this number was converted and written, none of which ends the run, and the bytes that are left have the others.
+pub record IsSoFar (layout : Layout) (files : List File) (most : ℕ) (all : List Whole) (left : Option (List ℕ)) (count : ℕ) (out : Output) : Type 0 where
+  pub wholes : List Whole
+  pub texts : List (List ℕ)
+  pub rest : List ℕ
+  pub bytes : left ≡ Some rest
+  pub goes_on : all ≡ wholes ++ wholes_in layout.delimiter rest
+  pub come : ComeToBy layout files most 1 wholes texts None
+  pub counted : count ≡ length texts
+  pub wrote : Appends out.held out.held' (concat texts)
+  pub noted : Notes out.log out.log' (faults_by layout files most 1 wholes)
+
+-- by these files, all rows of the bytes that were left, where they are known, were written, there are n, and their faults were noted
+abbrev pub ConvertsRest : Layout → ℕ → Option (List ℕ) → ℕ → Output → List File → Type 0
+ConvertsRest layout most known n out files = IfSome known (λ bytes. WritesRows layout files most [] (wholes_in layout.delimiter bytes) n out)
+
+-- the conversion of those bytes ended early
+abbrev pub EndsInRest : Layout → ℕ → Option (List ℕ) → RunStop → Output → List File → Type 0
+EndsInRest layout most known why out files = IfSome known (λ bytes. EndsIn layout files most [] (wholes_in layout.delimiter bytes) why out)
+
+-- by these files, all rows of a column were written below its own header
+abbrev pub ConvertsColumn : Layout → ℕ → Option (List ℕ) → ℕ → Output → List File → Type 0
+ConvertsColumn layout most known n out files = IfSome known (λ column.
+    (wholes : List Whole) × AreRowRecords layout column wholes × WritesRows layout files most (own_line layout column) wholes n out)
+
+-- the conversion of that column ended early
+abbrev pub EndsInColumn : Layout → ℕ → Option (List ℕ) → RunStop → Output → List File → Type 0
+EndsInColumn layout most known why out files = IfSome known (λ column.
+    (wholes : List Whole) × AreRowRecords layout column wholes × EndsIn layout files most (own_line layout column) wholes why out)
+
+-- the column's own header with names added, but for the delimiter of the column
+abbrev pub own_line_in : Layout → List ℕ → List ℕ
+own_line_in layout column = header_of layout.start layout.delimiter (exchanged layout.delimiter (own_header layout.header (own_texts (strip_bom column))))
+
+-- The bytes that are left of a column have its records after those that are a header.
+abbrev pub BeginsRows : Header → List ℕ → Option (List ℕ) → Type 0
+BeginsRows header column left = (rest : List ℕ) × (left ≡ Some rest) × (whole_records rest ≡ drop (records_before header) (whole_records (strip_bom column)))
+
+-- the conversion of a column, where its bytes are known, ended before its rows began
+abbrev pub HaltsAtHead : {W : Type 0} → (W → Option (List ℕ)) → Counts W → Counts W → Layout → Option (List ℕ) → Halt → Type 0
+HaltsAtHead contents old new layout known halt.Unread = new ≡ old
+HaltsAtHead contents old new layout known (halt.Stop stop.Memory) = new ≡ old
+HaltsAtHead contents old new layout known (halt.Stop stop.WriteFailed) = HasFailedSince new old.failures × IfSome known (λ column. FailsWithin contents old new (own_line_in layout column))
+HaltsAtHead contents old new layout known (halt.Stop _) = ⊥
+
+-- a column was taken to its next round, in pieces of so many records, or to its end
+pub record TakesNext {R : Type 0} (remaining : R → Option (List ℕ)) (size : ℕ) (old new : ColumnOf R) (more : Bool) : Type 0 where
+  pub takes : TakesRound remaining old new
+  pub some : IsTrue more ↔ (0 < length new.round)
+  pub end : more ≡ false → HasNoRecord (unread remaining new)
+  pub few : length new.round ≤ MAX_ROUND_PIECES
+  pub cut : ArePiecesOf size new.round
+
+-- the column could not be read on, before zones were asked for, or memory was refused then
+abbrev pub EndsAtTaking : {Z : Type 0} → (Z → Z → Type 0) → Z → Z → Halt → Type 0
+EndsAtTaking broken old new halt.Unread = new ≡ old
+EndsAtTaking broken old new (halt.Stop stop.Memory) = broken old new
+EndsAtTaking broken old new (halt.Stop _) = ⊥

@@ -1,0 +1,92 @@
+-- Rows that were written.
+use Rattle.std.specs.Prelude.{◌≡◌, ℕ, ◌+◌, ◌⊎◌, true, List, [], ◌++◌, take, Option, Some, None}
+use Rattle.std.specs.Io.{StartsWith}
+use Rattle.std.specs.Io.KnownBytes.{Appends}
+use Rattle.zic_columns.specs.Own.{Whole}
+use Rattle.zic_counted.specs.Counts.{Counts, HasFailedSince}
+use Rattle.zic_counted.specs.Written.{FailsWithin}
+use Rattle.zic_files.specs.File.{File}
+use Rattle.zic_plan.specs.Plan.{Limits}
+use Rattle.zic_plan.specs.declared.layout.Layout.{Layout}
+use Rattle.zic_base.specs.declared.row_fault.RowFault.{RowFault}
+use Rattle.zic_base.specs.declared.row_fault.RowKind.{RowKind}
+use Rattle.zic_base.specs.declared.run_stop.RunStop.{RunStop}
+use Rattle.zic_base.specs.declared.run_stop.RunStop.TheVariants as stop
+use Rattle.zic_convert.specs.Run.{Notes}
+use Rattle.zic_convert.specs.code.Row.{AreRowsOf, RowsOf, wholes_of_all}
+use Rattle.zic_convert.specs.code.Pieces.{Pieces, joined}
+
+-- the writer's bytes, where they are known, grew by these bytes, and nothing failed
+abbrev pub Wrote : {W : Type 0} → (W → Option (List ℕ)) → Counts W → Counts W → List ℕ → Type 0
+Wrote contents old new bytes = Appends (contents old.inner) (contents new.inner) bytes × (new.failures ≡ old.failures)
+
+-- they grew by some bytes, perhaps by a beginning of others after these, and then the writer failed
+pub record FailsAfter {W : Type 0} (contents : W → Option (List ℕ)) (old new : Counts W) (first all : List ℕ) : Type 0 where
+  pub part : List ℕ
+  pub starts : StartsWith all part
+  pub least : StartsWith part first
+  pub wrote : Appends (contents old.inner) (contents new.inner) part
+  pub failed : HasFailedSince new old.failures
+
+-- all rows were written, their faults were noted, and this is their count
+abbrev pub WroteRows : {W : Type 0} → (W → Option (List ℕ)) → Counts W → Counts W → Option (List RowFault) → Option (List RowFault) → RowsOf → ℕ → Type 0
+WroteRows contents old new log log' rows count = (rows.fault ≡ None) × (count ≡ rows.count) × Wrote contents old new rows.text × Notes log log' rows.faults
+
+-- the rows before one that ends the run were written, and their faults noted
+abbrev pub StopsAtRow : {W : Type 0} → (W → Option (List ℕ)) → Counts W → Counts W → Option (List RowFault) → Option (List RowFault) → ℕ → RowsOf → ℕ → RowKind → Type 0
+StopsAtRow contents old new log log' first rows row kind =
+    (rows.fault ≡ Some kind) × (row ≡ first + rows.count) × Wrote contents old new rows.text × Notes log log' rows.faults
+
+-- pieces were written up to one that ends the run, or up to where the writer failed
+abbrev pub EndsInPieces : {W : Type 0} → (W → Option (List ℕ)) → Counts W → Counts W → Option (List RowFault) → Option (List RowFault) → ℕ → List RowsOf → RunStop → Type 0
+EndsInPieces contents old new log log' first pieces (stop.Row row kind) = StopsAtRow contents old new log log' first (joined pieces) row kind
+EndsInPieces contents old new log log' first pieces stop.WriteFailed =
+    (i : ℕ) × FailsAfter contents old new (joined (take i pieces)).text (joined pieces).text × Notes log log' (joined (take i pieces)).faults
+EndsInPieces contents old new log log' first pieces _ = ⊥
+
+-- the stop at a row that ends the run, once what a writer held back was passed on, or the writer failed
+abbrev pub IsStopAt : {W : Type 0} → (W → Option (List ℕ)) → Counts W → Counts W → ℕ → RowKind → RunStop → Type 0
+IsStopAt contents old new row kind (stop.Row at fault) = (at ≡ row) × (fault ≡ kind) × Wrote contents old new []
+IsStopAt contents old new row kind stop.WriteFailed = FailsWithin contents old new []
+IsStopAt contents old new row kind _ = ⊥
+
+-- a header was not written whole: the writer failed, or memory was refused
+abbrev pub EndsAtHead : {W : Type 0} → (W → Option (List ℕ)) → Counts W → Counts W → List ℕ → RunStop → Type 0
+EndsAtHead contents old new head stop.WriteFailed = FailsWithin contents old new head
+EndsAtHead contents old new head stop.Memory = new ≡ old
+EndsAtHead contents old new head _ = ⊥
+
+-- the rows of a round were all written, and this is their count
+abbrev pub WritesRound : {W : Type 0} → Pieces → (W → Option (List ℕ)) → Counts W → Counts W → Option (List RowFault) → Option (List RowFault) → ℕ → Type 0
+WritesRound p contents old new log log' count =
+    (rows : RowsOf) × AreRowsOf p.layout p.files p.most p.first (wholes_of_all p.layout.delimiter p.pieces) rows × WroteRows contents old new log log' rows count
+
+-- of the rows of these records, those of the first records were written, and their faults noted, and then the writer failed
+pub record FailsInRows {W : Type 0} (contents : W → Option (List ℕ)) (old new : Counts W) (log log' : Option (List RowFault))
+    (layout : Layout) (files : List File) (most first : ℕ) (wholes : List Whole) (rows : RowsOf) : Type 0 where
+  pub done : List Whole
+  pub more : List Whole
+  pub parts : wholes ≡ done ++ more
+  pub front : RowsOf
+  pub are : AreRowsOf layout files most first done front
+  pub fails : FailsAfter contents old new front.text rows.text
+  pub noted : Notes log log' front.faults
+
+-- the rows of records were written up to one that ends the run, or up to where the writer failed
+abbrev pub EndsInRows : {W : Type 0} → (W → Option (List ℕ)) → Counts W → Counts W → Option (List RowFault) → Option (List RowFault)
+    → Layout → List File → ℕ → ℕ → List Whole → RowsOf → RunStop → Type 0
+EndsInRows contents old new log log' layout files most first wholes rows (stop.Row row kind) = StopsAtRow contents old new log log' first rows row kind
+EndsInRows contents old new log log' layout files most first wholes rows stop.WriteFailed = FailsInRows contents old new log log' layout files most first wholes rows
+EndsInRows contents old new log log' layout files most first wholes rows _ = ⊥
+
+-- the rows of a round before one that ends the run were written, or the writer failed, or memory ran out
+abbrev pub EndsInRound : {W : Type 0} → Pieces → (W → Option (List ℕ)) → Counts W → Counts W → Option (List RowFault) → Option (List RowFault) → RunStop → Type 0
+EndsInRound p contents old new log log' why =
+    ((why ≡ stop.Memory) × (new ≡ old) × (log' ≡ log))
+    ⊎ ((rows : RowsOf) × AreRowsOf p.layout p.files p.most p.first (wholes_of_all p.layout.delimiter p.pieces) rows
+    × EndsInRows contents old new log log' p.layout p.files p.most p.first (wholes_of_all p.layout.delimiter p.pieces) rows why)
+
+-- the pieces of a round by a layout, files and a plan; the first record is the row of this number
+abbrev pub pieces_by : Layout → List File → Limits → List (List ℕ) → ℕ → Pieces
+pieces_by layout files plan pieces first =
+    record { layout = layout; files = files; pieces = pieces; first = first; most = plan.max_rows; size = plan.row_piece; stops = true }

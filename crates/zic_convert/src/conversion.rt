@@ -1,0 +1,461 @@
+//! Converts columns.
+
+ghost use Rattle.std.specs.Prelude.{◌≡◌, ◌≤◌, ◌<◌, ◌+◌, ◌⊎◌, List, All, IfOk, IfErr, IfSome, length, map};
+ghost use Rattle.std.specs.Io.KnownBytes.{Appends};
+ghost use Rattle.csv.specs.Reading.{strip_bom};
+ghost use Rattle.zic_columns.specs.Own.{own_texts};
+ghost use Rattle.zic_columns.specs.Round.{ArePiecesOf, records_of, unread};
+ghost use Rattle.zic_columns.specs.declared.pieces.TheConstants.{MAX_ROUND_PIECES};
+ghost use Rattle.zic_counted.specs.Counts.{HasFailedSince};
+ghost use Rattle.zic_files.specs.File.{File};
+ghost use Rattle.zic_plan.specs.declared.plan.TheConstants.{MAX_ROWS};
+ghost use Rattle.zic_zones.specs.Zones.{zone_in};
+ghost use Rattle.zic_convert.specs.Column.{own_header};
+ghost use Rattle.zic_convert.specs.Convert.{IsCauseOf, WritesAll, WritesAt};
+ghost use Rattle.zic_convert.specs.Run.{ConvertsAllBy, EndsAtNames, EndsBy, EndsByZones};
+ghost use Rattle.zic_convert.specs.Run.{output_of, run_of};
+ghost use Rattle.zic_convert.specs.code.Halt.{IsCauseOfHalt, IsEnd, IsReadingStop, stop_of};
+ghost use Rattle.zic_convert.specs.code.Progress.{BeginsRows, ConvertsColumn, ConvertsRest};
+ghost use Rattle.zic_convert.specs.code.Progress.{EndsInColumn, EndsInRest, HaltsAtHead};
+ghost use Rattle.zic_convert.specs.code.Progress.{EndsAtTaking, TakesNext, own_line_in};
+ghost use Rattle.zic_convert.specs.code.Written.{EndsInRound, WritesRound, pieces_by};
+
+use crate::halt::Halt;
+use crate::output::{flush, write_header, write_names};
+use crate::pieces::RowPieces;
+use crate::round::convert_round;
+use std::alloc::Global;
+use std::io::{Read, Write};
+use std::sync::Wait;
+use std::thread::Threads;
+use zic_base::{FaultLog, RunStop, Unnoted};
+use zic_columns::laws::{records_are_exchanged, texts_are_exchanged};
+use zic_columns::{Column, Exchanged, Round, Unread};
+use zic_counted::Counted;
+use zic_files::Files;
+use zic_pieces::Gate;
+use zic_plan::{Header, Layout, Plan};
+use zic_tzif::laws::files_answer_once;
+use zic_zones::{SourceZones, Zones};
+
+/// The least number of bytes of a round, if the column has them at once.
+const SHORTEST_ROUND: u64 = 65_536;
+
+/// The greatest number of bytes that a round is read to have.
+const LONGEST_ROUND: u64 = 4_194_304;
+
+/// The number of pieces that a round has for each worker, so that none waits long for the others.
+const PIECES_FOR_EACH: u64 = 16;
+
+/// The number of bytes that a record usually has.
+const USUAL_RECORD: u64 = 48;
+
+/// What a column is converted by, apart from its zones: threads, memory, how work is shared and how
+/// long the column may be, what the column has, and what workers pass before each piece.
+#[derive(Drop)]
+pub struct Conversion<'a, T, G> {
+    pub rt: &'a T,
+    pub alloc: Global,
+    pub plan: &'a Plan,
+    pub layout: &'a Layout,
+    pub gate: &'a G,
+}
+
+/// Returns the number of bytes that a round is to have: some pieces for each worker, of usual
+/// records.
+fn round_len(plan: &Plan) -> usize {
+    let usual = PIECES_FOR_EACH * plan.workers() * plan.row_piece() * USUAL_RECORD;
+    usual.clamp(SHORTEST_ROUND, LONGEST_ROUND) as usize
+}
+
+/// Takes the next round of a column, and makes the zones of its records ready. Returns `false` at the
+/// end of the column.
+///
+/// # Errors
+///
+/// `Unread` where the column can't be read on, before any zone is asked for, or `Memory`.
+fn next_round<T, G, Z: Zones, R: Read>(
+    conversion: &Conversion<'_, T, G>,
+    zones: &mut Z,
+    column: &mut Column<R>,
+) -> Result<bool, Halt>
+    ensures takes { IfOk result
+        (TakesNext R.remaining conversion.now.plan.now.row_piece column.old column.new) }
+    ensures grown { IfOk result (λ _. Z.grown zones.old zones.new) }
+    ensures settled { IfOk result (λ _. All (Z.settled zones.new)
+        (map (zone_in conversion.now.layout.now.zone) (records_of column.new.round))) }
+    ensures halt { IfErr result (λ halt. EndsAtTaking Z.broken zones.old zones.new halt) }
+{
+    let plan = conversion.plan;
+    let size = plan.row_piece() as usize;
+    let some = column.next_round(conversion.alloc, round_len(plan), size)?;
+    zones.prepare(conversion.alloc, &conversion.layout.zone, &column.round())?;
+    Ok(some)
+}
+
+/// Converts a round by the zones that are ready, writes its rows, and notes their faults. The first
+/// record is the row of this number. Returns the number of rows.
+///
+/// # Errors
+///
+/// `Memory`, or what ends a round.
+fn convert_ready<T: Threads + Wait + Sync, G: Gate + Sync, Z: Zones, W: Write, L: FaultLog>(
+    conversion: &Conversion<'_, T, G>,
+    zones: &Z,
+    round: Round<'_>,
+    first: u64,
+    writer: &mut Counted<W>,
+    log: &mut L,
+) -> Result<u64, RunStop>
+    requires first { first ≤ MAX_ROWS + 1 }
+    requires few { length round ≤ MAX_ROUND_PIECES }
+    requires cut { ArePiecesOf conversion.now.plan.now.row_piece round }
+    ensures ok { IfOk result (WritesRound (pieces_by conversion.now.layout.now (Z.known zones.now)
+        conversion.now.plan.now round.entry first)
+        W.contents writer.old writer.new (L.noted log.old) (L.noted log.new)) }
+    ensures stop { IfErr result (EndsInRound (pieces_by conversion.now.layout.now
+        (Z.known zones.now) conversion.now.plan.now round.entry first)
+        W.contents writer.old writer.new (L.noted log.old) (L.noted log.new)) }
+{
+    let ready = zones.ready();
+    let pieces = RowPieces::new(conversion.layout, &ready, round, first, conversion.plan);
+    convert_round(conversion, &pieces, writer, log)
+}
+
+/// Converts what is left of a column, round by round: takes a round, has its zones made ready, has it
+/// converted, and writes its rows before it reads on. Returns the number of rows.
+///
+/// # Errors
+///
+/// `Unread` where the column can't be read on, `Memory`, or what ends a round.
+fn convert_rounds<
+    T: Threads + Wait + Sync,
+    G: Gate + Sync,
+    Z: Zones,
+    R: Read,
+    W: Write,
+    L: FaultLog,
+>(
+    conversion: &Conversion<'_, T, G>,
+    zones: &mut Z,
+    column: &mut Column<R>,
+    writer: &mut Counted<W>,
+    log: &mut L,
+) -> Result<u64, Halt>
+    ensures grown { IfOk result (λ _. Z.grown zones.old zones.new) }
+    ensures all { (files : List File) → Z.may_be zones.new files → IfOk result (λ n. ConvertsRest
+        conversion.now.layout.now conversion.now.plan.now.max_rows
+        (unread R.remaining column.old) n (output_of W.contents L.noted writer.old writer.new
+        log.old log.new) files) }
+    ensures flushed { IfOk result (λ _. writer.new.failures ≡ writer.old.failures) }
+    ensures halt { IfErr result (λ halt. EndsByZones Z.grown Z.broken Z.may_be zones.old zones.new
+        (stop_of halt) (EndsInRest conversion.now.layout.now conversion.now.plan.now.max_rows
+        (unread R.remaining column.old) (stop_of halt) (output_of W.contents L.noted writer.old
+        writer.new log.old log.new))) }
+    ensures cause { IfErr result (IsCauseOfHalt writer.old writer.new) }
+{
+    // The rest of a column that can't be read on has rows too: each file answers every instant.
+    files_answer_once();
+    // Names of zones have no byte that can stand between fields.
+    prove!(conversion.layout.delimiter.byte() <= u8::MAX);
+    // The plan limits the number of rows.
+    prove!(conversion.plan.max_rows() <= u64::MAX);
+    let mut count = 0;
+    while next_round(conversion, zones, column)? {
+        let round = column.round();
+        count += convert_ready(conversion, zones, round, count + 1, writer, log)?;
+    }
+    flush(writer)?;
+    Ok(count)
+}
+
+/// A column after its header, and the header's own bytes, which are none where it has no header.
+#[derive(Drop)]
+struct Begun<R: Read> {
+    column: Column<R>,
+    header: Vec<u8>,
+}
+
+/// Begins a column after its header, if it has one.
+///
+/// # Errors
+///
+/// `Unread` where the column can't be read on.
+fn begin_column<R: Read + Drop>(
+    alloc: Global,
+    plan: &Plan,
+    layout: &Layout,
+    reader: R,
+) -> Result<Begun<R>, Unread>
+    ensures begins { IfOk result (λ begun. IfSome (R.remaining reader)
+        (λ bytes. BeginsRows layout.now.header bytes (unread R.remaining begun.column))) }
+    ensures header { IfOk result (λ begun. IfSome (R.remaining reader)
+        (λ bytes. begun.header.items ≡ own_header layout.now.header (own_texts (strip_bom bytes)))) }
+{
+    let mut column = Column::new(alloc, reader, plan.max_bytes())?;
+    match layout.header {
+        Header::Absent => {
+            let header = Vec::new(alloc);
+            Ok(Begun { column, header })
+        }
+        Header::First => {
+            let header = column.pass_record(alloc, round_len(plan))?;
+            Ok(Begun { column, header })
+        }
+    }
+}
+
+/// Begins a column after its header, if it has one, and writes the header with names added before rows
+/// that begin with their records.
+///
+/// # Errors
+///
+/// `Unread` where the column can't be read on, `Memory`, or `WriteFailed`.
+fn begin_rows<R: Read + Drop, W: Write>(
+    alloc: Global,
+    plan: &Plan,
+    layout: &Layout,
+    reader: R,
+    writer: &mut Counted<W>,
+) -> Result<Column<R>, Halt>
+    ensures begins { IfOk result (λ column. IfSome (R.remaining reader)
+        (λ bytes. BeginsRows layout.now.header bytes (unread R.remaining column))) }
+    ensures head { IfOk result (λ _. IfSome (R.remaining reader) (λ bytes.
+        Appends (W.contents writer.old.inner) (W.contents writer.new.inner)
+        (own_line_in layout.now bytes))) }
+    ensures flushed { IfOk result (λ _. writer.new.failures ≡ writer.old.failures) }
+    ensures halt { IfErr result (HaltsAtHead W.contents writer.old writer.new layout.now
+        (R.remaining reader)) }
+{
+    let Begun { column, header } = begin_column(alloc, plan, layout, reader)?;
+    write_header(writer, layout, header)?;
+    Ok(column)
+}
+
+/// Converts a column below its own header. Returns the number of rows.
+///
+/// # Errors
+///
+/// As [`convert_rounds`].
+fn convert_rows<
+    T: Threads + Wait + Sync,
+    G: Gate + Sync,
+    Z: Zones,
+    R: Read + Drop,
+    W: Write,
+    L: FaultLog,
+>(
+    conversion: &Conversion<'_, T, G>,
+    zones: &mut Z,
+    reader: R,
+    writer: &mut Counted<W>,
+    log: &mut L,
+) -> Result<u64, Halt>
+    ensures grown { IfOk result (λ _. Z.grown zones.old zones.new) }
+    ensures all { (files : List File) → Z.may_be zones.new files → IfOk result (λ n. ConvertsColumn
+        conversion.now.layout.now conversion.now.plan.now.max_rows (R.remaining reader) n
+        (output_of W.contents L.noted writer.old writer.new log.old log.new) files) }
+    ensures flushed { IfOk result (λ _. writer.new.failures ≡ writer.old.failures) }
+    ensures halt { IfErr result (λ halt. EndsByZones Z.grown Z.broken Z.may_be zones.old zones.new
+        (stop_of halt) (EndsInColumn conversion.now.layout.now conversion.now.plan.now.max_rows
+        (R.remaining reader) (stop_of halt) (output_of W.contents L.noted writer.old writer.new
+        log.old log.new))) }
+    ensures cause { IfErr result (IsCauseOfHalt writer.old writer.new) }
+{
+    // Also a column that can't be read has rows: each file answers every instant.
+    files_answer_once();
+    records_are_exchanged();
+    texts_are_exchanged();
+    let layout = conversion.layout;
+    let exchanged = Exchanged::new(reader, layout.delimiter.byte());
+    let mut column = begin_rows(conversion.alloc, conversion.plan, layout, exchanged, writer)?;
+    convert_rounds(conversion, zones, &mut column, writer, log)
+}
+
+/// Returns why reading the column ended. The reader had counted `failures` failures and `taken`
+/// bytes before, and may have taken `most` bytes since.
+fn reading_stop<R>(reader: &Counted<R>, failures: u64, taken: u64, most: u64) -> RunStop
+    ensures { IsReadingStop reader.now failures taken most result }
+{
+    if reader.has_failed_since(failures) {
+        return RunStop::ReadFailed;
+    }
+    if reader.taken() == u64::MAX || reader.taken().saturating_sub(taken) > most {
+        return RunStop::ColumnTooLong;
+    }
+    RunStop::Memory
+}
+
+/// Returns how a conversion ends whose column had this outcome. The reader had counted `failures`
+/// failures and `taken` bytes before, and may have taken `most` bytes since.
+///
+/// No clause of what reads a column says how much it takes, or that no read failed: the reader's own
+/// counts decide.
+fn ended<R>(
+    outcome: Result<u64, Halt>,
+    reader: &Counted<R>,
+    failures: u64,
+    taken: u64,
+    most: u64,
+) -> Result<u64, RunStop>
+    ensures { IsEnd reader.now failures taken most outcome result }
+{
+    match outcome {
+        Ok(_) if reader.has_failed_since(failures) => Err(RunStop::ReadFailed),
+        Ok(_) if reader.taken().saturating_sub(taken) > most => Err(RunStop::ColumnTooLong),
+        Ok(count) => Ok(count),
+        Err(Halt::Stop(stop)) => Err(stop),
+        Err(Halt::Unread) => Err(reading_stop(reader, failures, taken, most)),
+    }
+}
+
+/// Converts a column by a layout and by zones, and writes its header and its rows. Returns the number
+/// of rows, without the header.
+///
+/// The layout says which bytes stand between fields, of records and of rows; whether the first
+/// record is a header, which makes no row and isn't counted; where a row's zone and its instant come
+/// from, and how many fields a record has; and what an instant counts. An instant is an optional `-`
+/// and 1 to 18 digits, and as many more as a fraction of a second has. A row shows local time of its
+/// whole second, rounded down, and with that fraction.
+///
+/// A row begins with the name and the instant, or with the record's own bytes as they stand in the
+/// column, as the layout's `start` says. Where it begins with the name and there is a header, the line
+/// `zone,instant,local,offset,daylight,abbreviation`, with the layout's delimiter, is written before
+/// the column is read. Where it begins with the record and there is a header, that comes first, with
+/// the names `local`, `offset`, `daylight` and `abbreviation` added.
+///
+/// As the layout's `at_fault` says, the first row with a fault ends the conversion, or rows with
+/// faults are written. Such a row has empty fields in the place of local time, and the instant as
+/// its record has it; where the record has another number of fields than the layout's, the row is
+/// only the record's own bytes. The log takes note of the fault.
+///
+/// The column is read in rounds. Before a round is converted, its zones are made ready. The plan's
+/// workers convert the pieces of a round, which have the number of records that the plan says, and
+/// pass the gate before each. The calling thread is one of them. The rows of a round are written and
+/// flushed before the column is read on. None of this changes an answer. Where all is converted, the
+/// reader's count of bytes rose by no more than the plan allows, and the writer failed nowhere.
+///
+/// # Errors
+///
+/// - `Row` at the first row that ends the conversion, with its number, from 1, and the first of its
+///   kinds: a row more than the plan allows, a record of another number of fields than the layout's,
+///   a name that no file has, no instant, or a whole second out of range. All rows before it were
+///   written and flushed, and the writer failed nowhere. Where rows with faults are written, only
+///   `TooManyRows` ends the conversion as `Row`.
+/// - `ReadFailed` or `WriteFailed` where the reader or writer counted a failure. Each error of the
+///   reader or writer ends the call, also one at which others try again, and so does a write that
+///   takes no byte. A reader that ended is not read again. Where the line of names can't be written,
+///   nothing is read of the column.
+/// - `ColumnTooLong` where the reader gave more bytes than the plan allows, or its count of bytes
+///   stands at the greatest `u64`.
+/// - `Memory` where memory is refused. Where it is refused as zones are made ready, these are of no
+///   use.
+///
+/// `Source` and `NoThread` are never returned. After every error other than `Row`, some lines were
+/// written, of the header and of the rows, and the faults of these rows were noted, and no others.
+/// Nothing was written after these lines, except after `WriteFailed`: then perhaps a beginning of
+/// those to come. How much of the column was read is open.
+pub fn convert_column<
+    T: Threads + Wait + Sync,
+    G: Gate + Sync,
+    Z: Zones,
+    R: Read,
+    W: Write,
+    L: FaultLog,
+>(
+    conversion: &Conversion<'_, T, G>,
+    zones: &mut Z,
+    reader: &mut Counted<R>,
+    writer: &mut Counted<W>,
+    log: &mut L,
+) -> Result<u64, RunStop>
+    ensures grown { IfOk result (λ _. Z.grown zones.old zones.new) }
+    ensures ok { (files : List File) → Z.may_be zones.new files → IfOk result (λ n. ConvertsAllBy
+        conversion.now.layout.now conversion.now.plan.now.max_rows n (run_of R.remaining W.contents
+        L.noted reader.old reader.new writer.old writer.new log.old log.new) files) }
+    ensures within { IfOk result
+        (λ _. reader.new.taken ≤ reader.old.taken + conversion.now.plan.now.max_bytes) }
+    ensures unfailed { IfOk result (λ _. HasFailedSince reader.new reader.old.failures → ⊥) }
+    ensures flushed { IfOk result (λ _. writer.new.failures ≡ writer.old.failures) }
+    ensures err { IfErr result (λ stop.
+        EndsAtNames conversion.now.layout.now stop (run_of R.remaining W.contents L.noted
+        reader.old reader.new writer.old writer.new log.old log.new) zones.old zones.new
+        ⊎ EndsByZones Z.grown Z.broken Z.may_be zones.old zones.new stop
+        (EndsBy conversion.now.layout.now conversion.now.plan.now.max_rows stop (run_of R.remaining
+        W.contents L.noted reader.old reader.new writer.old writer.new log.old log.new))) }
+    ensures cause { IfErr result (IsCauseOf conversion.now.plan.now.max_bytes
+        reader.old reader.new writer.old writer.new) }
+{
+    let failures = reader.failures();
+    let taken = reader.taken();
+    write_names(writer, conversion.layout)?;
+    let outcome = convert_rows(conversion, zones, &mut *reader, writer, log);
+    ended(outcome, reader, failures, taken, conversion.plan.max_bytes())
+}
+
+/// Converts a column of records, each with a zone's name and an instant, to rows of six fields: the
+/// name, the instant, local time, UT offset, daylight flag (0 or 1) and abbreviation. Returns the
+/// number of rows.
+///
+/// The column is read as CSV with commas and double quotes, without a header row; a byte order mark
+/// at its start is dropped, and a line without a byte makes no record. An instant is an optional
+/// `-` and 1 to 18 digits: seconds from 1970-01-01T00:00:00 UT without leap seconds, from
+/// -62,135,510,400 to 253,402,214,399.
+///
+/// The column is read in rounds. A round is all whole records in hand, as soon as there are some
+/// pieces for each worker, or a read gives fewer than 64 KiB. The plan's workers convert the pieces
+/// of a round, which have the number of records that the plan says, and pass the gate before each.
+/// The calling thread is one of them. The rows of a round are written and flushed before the column
+/// is read on. None of this changes an answer. Where all is converted, the reader's count of bytes
+/// rose by no more than the plan allows, and the writer failed nowhere.
+///
+/// # Errors
+///
+/// - `Row` at the first row that has a fault, with its number, from 1, and the first of its kinds:
+///   a row more than the plan allows, a record of other than two fields, a name that no file has,
+///   no instant, or an instant out of range. All rows before it were written and flushed, and the
+///   writer failed nowhere.
+/// - `ReadFailed` or `WriteFailed` where the reader or writer counted a failure. Each error of the
+///   reader or writer ends the call, also one at which others try again, and so does a write that
+///   takes no byte. A reader that ended is not read again.
+/// - `ColumnTooLong` where the reader gave more bytes than the plan allows, or its count of bytes
+///   stands at the greatest `u64`.
+/// - `Memory` where memory is refused.
+///
+/// `Source` and `NoThread` are never returned. After every error other than `Row`, what was written
+/// is a part of the text of the rows, from its start on, and how much of the column was read is
+/// open.
+pub fn convert<T: Threads + Wait + Sync, R: Read, W: Write, G: Gate + Sync>(
+    rt: &T,
+    alloc: Global,
+    files: &Files,
+    reader: &mut Counted<R>,
+    writer: &mut Counted<W>,
+    plan: &Plan,
+    gate: &G,
+) -> Result<u64, RunStop>
+    ensures ok { IfOk result (λ n. IfSome (R.remaining reader.old.inner)
+        (λ column. WritesAll files.now plan.now.max_rows column n (W.contents writer.old.inner)
+        (W.contents writer.new.inner))) }
+    ensures within { IfOk result (λ _. reader.new.taken ≤ reader.old.taken + plan.now.max_bytes) }
+    ensures unfailed { IfOk result (λ _. HasFailedSince reader.new reader.old.failures → ⊥) }
+    ensures flushed { IfOk result (λ _. writer.new.failures ≡ writer.old.failures) }
+    ensures err { IfErr result (λ stop. IfSome (R.remaining reader.old.inner)
+        (λ column. WritesAt files.now plan.now.max_rows column stop (W.contents writer.old.inner)
+        (W.contents writer.new.inner))) }
+    ensures cause { IfErr result
+        (IsCauseOf plan.now.max_bytes reader.old reader.new writer.old writer.new) }
+{
+    let mut zones = match SourceZones::new(alloc, files) {
+        Ok(zones) => zones,
+        Err(_) => return Err(RunStop::Memory),
+    };
+    let conversion = Conversion {
+        rt,
+        alloc,
+        plan,
+        layout: &Layout::plain(Header::Absent),
+        gate,
+    };
+    convert_column(&conversion, &mut zones, reader, writer, &mut Unnoted)
+}

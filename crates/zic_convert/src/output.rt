@@ -1,0 +1,182 @@
+//! Writes rows.
+
+ghost use Rattle.std.specs.Prelude.{◌≡◌, ◌+◌, ◌^◌, ◌<◌, [], IfOk, OnOk, IfErr};
+ghost use Rattle.zic_columns.specs.Exchange.{exchanged};
+ghost use Rattle.zic_counted.specs.Written.{FailsWithin};
+ghost use Rattle.zic_plan.specs.declared.layout.RowStart.TheVariants as start;
+ghost use Rattle.zic_convert.specs.Column.{header_of, names_line};
+ghost use Rattle.zic_convert.specs.code.Pieces.{joined};
+ghost use Rattle.zic_convert.specs.code.Written.{EndsAtHead, EndsInPieces, IsStopAt, Wrote, WroteRows};
+
+use crate::faulty::put_back;
+use crate::log::note_all;
+use crate::row::Rows;
+use std::alloc::AllocError;
+use std::io::Write;
+use zic_base::{FaultLog, RowKind, RunStop};
+use zic_columns::exchange;
+use zic_counted::{Counted, WriteFailed};
+use zic_plan::{Header, Layout, RowStart};
+
+/// The line of names before rows that begin with a name and an instant.
+const ROW_NAMES: &[u8; 48] = b"zone,instant,local,offset,daylight,abbreviation\n";
+
+/// The names of the fields that a row adds to its record.
+const ADDED_NAMES: &[u8; 35] = b",local,offset,daylight,abbreviation";
+
+/// Adds the names of the fields that a row adds to its record, and a newline, to the own bytes of a
+/// header, in which the delimiter and the comma stand in each other's place. Does nothing where
+/// there is no header.
+fn add_names(line: &mut Vec<u8>, delimiter: u8) -> Result<(), AllocError>
+    ensures { OnOk result (line.new.items
+        ≡ header_of start.Record delimiter (exchanged delimiter line.old.items)) }
+{
+    if line.is_empty() {
+        return Ok(());
+    }
+    line.extend_from_slice(ADDED_NAMES)?;
+    put_back(line, 0, delimiter);
+    line.push(b'\n')?;
+    Ok(())
+}
+
+/// Returns the header before rows, by the own bytes of the column's header, in which the delimiter
+/// and the comma stand in each other's place. Returns no bytes where rows don't begin with their
+/// records, or the column has no header.
+///
+/// # Errors
+///
+/// Fails where memory is refused.
+fn header_line(layout: &Layout, own: Vec<u8>) -> Result<Vec<u8>, AllocError>
+    ensures { IfOk result (λ line. line.items ≡ header_of layout.now.start layout.now.delimiter
+        (exchanged layout.now.delimiter own.items)) }
+{
+    let mut line = own;
+    match layout.start {
+        RowStart::Fields => {
+            line.clear();
+            Ok(line)
+        }
+        RowStart::Record => {
+            add_names(&mut line, layout.delimiter.byte())?;
+            Ok(line)
+        }
+    }
+}
+
+/// Writes all of the bytes, as `zic_counted` does.
+fn write_all<W: Write>(writer: &mut Counted<W>, bytes: &[u8]) -> Result<(), RunStop>
+    ensures ok { OnOk result (Wrote W.contents writer.old writer.new bytes.now) }
+    ensures err { IfErr result (λ stop. (stop ≡ RunStop.WriteFailed)
+        × FailsWithin W.contents writer.old writer.new bytes.now) }
+{
+    match zic_counted::write_all(writer, bytes) {
+        Ok(()) => Ok(()),
+        Err(WriteFailed) => Err(RunStop::WriteFailed),
+    }
+}
+
+/// Has the writer pass on what it holds back.
+pub(crate) fn flush<W: Write>(writer: &mut Counted<W>) -> Result<(), RunStop>
+    ensures ok { OnOk result (Wrote W.contents writer.old writer.new []) }
+    ensures err { IfErr result (λ stop. (stop ≡ RunStop.WriteFailed)
+        × FailsWithin W.contents writer.old writer.new []) }
+{
+    match zic_counted::flush(writer) {
+        Ok(()) => Ok(()),
+        Err(WriteFailed) => Err(RunStop::WriteFailed),
+    }
+}
+
+/// Writes the line of names before rows that begin with a name and an instant, where the layout has a
+/// header. Doesn't flush.
+///
+/// # Errors
+///
+/// `WriteFailed`.
+pub(crate) fn write_names<W: Write>(
+    writer: &mut Counted<W>,
+    layout: &Layout,
+) -> Result<(), RunStop>
+    ensures ok { OnOk result (Wrote W.contents writer.old writer.new (names_line layout.now)) }
+    ensures err { IfErr result (λ stop. (stop ≡ RunStop.WriteFailed)
+        × FailsWithin W.contents writer.old writer.new (names_line layout.now)) }
+{
+    match (layout.start, layout.header) {
+        (RowStart::Fields, Header::First) => {
+            let mut line = *ROW_NAMES;
+            exchange(&mut line, layout.delimiter.byte());
+            write_all(writer, &line)
+        }
+        _ => Ok(()),
+    }
+}
+
+/// Writes the column's own header before rows that begin with their records, by the header's own bytes
+/// as [`header_line`] has them, and has the writer pass it on. Writes nothing where there is none.
+///
+/// # Errors
+///
+/// `Memory`, before anything is written, or `WriteFailed`.
+pub(crate) fn write_header<W: Write>(
+    writer: &mut Counted<W>,
+    layout: &Layout,
+    own: Vec<u8>,
+) -> Result<(), RunStop>
+    ensures ok { OnOk result (Wrote W.contents writer.old writer.new (header_of layout.now.start
+        layout.now.delimiter (exchanged layout.now.delimiter own.items))) }
+    ensures err { IfErr result (EndsAtHead W.contents writer.old writer.new (header_of
+        layout.now.start layout.now.delimiter (exchanged layout.now.delimiter own.items))) }
+{
+    let Ok(line) = header_line(layout, own) else {
+        return Err(RunStop::Memory);
+    };
+    if line.is_empty() {
+        return Ok(());
+    }
+    write_all(writer, &line)?;
+    flush(writer)
+}
+
+/// Has the writer pass on what it holds back, and returns the stop at a row that ends the run, or
+/// `WriteFailed`.
+fn stop_at<W: Write>(writer: &mut Counted<W>, row: u64, kind: RowKind) -> RunStop
+    ensures { IsStopAt W.contents writer.old writer.new row kind result }
+{
+    match flush(writer) {
+        Ok(()) => RunStop::Row { row, kind },
+        Err(stop) => stop,
+    }
+}
+
+/// Writes the rows of pieces, one piece after another, up to the first that ends the run, notes
+/// their faults, flushes, and returns the number of rows. The first is the row of this number.
+///
+/// # Errors
+///
+/// `Row` with the number and the kind of the fault that ends the run, once the rows before it are
+/// written and flushed, or `WriteFailed`.
+pub(crate) fn write_rows<W: Write, L: FaultLog>(
+    writer: &mut Counted<W>,
+    first: u64,
+    pieces: &[Rows],
+    log: &mut L,
+) -> Result<u64, RunStop>
+    requires { first + (joined pieces.now).count < 2 ^ 64 }
+    ensures ok { IfOk result (λ count. WroteRows W.contents writer.old writer.new
+        (L.noted log.old) (L.noted log.new) (joined pieces.now) count) }
+    ensures err { IfErr result (EndsInPieces W.contents writer.old writer.new
+        (L.noted log.old) (L.noted log.new) first pieces.now) }
+{
+    let mut count = 0;
+    for rows in pieces {
+        write_all(writer, &rows.text)?;
+        note_all(log, &rows.faults);
+        count += rows.count;
+        if let Some(kind) = rows.fault {
+            return Err(stop_at(writer, first + count, kind));
+        }
+    }
+    flush(writer)?;
+    Ok(count)
+}
