@@ -155,9 +155,3 @@ mark_dropped (Some bytes) (Some rest) held keeps shows =
     let text : bytes ≡ held = sym keeps ∙ ap (λ (r : List ℕ). held ++ r) none ∙ append-nil held in
     ap Some (ap (λ (r : List ℕ). strip_bom held ++ r) none ∙ append-nil (strip_bom held) ∙ ap strip_bom (sym text)))
     shows
-
--- a text that is as long without its mark has none
-pub same_unmarked : (bytes : List ℕ) → length (strip_bom bytes) ≡ length bytes → strip_bom bytes ≡ bytes
-same_unmarked bytes same =
-    let none : length bytes - length (strip_bom bytes) ≡ 0 = omega (arith, same) in
-    sym (unmarked_end bytes) ∙ ap (λ (n : ℕ). drop n bytes) none
