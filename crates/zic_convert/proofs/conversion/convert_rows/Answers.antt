@@ -18,11 +18,11 @@ returns-in_err-column-clause-halt g c =
     let is : inside ≡ option_map (exchanged layout.delimiter) known = rw (c.new-exchanged.ensures.delimiter, c.byte-delimiter.ensures.byte, c.new-exchanged.ensures.inner) refl in
     rw (p.1, p.2) (record {
       then = c.args.zones.now;
-      grown = g.Z.Zones.same c.args.zones.now;
+      grown = g.met.Z.Zones.same c.args.zones.now;
       ends = inl refl;
       by = λ files may.
           ends_at_head layout c.args.conversion.now.plan.now.max_rows c.records_are_exchanged.ensures c.texts_are_exchanged.ensures c.byte-delimiter.ensures.sound known inside is g.W.Write.contents
-          c.files_answer_once.ensures c.args.writer.now c.begin_rows.new.writer (g.L.FaultLog.noted c.args.log.now) files (g.Z.Zones.agrees c.args.zones.now files may).sound c.in_err-column.field-0.0
+          c.files_answer_once.ensures c.args.writer.now c.begin_rows.new.writer (g.L.FaultLog.noted c.args.log.now) files (g.met.Z.Zones.agrees c.args.zones.now files may).sound c.in_err-column.field-0.0
           c.in_err-column.ensures.halt;
     })
 

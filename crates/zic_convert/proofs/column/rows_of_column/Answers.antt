@@ -1,0 +1,19 @@
+use Rattle.std.proofs.Common.{◌≡◌, ◌∙◌, length, ap, arith, sym, subst, rules}
+use Rattle.csv.specs.Reading.{strip_bom}
+use Rattle.zic_columns.proofs.SomeRecords.{few_records}
+use Rattle.zic_columns.proofs.Taking.{unmarked_shorter}
+use Rattle.zic_columns.specs.Column.{column_records}
+use Rattle.zic_convert.specs.code.Row.{AreRowsOf, wholes_in}
+use Rattle.zic_convert.proofs.InMemory.{few_rows, rows_in_memory}
+use Rattle.zic_convert.proofs.column.rows_of_column.Goals as goal
+
+pub returns-clause-rows : goal.returns-clause-rows
+returns-clause-rows c =
+    let layout = c.plain-layout.result in
+    let plain = c.plain-layout.ensures.rows in
+    let files = c.args.files.now in
+    let column = c.args.column.now in
+    let found = c.in_ok-rows.ensures in
+    let are = rw (c.without_mark.ensures, c.ready.ensures, c.in_ok-zones.ensures) at found in
+    let all = rows_in_memory layout plain files c.args.max_rows column _ are c.column_records_are_read.ensures in
+    rw (← c.rows.view_is) at all
