@@ -1,7 +1,8 @@
 #!/usr/bin/env bash
 # Tests the library: the header alone as C99 and as C++17; the calls from C, under the sanitizers of
 # addresses and of undefined behaviour and under that of threads, beside the C library's own reader;
-# the Python package beside Python's zoneinfo; a Rust program; and the examples of docs/LIBRARY.md.
+# the Python package beside Python's zoneinfo, its objects, its types, and as pip installs it; a Rust
+# program; and the examples of docs/LIBRARY.md.
 set -euo pipefail
 cd "$(dirname "${BASH_SOURCE[0]}")/.."
 . .ci/release.sh
@@ -35,15 +36,69 @@ nm -D --defined-only "$built/lib/libpzic.so" | awk '{ print $3 }' | sort >"$work
 grep -o 'pzic_[a-z_]*(' include/pzic.h | tr -d '(' | sort -u >"$work/declared"
 diff "$work/declared" "$work/names"
 
-# Python. Debian's own may have numpy.
-export PZIC_LIBRARY=$built/lib/libpzic.so PYTHONPATH=python
+# Python. Debian's own may have numpy and pandas.
+export PZIC_LIBRARY=$built/lib/libpzic.so PYTHONPATH=$PWD/python PYTHONDONTWRITEBYTECODE=1
 python=python3
 if [ -x /usr/bin/python3 ]; then
     python=/usr/bin/python3
-    "$python" -c 'import numpy' 2>"$work/log" || install python3-numpy 2>"$work/log" || echo 'library: no numpy'
+    "$python" -c 'import pandas' 2>"$work/log" || install python3-pandas 2>"$work/log" || echo 'library: no pandas'
 fi
 "$python" witness/library.py "$tree"
+"$python" witness/python_objects.py "$tree"
+
+# CPython's tests of zoneinfo. Debian has them in a package of their own.
+tests='from test.test_zoneinfo import test_zoneinfo'
+for tester in "$python" python3 none; do
+    ! "$tester" -c "$tests" 2>"$work/log" || break
+done
+if [ "$tester" = none ] && install "lib$(basename "$(readlink -f "$(command -v "$python")")")-testsuite" 2>"$work/log"; then
+    tester=$python
+fi
+if [ "$tester" = none ]; then echo 'library: no test_zoneinfo'; else "$tester" witness/zoneinfo_tests.py; fi
+
+# The types, for the oldest Python and for this one.
+if command -v mypy >"$work/log" || install mypy 2>"$work/log"; then
+    for version in 3.8 "$("$python" -c 'import sys; print("%d.%d" % sys.version_info[:2])')"; do
+        mypy --strict --python-version "$version" --cache-dir "$work/mypy" python/pzic | sed 's/^/library: mypy: /'
+    done
+else
+    echo 'library: no mypy'
+fi
+
+# As pip installs it, from its folder and as a wheel, each into a new environment, without a network.
+has_pip() {
+    "$python" -c 'import setuptools, wheel, pip, ensurepip' 2>"$work/log"
+}
+in_venv() {
+    env -u PZIC_LIBRARY -u PYTHONPATH "$work/$1/bin/python" -c "$2" "$tree"
+}
+install_by_pip() {
+    local offline=(--quiet --no-index --no-build-isolation) name got want
+    cp -r python "$work/package"
+    "$python" -m venv --system-site-packages "$work/by_folder"
+    "$work/by_folder/bin/pip" install "${offline[@]}" "$work/package"
+    "$python" -m pip wheel "${offline[@]}" --no-deps -w "$work/wheels" "$work/package"
+    "$python" -m venv "$work/by_wheel"
+    "$work/by_wheel/bin/pip" install --quiet --no-index "$work"/wheels/pzic-*-py3-none-*.whl
+    want="$(sed -n 's/^pzic //p' docs/help/version.txt) True 3600"
+    for name in by_folder by_wheel; do
+        got=$(in_venv "$name" '
+import pzic, sys
+print(pzic.__version__, pzic.__file__.startswith(sys.prefix), pzic.Tree.open(sys.argv[1])["Europe/Dublin"].utcoffset(0))')
+        [ "$got" = "$want" ] || { echo "library: $name: got '$got', and not '$want'" >&2; exit 1; }
+    done
+    # It is imported within 40 ms of processor time, the least of ten runs.
+    got=$(for _ in 1 2 3 4 5 6 7 8 9 10; do
+        in_venv by_wheel 'from time import process_time as now; t = now(); import pzic; print(int((now() - t) * 1000))'
+    done | sort -n | head -n 1)
+    [ "$got" -lt 40 ] || { echo "library: importing pzic takes $got ms" >&2; exit 1; }
+    echo "library: Python, as pip installs it, imported within $got ms"
+}
+has_pip || for name in python3-pip python3-setuptools python3-wheel python3-venv; do
+    install "$name" 2>"$work/log" || break
+done
+if has_pip; then install_by_pip; else echo 'library: no pip'; fi
 
 # The examples of the page.
 export PKG_CONFIG_PATH=$built/lib/pkgconfig LD_LIBRARY_PATH=$built/lib
-python3 witness/examples.py docs/LIBRARY.md "$work" "$built" "$tree"
+"$python" witness/examples.py docs/LIBRARY.md "$work" "$built" "$tree"

@@ -6,12 +6,11 @@ import ctypes
 import pzic
 from pzic import _library as c
 
-zone_at = c.held.pzic_zone_at
-zone_at.argtypes = ctypes.POINTER(c.Handle), ctypes.c_int64, ctypes.POINTER(c.CState)
+zone_at = c.declare(c.short, "pzic_zone_at", ctypes.POINTER(c.Handle), ctypes.c_int64, ctypes.POINTER(c.CState))
 
 
 def line_at(zone, t, state):
-    status = zone_at(zone._handle, t, state)
+    status = zone_at(zone._owned.lend(), t, state)
     if status == c.UNSPECIFIED:
         return "unspecified"
     assert status == c.OK and state.name_length == len(state.name), f"status {status}, {state.name_length} bytes of {state.name}"

@@ -173,14 +173,22 @@ def compare_compiled():
     check(count > 10, count, "rows")
 
 
+def name_of(call, number):
+    """Return the name of a number, or None where none has it."""
+    try:
+        return c.text_of(call, number).decode("ascii")
+    except RuntimeError:
+        return None
+
+
 def compare_names():
     """Compare the names by number with those of the page of errors, which the gate tries on the program."""
     page = os.path.join(os.path.dirname(os.path.abspath(__file__)), "../docs/errors.txt")
     with open(page, encoding="utf-8") as file:
         printed = re.findall(r"^## (\w+)$", file.read(), re.M)
-    got = [c.text_of(c.name_of_fault, number) for number in range(40)]
-    got += [b"ColumnTooLong"] + [c.text_of(c.name_of_reason, number) for number in range(16)]
-    check([name.decode() for name in got if name] == printed[: printed.index("TooLarge") + 1], "names")
+    got = [name_of(c.name_of_fault, number) for number in range(40)]
+    got += ["ColumnTooLong"] + [name_of(c.name_of_reason, number) for number in range(16)]
+    check([name for name in got if name] == printed[: printed.index("TooLarge") + 1], "names")
 
 
 def use_threads(zone):

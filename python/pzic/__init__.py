@@ -10,14 +10,18 @@ positive east.
     >>> dublin.utcoffset(1_720_000_000)
     3600
 
-The library is looked for under the path that the variable ``PZIC_LIBRARY`` names, and then where
-the system has its libraries.
+The library is looked for under the path that the variable ``PZIC_LIBRARY`` names, then in the
+package, and then where the system has its libraries.
 """
 
+from pzic._array import DAYLIGHT, OPEN, Columns
+from pzic._errors import BadFile, BadName, BadRow, BadSource, NoSuchZone
 from pzic._library import MAX_INSTANT, MIN_INSTANT
 from pzic._timezone import TimeZone
-from pzic._tree import BadRow, BadSource, Compiled, Tree
-from pzic._zone import DAYLIGHT, OPEN, BadFile, Span, State, Zone
+from pzic._tree import Compiled, Tree
+from pzic._zone import Span, State, Zone
+
+__version__ = "0.1.0"
 
 __all__ = [
     "DAYLIGHT",
@@ -25,9 +29,12 @@ __all__ = [
     "MIN_INSTANT",
     "OPEN",
     "BadFile",
+    "BadName",
     "BadRow",
     "BadSource",
+    "Columns",
     "Compiled",
+    "NoSuchZone",
     "Span",
     "State",
     "TimeZone",

@@ -3,15 +3,17 @@
 from __future__ import annotations
 
 import ctypes
-import ctypes.util
 import os
-from typing import Any
+from typing import Any, Tuple
 
 #: The least and the greatest instant.
 MIN_INSTANT = -(2**63)
 MAX_INSTANT = 2**63 - 1
 
 OK, UNSPECIFIED, NO_MEMORY, BAD_FILE, NO_HANDLE, LENGTHS, BAD_SOURCE, NO_SUCH, BAD_ROW = range(9)
+
+#: The shared library whose calls are these.
+_NAME = "libpzic.so.0"
 
 
 class Handle(ctypes.Structure):
@@ -44,71 +46,80 @@ class CRowFault(ctypes.Structure):
 
 
 def _path() -> str:
+    """Return the path that ``PZIC_LIBRARY`` names, or that of the library in the package, or the
+    name that the system's loader looks for."""
     named = os.environ.get("PZIC_LIBRARY")
-    return named or ctypes.util.find_library("pzic") or "libpzic.so.0"
+    if named:
+        return named
+    own = os.path.join(os.path.dirname(os.path.abspath(__file__)), _NAME)
+    return own if os.path.exists(own) else _NAME
 
 
-#: A call through this one keeps Python's lock, so no two calls run at once.
-held = ctypes.PyDLL(_path())
-#: A call through this one lets other threads of Python run meanwhile.
-free = ctypes.CDLL(_path())
+try:
+    #: A call through this one keeps Python's lock: it is short.
+    short = ctypes.PyDLL(_path())
+    #: A call through this one lets other threads of Python run meanwhile.
+    long = ctypes.CDLL(_path())
+except OSError as error:
+    raise ImportError(f"{error}: the variable PZIC_LIBRARY may name the library") from error
 
-_HANDLE = ctypes.POINTER(Handle)
-_STATE = ctypes.POINTER(CState)
-_INSTANT = ctypes.POINTER(ctypes.c_int64)
+
+def _look(status: int, call: Any, words: Tuple[Any, ...]) -> int:
+    """Raise the error of a status that says nothing of what a call was given; return any other."""
+    if status == NO_MEMORY:
+        raise MemoryError
+    if status in (NO_HANDLE, LENGTHS):
+        raise RuntimeError(f"{call.__name__} answers {status}")
+    return status
+
+
+def declare(library: Any, name: str, *words: Any) -> Any:
+    """Return a call whose every status is looked at."""
+    call = getattr(library, name)
+    call.argtypes = words
+    call.errcheck = _look
+    return call
+
+
 _SIZE = ctypes.c_size_t
+_COUNT = ctypes.POINTER(_SIZE)
+_HANDLE = ctypes.POINTER(Handle)
+_INSTANT = ctypes.POINTER(ctypes.c_int64)
+_TEXT = (ctypes.c_char_p, _SIZE)
+_ROOM = (ctypes.c_char_p, _SIZE, _COUNT)
+_ARRAY = (ctypes.c_void_p, _SIZE)
 
-zone_read = held.pzic_zone_read
-zone_read.argtypes = (ctypes.c_char_p, _SIZE, _HANDLE, ctypes.POINTER(ctypes.c_uint32))
-share = held.pzic_share
-share.argtypes = (_HANDLE, _HANDLE)
-release = held.pzic_free
+zone_read = declare(short, "pzic_zone_read", *_TEXT, _HANDLE, ctypes.POINTER(ctypes.c_uint32))
+zone_span = declare(
+    short, "pzic_zone_span", _HANDLE, ctypes.c_int64, ctypes.POINTER(CState), _INSTANT, _INSTANT
+)
+zone_offsets = declare(long, "pzic_zone_offsets", _HANDLE, *_ARRAY, *_ARRAY, *_ARRAY)
+compile_texts = declare(
+    long, "pzic_compile", *_TEXT, _COUNT, _SIZE, _HANDLE, ctypes.POINTER(CFault)
+)
+files_len = declare(short, "pzic_files_len", _HANDLE, _COUNT)
+files_find = declare(short, "pzic_files_find", _HANDLE, *_TEXT, _COUNT)
+files_name = declare(short, "pzic_files_name", _HANDLE, _SIZE, *_ROOM)
+files_bytes = declare(short, "pzic_files_bytes", _HANDLE, _SIZE, *_ROOM)
+rows = declare(long, "pzic_rows", _HANDLE, *_TEXT, _HANDLE, ctypes.POINTER(CRowFault))
+rows_text = declare(long, "pzic_rows_text", _HANDLE, *_ROOM)
+name_of_fault = declare(short, "pzic_name_of_fault", ctypes.c_uint32, *_ROOM)
+name_of_reason = declare(short, "pzic_name_of_reason", ctypes.c_uint32, *_ROOM)
+release = short.pzic_free
 release.argtypes = (_HANDLE,)
 release.restype = None
-zone_span = held.pzic_zone_span
-zone_span.argtypes = (_HANDLE, ctypes.c_int64, _STATE, _INSTANT, _INSTANT)
-_NUMBER = ctypes.POINTER(_SIZE)
-compile_texts = free.pzic_compile
-compile_texts.argtypes = (
-    ctypes.c_char_p,
-    _SIZE,
-    _NUMBER,
-    _SIZE,
-    _HANDLE,
-    ctypes.POINTER(CFault),
-)
-files_len = held.pzic_files_len
-files_len.argtypes = (_HANDLE, _NUMBER)
-files_find = held.pzic_files_find
-files_find.argtypes = (_HANDLE, ctypes.c_char_p, _SIZE, _NUMBER)
-files_name = held.pzic_files_name
-files_name.argtypes = (_HANDLE, _SIZE, ctypes.c_char_p, _SIZE, _NUMBER)
-files_bytes = held.pzic_files_bytes
-files_bytes.argtypes = (_HANDLE, _SIZE, ctypes.c_char_p, _SIZE, _NUMBER)
-rows = free.pzic_rows
-rows.argtypes = (_HANDLE, ctypes.c_char_p, _SIZE, _HANDLE, ctypes.POINTER(CRowFault))
-rows_text = held.pzic_rows_text
-rows_text.argtypes = (_HANDLE, ctypes.c_char_p, _SIZE, _NUMBER)
-name_of_fault = held.pzic_name_of_fault
-name_of_fault.argtypes = (ctypes.c_uint32, ctypes.c_char_p, _SIZE, _NUMBER)
-name_of_reason = held.pzic_name_of_reason
-name_of_reason.argtypes = name_of_fault.argtypes
-zone_offsets = free.pzic_zone_offsets
-zone_offsets.argtypes = (
-    _HANDLE,
-    ctypes.c_void_p,
-    _SIZE,
-    ctypes.c_void_p,
-    _SIZE,
-    ctypes.c_void_p,
-    _SIZE,
-)
+
+
+def require_ok(status: int) -> None:
+    """Raise an error unless a call did what it is for."""
+    if status != OK:
+        raise RuntimeError(f"libpzic answers {status}")
 
 
 def text_of(call: Any, *words: Any) -> bytes:
     """Return what a call copies, at its whole length. ``words`` come before the room."""
     length = ctypes.c_size_t()
-    call(*words, ctypes.create_string_buffer(1), 0, length)
-    room = ctypes.create_string_buffer(length.value + 1)
-    call(*words, room, length.value, length)
+    require_ok(call(*words, ctypes.create_string_buffer(1), 0, length))
+    room = ctypes.create_string_buffer(max(1, length.value))
+    require_ok(call(*words, room, length.value, length))
     return room.raw[: length.value]

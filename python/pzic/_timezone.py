@@ -2,8 +2,12 @@
 
 from __future__ import annotations
 
+import threading
+import weakref
 from datetime import datetime, timedelta, tzinfo
-from typing import TYPE_CHECKING, Dict, List, NamedTuple, Optional, Tuple
+from typing import TYPE_CHECKING, Any, Dict, List, NamedTuple, Optional, Tuple, Type
+
+from pzic._library import MAX_INSTANT, MIN_INSTANT
 
 if TYPE_CHECKING:
     from pzic._zone import State, Zone
@@ -14,7 +18,10 @@ _SECOND = timedelta(seconds=1)
 _FARTHEST = 26 * 3600
 _ZERO = timedelta(0)
 _HOUR = timedelta(hours=1)
-_OPEN = "-00"
+#: The abbreviation of local time that isn't known: RFC 9636, 3.2.
+_UNKNOWN = "-00"
+#: The most spans that are looked through for another state.
+_MOST_SPANS = 1000
 
 
 def _seconds(dt: datetime) -> int:
@@ -25,9 +32,13 @@ def _seconds(dt: datetime) -> int:
 class _Told(NamedTuple):
     """What is told of a local time."""
 
-    offset: timedelta
-    saved: timedelta
-    name: str
+    offset: Optional[timedelta]
+    saved: Optional[timedelta]
+    name: Optional[str]
+
+
+#: What is told of no local time, where the zone has several.
+_NOTHING = _Told(None, None, None)
 
 
 class _Stretch(NamedTuple):
@@ -102,6 +113,13 @@ def _end_of(second: int, zone: TimeZone) -> datetime:
     return _EPOCH.replace(microsecond=999_999, tzinfo=zone) + timedelta(seconds=second)
 
 
+_Key = Tuple[Type["TimeZone"], bytes, Optional[str]]
+
+#: All that are in use, by class, bytes of the file, and name.
+_all: weakref.WeakValueDictionary[_Key, TimeZone] = weakref.WeakValueDictionary()
+_all_lock = threading.RLock()
+
+
 class TimeZone(tzinfo):
     """A zone for :mod:`datetime`, with the fold of PEP 495.
 
@@ -110,23 +128,64 @@ class TimeZone(tzinfo):
     the second with ``fold=1``; a time that is left out is told by the offset before with
     ``fold=0``, and by the one after with ``fold=1``. Where the file leaves local time open, it is
     UT, under the abbreviation ``-00``. The answers of each year are kept.
+
+    Of each class, one object has the same bytes of a file and the same name, so dates and times of
+    one zone are compared and subtracted as they are shown, also once they were copied or pickled.
     """
 
-    def __init__(self, zone: Zone, key: Optional[str] = None) -> None:
-        self._zone = zone
-        self.key = key
-        self._at_ut = _YearUt(self)
-        self._at_shown = (_YearShown(self, 0), _YearShown(self, 1))
+    __module__ = "pzic"
+
+    _zone: Zone
+    _key: Optional[str]
+    _at_ut: _YearUt
+    _at_shown: Tuple[_YearShown, _YearShown]
+    #: What is told of all local times, once that was asked for.
+    _fixed: Optional[_Told]
+
+    def __new__(cls, zone: Zone, key: Optional[str] = None) -> TimeZone:
+        if key is None:
+            key = zone.key
+        with _all_lock:
+            made = _all.get((cls, zone.data, key))
+            if made is None:
+                made = _all[cls, zone.data, key] = cls._make(zone, key)
+        return made
+
+    @classmethod
+    def _make(cls, zone: Zone, key: Optional[str]) -> TimeZone:
+        """Return one more object."""
+        made = super().__new__(cls)
+        made._zone = zone
+        made._key = key
+        made._at_ut = _YearUt(made)
+        made._at_shown = (_YearShown(made, 0), _YearShown(made, 1))
+        made._fixed = None
+        return made
+
+    @property
+    def key(self) -> Optional[str]:
+        """The name of the zone."""
+        return self._key
 
     def __repr__(self) -> str:
-        return f"pzic.TimeZone(key={self.key!r})"
+        name = f"{type(self).__module__}.{type(self).__qualname__}"
+        return f"{name}(key={self._key!r})" if self._key is not None else f"{name}({self._zone!r})"
+
+    def __str__(self) -> str:
+        return repr(self) if self._key is None else self._key
+
+    def __reduce__(self) -> Tuple[Any, ...]:
+        return type(self), (self._zone, self._key)
+
+    def to_zoneinfo(self) -> tzinfo:
+        """Return a :class:`zoneinfo.ZoneInfo` of the same file and name, as
+        :meth:`Zone.to_zoneinfo` does."""
+        return self._zone.to_zoneinfo(self._key)
 
     def utcoffset(self, dt: Optional[datetime]) -> Optional[timedelta]:
-        """Return the UT offset at a local time."""
-        if dt is None:
-            return None
+        """Return the UT offset at a local time. Without one, return it if it is always the same."""
         # This is the call that programs wait for, so it does itself what `_local` does.
-        if dt.tzinfo is self:
+        if isinstance(dt, datetime) and dt.tzinfo is self:
             for last, told in self._at_shown[dt.fold][dt.year]:
                 if dt <= last:
                     return told[0]
@@ -136,14 +195,16 @@ class TimeZone(tzinfo):
         """Return 0 in standard time, and else by how much the offset differs from that before or
         after. Files don't tell it, so this is a guess, and 1 hour where neither is standard time.
         """
-        return None if dt is None else self._local(dt).saved
+        return self._local(dt).saved
 
     def tzname(self, dt: Optional[datetime]) -> Optional[str]:
         """Return the abbreviation at a local time."""
-        return None if dt is None else self._local(dt).name
+        return self._local(dt).name
 
     def fromutc(self, dt: datetime) -> datetime:
         """Return local time at a UT, with its fold."""
+        if not isinstance(dt, datetime):
+            raise TypeError("fromutc: a datetime is wanted")
         if dt.tzinfo is not self:
             raise ValueError("fromutc: dt.tzinfo is not self")
         # Of two times with one tzinfo the fields are compared.
@@ -153,13 +214,30 @@ class TimeZone(tzinfo):
                 return shown.replace(fold=1) if again else shown
         raise AssertionError("a year has an end")
 
-    def _local(self, dt: datetime) -> _Told:
+    def _local(self, dt: Optional[datetime]) -> _Told:
+        if dt is None:
+            if self._fixed is None:
+                self._fixed = self._always()
+            return self._fixed
+        if not isinstance(dt, datetime):
+            raise TypeError("a datetime is wanted")
         if dt.tzinfo is not self:
             dt = dt.replace(tzinfo=self)
         for last, told in self._at_shown[dt.fold][dt.year]:
             if dt <= last:
                 return told
         raise AssertionError("a year has an end")
+
+    def _always(self) -> _Told:
+        """Return what is told of all local times, if that is the same."""
+        span = first = self._zone.span(MIN_INSTANT)
+        for _ in range(_MOST_SPANS):
+            if span.state != first.state or span.state is None:
+                return _NOTHING
+            if span.last == MAX_INSTANT:
+                return self._told(_Stretch(span.state, MIN_INSTANT, MAX_INSTANT, 0, 0))
+            span = self._zone.span(span.last + 1)
+        return _NOTHING
 
     def _stretches(self, first: int, last: int) -> List[_Stretch]:
         """Return what the zone says from one instant to another, with the offset before."""
@@ -175,7 +253,7 @@ class TimeZone(tzinfo):
 
     def _offset_before(self, first: int, offset: int) -> int:
         """Return the offset before the first instant of a span with this offset."""
-        if first == -(2**63):
+        if first == MIN_INSTANT:
             return offset
         state = self._zone.at(first - 1)
         return state.offset if state else 0
@@ -183,17 +261,18 @@ class TimeZone(tzinfo):
     def _told(self, stretch: _Stretch) -> _Told:
         state = stretch.state
         if state is None:
-            return _Told(_ZERO, _ZERO, _OPEN)
+            return _Told(_ZERO, _ZERO, _UNKNOWN)
         saved = self._saved(state, stretch.first, stretch.last) if state.daylight else _ZERO
         return _Told(timedelta(seconds=state.offset), saved, state.name)
 
     def _saved(self, state: State, first: int, last: int) -> timedelta:
         near = []
-        if first != -(2**63):
+        if first != MIN_INSTANT:
             near.append(self._zone.at(first - 1))
-        if last != 2**63 - 1:
+        if last != MAX_INSTANT:
             near.append(self._zone.at(last + 1))
         for other in near:
-            if other and not other.daylight and other.offset != state.offset:
+            is_standard = other and not other.daylight and other.name != _UNKNOWN
+            if other and is_standard and other.offset != state.offset:
                 return timedelta(seconds=state.offset - other.offset)
         return _HOUR

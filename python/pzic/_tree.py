@@ -4,57 +4,81 @@ from __future__ import annotations
 
 import ctypes
 import os
-from typing import Dict, Iterator, Mapping, Union
+import stat
+from functools import lru_cache
+from typing import Any, Dict, Iterator, Mapping, Tuple, Type, Union
 
 from pzic import _library as c
-from pzic._zone import BadFile, Zone
+from pzic._array import Columns, convert_columns
+from pzic._errors import BadFile, BadName, BadRow, BadSource, NoSuchZone
+from pzic._handle import Owned, bytes_of
+from pzic._timezone import TimeZone
+from pzic._zone import Zone, zone_named
+
+_Path = Union[str, "os.PathLike[str]"]
+
+#: The most bytes of a file of a zone.
+_MOST_BYTES = 1 << 20
 
 
-def fault_name(kind: int) -> str:
-    """Return the name of a fault's kind, as the program prints it."""
-    return c.text_of(c.name_of_fault, kind).decode("ascii")
+class _Zones(Mapping[str, Zone]):
+    """Zones by name, each made when it is first asked for."""
+
+    def __init__(self) -> None:
+        self._zones: Dict[str, Zone] = {}
+        self._tzinfos: Dict[str, TimeZone] = {}
+
+    def _make(self, name: str) -> Zone:
+        """Return the zone of a name, or raise :class:`NoSuchZone`."""
+        raise NotImplementedError
+
+    def __getitem__(self, name: str) -> Zone:
+        if not isinstance(name, str) or not name.isascii():
+            raise NoSuchZone(name)
+        zone = self._zones.get(name)
+        return self._zones.setdefault(name, self._make(name)) if zone is None else zone
+
+    def data(self, name: str) -> bytes:
+        """Return the bytes of the TZif file of a name."""
+        return self[name].data
+
+    def tzinfo(self, name: str) -> TimeZone:
+        """Return the zone of a name for :mod:`datetime`, each time the same object."""
+        made = self._tzinfos.get(name)
+        return self._tzinfos.setdefault(name, self[name].tzinfo()) if made is None else made
+
+    def convert_columns(self, names: Any, instants: Any) -> Columns:
+        """Return local time at many instants, with a zone for each.
+
+        ``names`` are a pandas Series of texts or categories, a numpy array or a list, and
+        ``instants`` seconds from 1970 (``int64``) or ``datetime64``, of numpy or pandas. Raises
+        :class:`NoSuchZone` for a name that no file has or that is missing. Needs numpy.
+        """
+        return convert_columns(self, names, instants)
 
 
-class BadSource(ValueError):
-    """Texts that are no source. ``text`` and ``line`` are the numbers of the text and of its line
-    where the first fault is, both from 1, and ``kind`` the name of the fault's kind."""
-
-    def __init__(self, text: int, line: int, kind: str) -> None:
-        super().__init__(f"text {text}, line {line}: {kind}")
-        self.text = text
-        self.line = line
-        self.kind = kind
-
-
-class BadRow(ValueError):
-    """A column with a row that has a fault. ``row`` is the number of the first, from 1, ``kind`` the
-    name of the fault's kind, and ``rows`` are the rows before it."""
-
-    def __init__(self, row: int, kind: str, rows: bytes) -> None:
-        super().__init__(f"row {row}: {kind}")
-        self.row = row
-        self.kind = kind
-        self.rows = rows
-
-
-class Tree(Mapping[str, Zone]):
+class Tree(_Zones):
     """The zones of a folder of TZif files, by name: ``tree["Europe/Dublin"]``.
 
-    A file is read when its zone is asked for, and once. :class:`KeyError` says that no file has the
-    name, and :class:`BadFile` that the file isn't a TZif file.
+    A file is read when its zone is asked for, and once. :class:`NoSuchZone`, a :class:`KeyError`,
+    says that no file has the name, :class:`BadName` that no file can have it, and :class:`BadFile`
+    that the file isn't a TZif file of version 2 or 3. The names that are listed are those of the files that can be opened; folders that are
+    links aren't looked through.
     """
 
-    def __init__(self, folder: Union[str, "os.PathLike[str]"]) -> None:
-        self._folder = os.fspath(folder)
-        self._zones: Dict[str, Zone] = {}
+    __module__ = "pzic"
+
+    def __init__(self, folder: _Path) -> None:
+        super().__init__()
+        self._folder = os.path.abspath(os.fsdecode(folder))
 
     @classmethod
-    def open(cls, folder: Union[str, "os.PathLike[str]"]) -> Tree:
+    def open(cls, folder: _Path) -> Tree:
         """Return the zones of a folder, such as the system's ``/usr/share/zoneinfo``."""
         return cls(folder)
 
     @staticmethod
-    def compile(*paths: Union[str, "os.PathLike[str]"]) -> Compiled:
+    def compile(*paths: _Path) -> Compiled:
         """Return the zones of a source: of the texts of Rule, Zone, continuation and Link lines in
         these files, one after another.
 
@@ -66,30 +90,47 @@ class Tree(Mapping[str, Zone]):
                 texts.append(file.read())
         return Compiled(*texts)
 
-    def __getitem__(self, name: str) -> Zone:
-        zone = self._zones.get(name)
-        if zone is None:
-            zone = self._zones.setdefault(name, Zone(self._read(name)))
-        return zone
+    @property
+    def folder(self) -> str:
+        """The absolute path of the folder."""
+        return self._folder
+
+    def __repr__(self) -> str:
+        return f"pzic.Tree({self._folder!r})"
+
+    def __reduce__(self) -> Tuple[Type[Tree], Tuple[str]]:
+        return type(self), (self._folder,)
+
+    def _make(self, name: str) -> Zone:
+        return zone_named(self._read(name), name, (zone_of_folder, (self._folder, name)))
 
     def _read(self, name: str) -> bytes:
         parts = name.split("/")
-        if not name.isascii() or "\0" in name or any(part in ("", ".", "..") for part in parts):
-            raise KeyError(name)
+        if "\0" in name or any(part in ("", ".", "..") for part in parts):
+            raise BadName(name)
         try:
-            with open(os.path.join(self._folder, *parts), "rb") as file:
-                return file.read()
-        except (FileNotFoundError, IsADirectoryError, NotADirectoryError):
-            raise KeyError(name) from None
+            # To open a pipe would wait for its writer.
+            number = os.open(os.path.join(self._folder, *parts), os.O_RDONLY | os.O_NONBLOCK)
+        except PermissionError:
+            raise
+        except OSError:
+            raise NoSuchZone(name) from None
+        try:
+            if not stat.S_ISREG(os.fstat(number).st_mode):
+                raise NoSuchZone(name)
+            with open(number, "rb", closefd=False) as file:
+                return file.read(_MOST_BYTES + 1)
+        finally:
+            os.close(number)
 
     def __iter__(self) -> Iterator[str]:
         for folder, folders, names in os.walk(self._folder):
             folders.sort()
+            within = os.path.relpath(folder, self._folder)
             for name in sorted(names):
-                path = os.path.join(folder, name)
-                with open(path, "rb") as file:
-                    if file.read(4) == b"TZif":
-                        yield os.path.relpath(path, self._folder).replace(os.sep, "/")
+                path = os.path.normpath(os.path.join(within, name))
+                if path in self:
+                    yield path
 
     def __len__(self) -> int:
         return sum(1 for _ in self)
@@ -97,39 +138,47 @@ class Tree(Mapping[str, Zone]):
     def __contains__(self, name: object) -> bool:
         try:
             self[name]  # type: ignore[index]
-        except (KeyError, BadFile):
+        except (KeyError, BadFile, OSError):
             return False
         return True
 
 
-class Compiled(Mapping[str, Zone]):
+@lru_cache(maxsize=16)
+def _opened(folder: str) -> Tree:
+    return Tree(folder)
+
+
+def zone_of_folder(folder: str, name: str) -> Zone:
+    """Return a zone of a pickle. A process reads a file for its pickles once."""
+    return _opened(folder)[name]
+
+
+class Compiled(_Zones):
     """The zones of a source, by name, in the order of its texts and their lines."""
 
+    __module__ = "pzic"
+
     def __init__(self, *texts: bytes) -> None:
-        self._handle = c.Handle()
-        fault = c.CFault()
-        # No pointer may be NULL: so the array has an item more than there are texts.
-        lengths = (ctypes.c_size_t * (len(texts) + 1))(*map(len, texts))
-        whole = b"".join(texts)
-        status = c.compile_texts(whole, len(whole), lengths, len(texts), self._handle, fault)
-        if status == c.BAD_SOURCE:
-            raise BadSource(fault.text, fault.line, fault_name(fault.kind))
-        if status == c.NO_MEMORY:
-            raise MemoryError
-        self._zones: Dict[str, Zone] = {}
+        super().__init__()
+        self._texts = tuple(map(bytes_of, texts))
+        self._owned = _compile(self._texts)
 
-    def __del__(self) -> None:
-        handle = getattr(self, "_handle", None)
-        if handle is not None:
-            c.release(handle)
+    def __copy__(self) -> Compiled:
+        return self
 
-    def data(self, name: str) -> bytes:
-        """Return the bytes of the TZif file of a name, or raise :class:`KeyError`."""
-        wanted = name.encode("utf-8")
+    def __deepcopy__(self, memo: object) -> Compiled:
+        return self
+
+    def __reduce__(self) -> Tuple[Type[Compiled], Tuple[bytes, ...]]:
+        return type(self), self._texts
+
+    def _make(self, name: str) -> Zone:
+        wanted = name.encode("ascii")
         number = ctypes.c_size_t()
-        if c.files_find(self._handle, wanted, len(wanted), number) != c.OK:
-            raise KeyError(name)
-        return c.text_of(c.files_bytes, self._handle, number.value)
+        handle = self._owned.lend()
+        if c.files_find(handle, wanted, len(wanted), number) == c.NO_SUCH:
+            raise NoSuchZone(name)
+        return zone_named(c.text_of(c.files_bytes, handle, number.value), name)
 
     def convert(self, column: bytes) -> bytes:
         """Return the rows of a column, as ``pzic convert`` writes them. Each record of the column is
@@ -138,35 +187,39 @@ class Compiled(Mapping[str, Zone]):
 
         Raises :class:`BadRow` at the first row that has a fault, and :class:`MemoryError`.
         """
-        files = c.Handle()
-        rows = c.Handle()
+        column = bytes_of(column)
+        handle = c.Handle()
         fault = c.CRowFault()
-        # The other calls keep Python's lock, and this one has a handle of its own.
-        if c.share(self._handle, files) == c.NO_MEMORY:
-            raise MemoryError
-        try:
-            status = c.rows(files, column, len(column), rows, fault)
-            if status == c.NO_MEMORY:
-                raise MemoryError
-            text = c.text_of(c.rows_text, rows)
-        finally:
-            c.release(files)
-            c.release(rows)
+        status = c.rows(self._owned.lend(), column, len(column), handle, fault)
+        rows = Owned(handle)
+        text = c.text_of(c.rows_text, rows.lend())
         if status == c.BAD_ROW:
             raise BadRow(fault.row, fault_name(fault.kind), text)
         return text
 
-    def __getitem__(self, name: str) -> Zone:
-        zone = self._zones.get(name)
-        if zone is None:
-            zone = self._zones.setdefault(name, Zone(self.data(name)))
-        return zone
-
     def __iter__(self) -> Iterator[str]:
         for number in range(len(self)):
-            yield c.text_of(c.files_name, self._handle, number).decode("ascii")
+            yield c.text_of(c.files_name, self._owned.lend(), number).decode("ascii")
 
     def __len__(self) -> int:
         count = ctypes.c_size_t()
-        c.files_len(self._handle, count)
+        c.require_ok(c.files_len(self._owned.lend(), count))
         return count.value
+
+
+def fault_name(kind: int) -> str:
+    """Return the name of a fault's kind, as the program prints it."""
+    return c.text_of(c.name_of_fault, kind).decode("ascii")
+
+
+def _compile(texts: Tuple[bytes, ...]) -> Owned:
+    """Compile texts."""
+    handle = c.Handle()
+    fault = c.CFault()
+    # No pointer may be NULL: so the array has an item more than there are texts.
+    lengths = (ctypes.c_size_t * (len(texts) + 1))(*map(len, texts))
+    whole = b"".join(texts)
+    status = c.compile_texts(whole, len(whole), lengths, len(texts), handle, fault)
+    if status == c.BAD_SOURCE:
+        raise BadSource(fault.text, fault.line, fault_name(fault.kind))
+    return Owned(handle)

@@ -2,31 +2,24 @@
 
 from __future__ import annotations
 
-import array
 import ctypes
-from typing import Any, Dict, NamedTuple, Optional, Tuple
+import datetime
+import io
+import sys
+from operator import index
+from typing import Any, Callable, Dict, NamedTuple, Optional, Tuple
 
 from pzic import _library as c
+from pzic._array import convert_array
+from pzic._errors import BadFile
+from pzic._handle import Owned, bytes_of
 from pzic._timezone import TimeZone
-
-#: The flag of daylight saving time in a column.
-DAYLIGHT = 1
-#: The flag of an instant at which the file leaves local time open.
-OPEN = 2
 
 #: A span is kept for the instants near the one at which it was asked for: those with the same bits
 #: above these, 48 days.
 _SLOT_BITS = 22
 #: The most spans that are kept.
 _MOST_SPANS = 4096
-
-
-class BadFile(ValueError):
-    """Bytes that are no TZif file. ``reason`` names the first check that they fail."""
-
-    def __init__(self, reason: str) -> None:
-        super().__init__(f"no TZif file: {reason}")
-        self.reason = reason
 
 
 class State(NamedTuple):
@@ -49,31 +42,63 @@ class Span(NamedTuple):
     last: int
 
 
-class Zone:
-    """A zone, read from the bytes of a TZif file.
+#: Pickles name these by the package, so that its modules may change.
+State.__module__ = Span.__module__ = "pzic"
 
-    Raises :class:`BadFile` where they are no such file, and :class:`MemoryError`. A zone may be used
-    by any number of threads.
+
+#: A function that makes a zone, and its words.
+_Source = Tuple[Callable[..., "Zone"], Tuple[Any, ...]]
+
+
+class Zone:
+    """A zone, read from the bytes of a TZif file of version 2 or 3.
+
+    Raises :class:`BadFile` where they are no such file, and :class:`MemoryError`. A zone never
+    changes, and may be used by any number of threads. Zones of the same bytes are equal.
     """
 
-    __slots__ = ("_handle", "_spans", "__weakref__")
+    __module__ = "pzic"
+    __slots__ = ("_owned", "_data", "_key", "_source", "_spans", "__weakref__")
 
     def __init__(self, data: bytes) -> None:
-        self._handle = c.Handle()
+        self._data = bytes_of(data)
+        self._owned = _read(self._data)
+        self._key: Optional[str] = None
+        #: How another process makes the zone.
+        self._source: _Source = (type(self), (self._data,))
         #: Spans that were asked for, by the highest bits of an instant in them.
         self._spans: Dict[int, Span] = {}
-        data = bytes(data)
-        reason = ctypes.c_uint32()
-        status = c.zone_read(data, len(data), self._handle, reason)
-        if status == c.BAD_FILE:
-            raise BadFile(c.text_of(c.name_of_reason, reason.value).decode("ascii"))
-        if status == c.NO_MEMORY:
-            raise MemoryError
 
-    def __del__(self) -> None:
-        handle = getattr(self, "_handle", None)
-        if handle is not None:
-            c.release(handle)
+    @property
+    def data(self) -> bytes:
+        """The bytes of the file."""
+        return self._data
+
+    @property
+    def key(self) -> Optional[str]:
+        """The name under which a tree has the zone."""
+        return self._key
+
+    def __repr__(self) -> str:
+        what = f"of {len(self._data)} bytes" if self._key is None else repr(self._key)
+        return f"<pzic.Zone {what}>"
+
+    def __eq__(self, other: object) -> bool:
+        if not isinstance(other, Zone):
+            return NotImplemented
+        return self._data == other._data
+
+    def __hash__(self) -> int:
+        return hash(self._data)
+
+    def __copy__(self) -> Zone:
+        return self
+
+    def __deepcopy__(self, memo: object) -> Zone:
+        return self
+
+    def __reduce__(self) -> _Source:
+        return self._source
 
     def at(self, instant: int) -> Optional[State]:
         """Return local time at an instant, or ``None`` where the file leaves it open."""
@@ -94,7 +119,7 @@ class Zone:
         span = self._spans.get(instant >> _SLOT_BITS)
         if span is not None and span.first <= instant <= span.last:
             return span
-        return self._ask(instant)
+        return self._ask(index(instant))
 
     def _ask(self, instant: int) -> Span:
         """Ask the library for a span, and keep it."""
@@ -103,9 +128,8 @@ class Zone:
         state = c.CState()
         first = ctypes.c_int64()
         last = ctypes.c_int64()
-        status = c.zone_span(self._handle, instant, state, first, last)
         told = None
-        if status == c.OK:
+        if c.zone_span(self._owned.lend(), instant, state, first, last) != c.UNSPECIFIED:
             told = State(state.offset, bool(state.daylight), state.name.decode("ascii"))
         span = Span(told, first.value, last.value)
         if len(self._spans) >= _MOST_SPANS:
@@ -119,86 +143,48 @@ class Zone:
         """Return the UT offset and the flags at each of many instants, in any order.
 
         ``instants`` is whatever has the buffer protocol with items of 8 bytes with a sign, as an
-        :class:`array.array` of ``"q"`` or a numpy array of ``int64``; ``datetime64[s]`` is viewed as
-        that by ``instants.view("int64")``. The offsets are written to ``offsets``, which has items
-        of 4 bytes with a sign, as a numpy array of ``int32``, and the flags to ``flags``, of single
-        bytes: 0, :data:`DAYLIGHT` or :data:`OPEN`. Each is made where it is left out. Other
-        threads of Python can run in the meantime; none may write to the three.
+        :class:`array.array` of ``"q"`` or a numpy array of ``int64``, or a numpy array of
+        ``datetime64`` or a pandas Series of either. The offsets are written to ``offsets``, which
+        has items of 4 bytes with a sign, as a numpy array of ``int32``, and the flags to ``flags``,
+        of single bytes: 0, :data:`DAYLIGHT` or :data:`OPEN`. Each is made where it is left out.
+        A missing instant (``NaT``) has offset 0 and :data:`OPEN`.
+
+        Other threads of Python can run in the meantime; none may write to the three. Raises
+        :class:`TypeError` for items of another kind, and :class:`ValueError` where the three differ
+        in length, overlap or aren't aligned.
         """
-        source = _items(instants, "lq", 8, False)
-        count = len(source)
-        if offsets is None:
-            offsets = array.array("i", bytes(4 * count))
-        if flags is None:
-            flags = bytearray(count)
-        offset_items = _items(offsets, "il", 4, True)
-        flag_items = _items(flags, "B", 1, True)
-        if len(offset_items) != count or len(flag_items) != count:
-            raise ValueError("the arrays differ in length")
-        handle = c.Handle()
-        # The other calls keep Python's lock, and this one has a handle of its own.
-        if c.share(self._handle, handle) == c.NO_MEMORY:
-            raise MemoryError
-        try:
-            c.zone_offsets(
-                handle,
-                _address(source),
-                count,
-                _address(offset_items),
-                count,
-                _address(flag_items),
-                count,
-            )
-        finally:
-            c.release(handle)
-        return offsets, flags
+        return convert_array(self._owned, instants, offsets, flags)
 
     def tzinfo(self, key: Optional[str] = None) -> TimeZone:
-        """Return the zone for :mod:`datetime`. ``key`` is the name that it shows."""
+        """Return the zone for :mod:`datetime`. ``key`` is the name that it shows, by default the
+        one in the tree."""
         return TimeZone(self, key)
 
+    def to_zoneinfo(self, key: Optional[str] = None) -> datetime.tzinfo:
+        """Return a :class:`zoneinfo.ZoneInfo` of the same file, which is Python's own reading of
+        it, for what knows no other zones, as pandas. Needs Python 3.9."""
+        if sys.version_info >= (3, 9):
+            from zoneinfo import ZoneInfo
 
-def _items(values: Any, codes: str, size: int, writable: bool) -> memoryview:
-    """Return a view of a buffer, once its items are of these."""
-    view = memoryview(values)
-    code = view.format.lstrip("@=<")
-    if code not in codes or view.itemsize != size or view.ndim != 1 or not view.c_contiguous:
-        raise TypeError(f"items of {size} bytes, one after another, are wanted")
-    if writable and view.readonly:
-        raise TypeError("the buffer can't be written to")
-    return view
+            return ZoneInfo.from_file(io.BytesIO(self._data), key=key or self._key)
+        raise ImportError("zoneinfo comes with Python 3.9")
 
 
-class _PyBuffer(ctypes.Structure):
-    _fields_ = (
-        ("buf", ctypes.c_void_p),
-        ("obj", ctypes.py_object),
-        ("len", ctypes.c_ssize_t),
-        ("itemsize", ctypes.c_ssize_t),
-        ("readonly", ctypes.c_int),
-        ("ndim", ctypes.c_int),
-        ("format", ctypes.c_char_p),
-        ("shape", ctypes.c_void_p),
-        ("strides", ctypes.c_void_p),
-        ("suboffsets", ctypes.c_void_p),
-        ("internal", ctypes.c_void_p),
-    )
+def zone_named(data: bytes, key: str, source: Optional[_Source] = None) -> Zone:
+    """Return the zone of these bytes under a name. The source is how another process makes it, by
+    default from the same."""
+    zone = Zone(data)
+    zone._key = key
+    zone._source = source or (zone_named, (data, key))
+    return zone
 
 
-_get_buffer = ctypes.pythonapi.PyObject_GetBuffer
-_get_buffer.argtypes = (ctypes.py_object, ctypes.POINTER(_PyBuffer), ctypes.c_int)
-_release = ctypes.pythonapi.PyBuffer_Release
-_release.argtypes = (ctypes.POINTER(_PyBuffer),)
-_release.restype = None
-
-#: What an empty buffer's address is, since no pointer may be NULL.
-_SOMEWHERE = ctypes.c_int64()
-
-
-def _address(view: memoryview) -> int:
-    """Return where a buffer lies. The view keeps it there."""
-    raw = _PyBuffer()
-    _get_buffer(view, raw, 0)
-    at = raw.buf
-    _release(raw)
-    return at or ctypes.addressof(_SOMEWHERE)
+def _read(data: bytes) -> Owned:
+    """Read a zone."""
+    handle = c.Handle()
+    reason = ctypes.c_uint32()
+    if c.zone_read(data, len(data), handle, reason) == c.BAD_FILE:
+        name = c.text_of(c.name_of_reason, reason.value).decode("ascii")
+        footer = b"".join(data.rsplit(b"\n", 2)[1:2]) if name == "Footer" else b""
+        raise BadFile(name, footer[:100].decode("ascii", "backslashreplace"))
+    return Owned(handle)

@@ -9,6 +9,7 @@ mod calendar;
 mod call;
 mod files;
 mod lines;
+mod local_times;
 mod occurrences;
 mod sources;
 mod states;
@@ -70,6 +71,7 @@ fn answer(alloc: Global, line: &str, answers: &mut Answers) -> Result<(), Refusa
         "calendar" => calendar::answer(&call, answers),
         "files" => files::answer(alloc, &call, answers),
         "lines" => lines::answer(alloc, &call, answers),
+        "local_times" => local_times::answer(alloc, &call, answers),
         "strings" => strings::answer(alloc, &call, answers),
         "words" => words::answer(alloc, &call, answers),
         _ => answer_of_source(alloc, &call, answers),

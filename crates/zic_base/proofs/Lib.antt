@@ -1,4 +1,5 @@
 pub mod MemoryLemmas
+pub mod ZoneStops
 pub mod Checks
 pub mod Elements
 pub mod Lists

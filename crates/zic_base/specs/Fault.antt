@@ -8,6 +8,8 @@ use Rattle.zic_base.specs.declared.fault.Kind.{Kind}
 use Rattle.zic_base.specs.declared.fault.Kind.TheVariants as kind
 use Rattle.zic_base.specs.declared.fault.Stop.{Stop}
 use Rattle.zic_base.specs.declared.fault.Stop.TheVariants as stops
+use Rattle.zic_base.specs.declared.zone_stop.ZoneStop.{ZoneStop}
+use Rattle.zic_base.specs.declared.zone_stop.ZoneStop.TheVariants as zone_stops
 
 -- this kind of fault at this place
 abbrev pub fault_at : Place → Kind → Fault
@@ -17,6 +19,16 @@ fault_at place kind = record { place = place; kind = kind }
 abbrev pub fault_of : Stop → Option Fault
 fault_of (stops.Fault fault) = Some fault
 fault_of stops.Memory = None
+
+-- the kind of fault that a zone's stop tells, and nothing where it is out of memory
+abbrev pub kind_of : ZoneStop → Option Kind
+kind_of (zone_stops.Fault kind) = Some kind
+kind_of zone_stops.Memory = None
+
+-- the stop for a zone whose Zone line stands at this place
+abbrev pub stop_at : Place → ZoneStop → Stop
+stop_at place (zone_stops.Fault kind) = stops.Fault (fault_at place kind)
+stop_at place zone_stops.Memory = stops.Memory
 
 -- The fault of what fails some checks at this place: the kind is that of the first check that fails.
 abbrev pub IsFirstFailed : Place → List (Check Kind) → Fault → Type 0

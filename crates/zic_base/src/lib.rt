@@ -14,6 +14,7 @@ mod row_fault;
 mod run_stop;
 mod short_text;
 mod state;
+mod zone_stop;
 
 pub use byte::{are_abbreviation_bytes, is_abbreviation_byte};
 pub use digits::{clock_text, offset_text, two_digits};
@@ -26,3 +27,4 @@ pub use row_fault::{RowFault, RowKind};
 pub use run_stop::RunStop;
 pub use short_text::ShortText;
 pub use state::State;
+pub use zone_stop::ZoneStop;

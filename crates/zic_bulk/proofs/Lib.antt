@@ -1,3 +1,4 @@
+pub mod zone_images
 pub mod Merging
 pub mod Entries
 pub mod FilesOfEntries

@@ -8,10 +8,10 @@ use Rattle.zic_source.specs.Source.{SourceLines}
 use Rattle.zic_source.proofs.faults.FirstFault.{one_first_fault, source_has_no_fault}
 use Rattle.zic_source.proofs.reading.Once.{read_once}
 use Rattle.zic_source.proofs.sound.Sources.{source_is_sound}
-use Rattle.zic_rules.specs.Period.{zone_of}
-use Rattle.zic_table.specs.Image.{IsFaultOfZone}
-use Rattle.zic_table.proofs.OneFault.{one_fault}
-use Rattle.zic_table.proofs.OneImage.{images_without_fault}
+use Rattle.zic_rules.specs.Timeline.{zone_of}
+use Rattle.zic_bulk.specs.Image.{IsFaultOfZone}
+use Rattle.zic_bulk.proofs.zone_images.OneFault.{one_fault}
+use Rattle.zic_bulk.proofs.zone_images.OneImage.{images_without_fault}
 use Rattle.zic_bulk.specs.Files.{IsFaultOfFiles}
 use Rattle.zic_bulk.specs.Laws.{TextsHaveOneFault}
 use Rattle.zic_bulk.proofs.OneFiles.{is_whole}

@@ -17,12 +17,12 @@ use Rattle.zic_source.proofs.faults.Order.{before_before, not_before_itself}
 use Rattle.zic_source.proofs.reading.Once.{read_once}
 use Rattle.zic_source.proofs.sound.Sources.{source_is_sound}
 use Rattle.zic_states.proofs.Lines.{orderly}
-use Rattle.zic_rules.specs.Period.{zone_of}
+use Rattle.zic_rules.specs.Timeline.{zone_of}
 use Rattle.zic_rules.specs.Timeline.{IsWholeZone}
 use Rattle.zic_files.specs.File.{FileImage, File}
-use Rattle.zic_table.specs.Image.{IsImageOf}
-use Rattle.zic_table.proofs.OneFault.{has_end}
-use Rattle.zic_table.proofs.OneImage.{one_image, images_without_fault}
+use Rattle.zic_bulk.specs.Image.{IsImageOf}
+use Rattle.zic_bulk.proofs.zone_images.OneFault.{has_end}
+use Rattle.zic_bulk.proofs.zone_images.OneImage.{one_image, images_without_fault}
 use Rattle.zic_bulk.specs.Files.{AreImagesOf, IsFileAt, IsFileOfZone, IsFileOfLink, AreFilesOf, IsFaultOfFiles}
 use Rattle.zic_bulk.specs.Laws.{TextsHaveOneListOfFiles, NoFilesHaveAFault}
 use Rattle.zic_base.proofs.Options.{some_of}

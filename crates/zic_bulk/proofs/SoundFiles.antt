@@ -13,7 +13,7 @@ use Rattle.zic_source.specs.Sound.{IsSoundSource, IsSoundZone, IsSoundLink, name
 use Rattle.zic_source.specs.Source.{SourceLines, ZoneLines, zone_at}
 use Rattle.zic_base.proofs.Elements.{all_got, get_contained}
 use Rattle.zic_source.proofs.faults.Order.{not_before_itself}
-use Rattle.zic_rules.specs.Period.{zone_of}
+use Rattle.zic_rules.specs.Timeline.{zone_of}
 use Rattle.zic_rules.proofs.Limits.{shows_within_limits}
 use Rattle.zic_posix.specs.Footer.{TzString}
 use Rattle.zic_posix.specs.Printing.{printed, printed_name, printed_offset, printed_rest, printed_seconds, printed_number}

@@ -8,9 +8,9 @@ use Rattle.zic_base.specs.declared.fault.Kind.TheVariants as kind
 use Rattle.zic_base.specs.declared.fault.Stop.{Stop}
 use Rattle.zic_base.specs.declared.fault.Stop.TheVariants as stop
 use Rattle.zic_source.specs.Source.{SourceLines}
-use Rattle.zic_rules.specs.Period.{zone_of}
+use Rattle.zic_rules.specs.Timeline.{zone_of}
 use Rattle.zic_files.specs.File.{FileImage, no_image}
-use Rattle.zic_table.specs.Image.{IsImageOf, IsFaultOfZone, ImageNeedsMemory}
+use Rattle.zic_bulk.specs.Image.{IsImageOf, IsFaultOfZone, ImageNeedsMemory}
 use Rattle.zic_bulk.specs.Files.{IsReadImage, AreImagesOf, CompileNeedsMemory}
 use Rattle.zic_bulk.specs.code.Zones.{AreImagesWithin, HaveImagesWithin, IsFaultWithin, NeedsMemoryWithin}
 

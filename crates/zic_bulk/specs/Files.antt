@@ -9,9 +9,9 @@ use Rattle.zic_lines.specs.declared.link.Link.{Link}
 use Rattle.zic_source.specs.Links.{EndsAt}
 use Rattle.zic_source.specs.Source.{SourceLines, zone_at}
 use Rattle.zic_states.specs.Zone.{Zone}
-use Rattle.zic_rules.specs.Period.{zone_of}
+use Rattle.zic_rules.specs.Timeline.{zone_of}
 use Rattle.zic_files.specs.File.{FileImage, File}
-use Rattle.zic_table.specs.Image.{IsImageOf, ReadsAs, IsFaultOfZone, ImageNeedsMemory}
+use Rattle.zic_bulk.specs.Image.{IsImageOf, ReadsAs, IsFaultOfZone, ImageNeedsMemory}
 
 -- a zone's image, which, read by RFC 9636, gives at every instant what the zone's lines define
 pub record IsReadImage (zone : Zone) (of_zone : FileImage) : Type 0 where

@@ -5,10 +5,10 @@ ghost use Rattle.zic_base.specs.Fault.{fault_of};
 ghost use Rattle.zic_base.specs.Memory.{IfRefusal, OnOutOfMemory};
 ghost use Rattle.zic_bulk.specs.code.Zones.{AreImagesWithin, IsFaultWithin, NeedsMemoryWithin};
 
+use crate::image::image_of;
 use std::alloc::Global;
 use zic_files::Image;
 use zic_source::{Source, Stop};
-use zic_table::image_of;
 
 /// Returns the images of the zones from one number on up to another, in order, or the fault of the
 /// first that has one.

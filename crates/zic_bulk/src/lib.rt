@@ -5,12 +5,14 @@
 mod builder;
 mod compiler;
 mod entry;
+mod image;
 mod images;
 pub mod laws;
 mod pieces;
 
 pub use builder::build;
 pub use compiler::compile;
+pub use image::image_of;
 pub use zic_base::{RowKind, RunStop};
 pub use zic_convert::convert;
 pub use zic_counted::Counted;

@@ -32,7 +32,7 @@ neither false false none = (refl, refl)
 neither true b none = absurd (cc none)
 neither false true none = absurd (cc none)
 
-either : (a b : Bool) → (a || b) ≡ true → a ≡ false → b ≡ true
+pub either : (a b : Bool) → (a || b) ≡ true → a ≡ false → b ≡ true
 either false b some none = some
 either true b some none = absurd (cc none)
 

@@ -1,9 +1,7 @@
 -- What a search for bytes says of the parts between them.
-use Rattle.std.proofs.Common.{◌≡◌, ℕ, ◌+◌, ◌<◌, ◌≤◌, Bool, false, All, List, [], ◌∷◌, ◌++◌, length, take, drop, get_or, Some, None, sym, ap, ◌∙◌, arith, subst, ◌==◌, ◌≢◌, Option, MatchOption}
-use Rattle.std.specs.List.{slice_split}
+use Rattle.std.proofs.Common.{◌≡◌, ℕ, ◌+◌, ◌<◌, ◌≤◌, Bool, false, All, List, length, take, drop, get_or, Some, None, ap, ◌∙◌, arith, subst, ◌==◌, ◌≢◌, Option, MatchOption}
 use Rattle.std.proofs.lemmas.Bool.{eqb-false, eqb-true, false_from_ne_true}
-use Rattle.std.proofs.lemmas.List.{drop_more, get_or-take, get_or-drop, get_or_default, length-drop, length-take-le, take-append-drop, take_all}
-use Rattle.std.proofs.lemmas.List.Splits.{slice_split_at, slice_split_none}
+use Rattle.std.proofs.lemmas.List.{get_or-take, get_or-drop, get_or_default, length-drop, length-take-le, take_all}
 use Rattle.std.proofs.lemmas.List.Elements.{All-weaker}
 use Rattle.memchr.specs.Find.{IsFirstByte, Nowhere, Passes, is_byte}
 use Rattle.zic_columns.specs.Column.{HasNoQuote}

@@ -1,6 +1,6 @@
 -- How many bytes a record has of its own.
-use Rattle.std.proofs.Common.{◌≡◌, ◌+◌, ◌-◌, ◌<◌, ◌==◌, ◌||◌, ℕ, suc, Bool, true, false, cond, All, List, [], ◌∷◌, ◌++◌, length, take, drop, get_or, Option, Some, None, refl, sym, ap, ◌∙◌, subst, ⊎_elim, append_assoc, drop-cons, length-append, arith}
-use Rattle.std.proofs.lemmas.Bool.{both_ways, cases_Bool, cond_both, ne_eqb}
+use Rattle.std.proofs.Common.{◌≡◌, ◌+◌, ◌-◌, ◌==◌, ℕ, true, false, cond, All, List, [], ◌∷◌, ◌++◌, length, take, drop, Option, Some, None, refl, sym, ap, ◌∙◌, ⊎_elim, append_assoc, length-append, arith}
+use Rattle.std.proofs.lemmas.Bool.{cases_Bool, cond_both}
 use Rattle.std.proofs.lemmas.List.{append-nil, drop_all, drop_at, get_or-take, length-take-le, nil_from_length, take-append-drop, take_all, take_at}
 use Rattle.std.proofs.lemmas.List.Elements.{All-head, All-tail}
 use Rattle.csv.specs.Machine.{Read, after_end, ends_at_end, ends_with, field_after, fields_after, in_field, is_end, next_record, step}
@@ -10,7 +10,6 @@ use Rattle.csv.specs.declared.parser.Action.TheVariants as act
 use Rattle.csv.specs.declared.parser.State.{State}
 use Rattle.csv.specs.declared.parser.State.TheVariants as st
 use Rattle.csv.specs.declared.parser.Terminator.TheVariants as term
-use Rattle.memchr.specs.Find.{IsFirstByte, is_byte3}
 use Rattle.zic_columns.specs.Column.{ends_line}
 use Rattle.zic_columns.specs.Own.{own_after, own_from, own_texts}
 use Rattle.zic_columns.specs.code.Line.{IsAfterLineEnds}
@@ -19,10 +18,7 @@ use Rattle.zic_columns.specs.code.Own.{IsOwnLen}
 use Rattle.zic_columns.specs.declared.machine.Place.{Place}
 use Rattle.zic_columns.specs.declared.machine.Place.TheVariants as place
 use Rattle.zic_columns.proofs.CutLaw.{in_record, stays}
-use Rattle.zic_columns.proofs.FoundBytes.{none_before, none_within}
 use Rattle.zic_columns.proofs.OwnFacts.{own_before, took}
-use Rattle.zic_columns.proofs.SomeRecords.{step_before}
-use Rattle.zic_columns.proofs.StepFacts.{no_comma}
 
 -- ---- line ends
 

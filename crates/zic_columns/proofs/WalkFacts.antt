@@ -22,7 +22,7 @@ use Rattle.zic_columns.specs.declared.fields.Record.{Record}
 use Rattle.zic_columns.specs.declared.fields.Wanted.{Wanted}
 use Rattle.zic_columns.specs.declared.machine.Place.TheVariants as place
 use Rattle.zic_columns.specs.declared.walk.FoundField.{FoundField}
-use Rattle.zic_columns.proofs.FieldFacts.{ends_record, first_read, outside, plain_spells, quoted_spells, spells_read}
+use Rattle.zic_columns.proofs.FieldFacts.{either, ends_record, first_read, outside, plain_spells, quoted_spells, spells_read}
 use Rattle.zic_columns.proofs.FoundBytes.{quote_found}
 use Rattle.zic_columns.proofs.LineCuts.{not_at_once}
 use Rattle.zic_columns.proofs.MachineFacts.{at_end, ends_both, ends_byte, from_start, reads_both}
@@ -155,12 +155,6 @@ module _ (piece : List ℕ) (at : ℕ) where
 
 -- ---- the record
 
-line_at : (byte : ℕ) → ends_field byte ≡ true → (byte == 44) ≡ false → ends_line byte ≡ true
-line_at byte ends other = other_end (byte == 44) (ends_line byte) ends other where
-  other_end : (comma line : Bool) → (comma || line) ≡ true → comma ≡ false → line ≡ true
-  other_end false line some none = some
-  other_end true line some none = absurd (cc none)
-
 module _ (piece : List ℕ) (start : ℕ) (wanted : Wanted) where
   pub walked_none : (given : Record) → start ≤ length piece → given.own.start ≡ start → given.count ≡ 0 → given.zone ≡ Plain (record { start = start; end = start })
       → given.time ≡ Plain (record { start = start; end = start }) → HasWalked piece start wanted given start
@@ -291,7 +285,7 @@ module _ (piece : List ℕ) (start : ℕ) (wanted : Wanted) where
             let at : start + len ≡ found.stop = omega (arith, low) in
             let ends : EndsField is.stands byte = ⊎_elim (λ all. absurd (omega (arith, all, inside))) (λ ends. ends) is.ends in
             let here : get_or bytes len 0 ≡ byte = get_or-drop start piece len 0 ∙ ap (λ (n : ℕ). get_or piece n 0) at in
-            let some : 0 < len = not_at_once bytes len (ap ends_line here ∙ line_at byte ends.0 other) begins.begins in
+            let some : 0 < len = not_at_once bytes len (ap ends_line here ∙ either (byte == 44) (ends_line byte) ends.0 other) begins.begins in
             let front : take (len + 1) bytes ≡ slice_range piece start found.stop ++ byte ∷ [] =
             take_more bytes len 0 (omega (arith, size, inside, low)) ∙ ap (λ (b : ℕ). take len bytes ++ b ∷ []) here in (
               some,

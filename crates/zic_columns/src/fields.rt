@@ -39,9 +39,9 @@ pub struct Record {
     pub own: Span,
     /// The number of fields.
     pub count: usize,
-    /// The field that names a zone.
+    /// The field that names a zone: no bytes where none is wanted, or the record has too few fields.
     pub zone: Field,
-    /// The field that tells a time.
+    /// The field that tells a time: no bytes where the record has too few fields.
     pub time: Field,
 }
 

@@ -1,4 +1,4 @@
-//! The machine by which a CSV reader reads a record.
+//! The machine by which a CSV reader reads a field or a record.
 
 ghost use Rattle.std.specs.Prelude.{◌≡◌, ℕ, List, MatchOption, MatchResult};
 ghost use Rattle.zic_columns.specs.code.Field.{EndsField, IsField, IsOfField};
@@ -19,49 +19,6 @@ pub(crate) enum Place {
     QuoteSeen,
 }
 
-/// Returns the place after a byte of a record, or `None` where the byte ends the record.
-fn place_after(place: Place, byte: u8) -> Option<Place>
-    ensures { MatchOption result (EndsRecord (state_at place) byte)
-        (λ next. GoesOn (state_at place) byte (state_at next)) }
-{
-    if byte == b'"' {
-        return Some(match place {
-            Place::Start | Place::QuoteSeen => Place::Quoted,
-            Place::Plain => Place::Plain,
-            Place::Quoted => Place::QuoteSeen,
-        });
-    }
-    if let Place::Quoted = place {
-        return Some(Place::Quoted);
-    }
-    if byte == b',' {
-        return Some(Place::Start);
-    }
-    if ends_line(byte) {
-        return None;
-    }
-    Some(Place::Plain)
-}
-
-/// Returns the number of bytes up to the end of a record and with its line end.
-///
-/// # Errors
-///
-/// Returns the place after all bytes where none of them ends the record.
-pub(crate) fn record_end(place: Place, bytes: &[u8]) -> Result<usize, Place>
-    ensures { MatchResult result (IsEndOfRecord (state_at place) bytes.now)
-        (λ next. ReadsTo (state_at place) bytes.now (state_at next)) }
-{
-    let mut stands = place;
-    for (index, byte) in bytes.iter().enumerate() {
-        match place_after(stands, *byte) {
-            Some(next) => stands = next,
-            None => return Ok(index + 1),
-        }
-    }
-    Err(stands)
-}
-
 /// A byte of a field.
 #[derive(Clone, Copy, Drop)]
 pub(crate) struct FieldByte {
@@ -76,24 +33,13 @@ pub(crate) struct FieldByte {
 fn quote_byte(place: Place) -> FieldByte
     ensures { IsOfField place 34 result }
 {
-    match place {
-        Place::Start => FieldByte {
-            next: Place::Quoted,
-            is_text: false,
-        },
-        Place::Plain => FieldByte {
-            next: Place::Plain,
-            is_text: true,
-        },
-        Place::Quoted => FieldByte {
-            next: Place::QuoteSeen,
-            is_text: false,
-        },
-        Place::QuoteSeen => FieldByte {
-            next: Place::Quoted,
-            is_text: true,
-        },
-    }
+    let (next, is_text) = match place {
+        Place::Start => (Place::Quoted, false),
+        Place::Plain => (Place::Plain, true),
+        Place::Quoted => (Place::QuoteSeen, false),
+        Place::QuoteSeen => (Place::Quoted, true),
+    };
+    FieldByte { next, is_text }
 }
 
 /// Returns what a byte is to a field, or `None` where it ends the field.
@@ -127,4 +73,35 @@ pub(crate) fn field_len(bytes: &[u8]) -> usize
         }
     }
     bytes.len()
+}
+
+/// Returns the place after a byte of a record, or `None` where the byte ends the record.
+fn place_after(place: Place, byte: u8) -> Option<Place>
+    ensures { MatchOption result (EndsRecord (state_at place) byte)
+        (λ next. GoesOn (state_at place) byte (state_at next)) }
+{
+    match field_byte(place, byte) {
+        Some(read) => Some(read.next),
+        None if byte == b',' => Some(Place::Start),
+        None => None,
+    }
+}
+
+/// Returns the number of bytes up to the end of a record and with its line end.
+///
+/// # Errors
+///
+/// Returns the place after all bytes where none of them ends the record.
+pub(crate) fn record_end(place: Place, bytes: &[u8]) -> Result<usize, Place>
+    ensures { MatchResult result (IsEndOfRecord (state_at place) bytes.now)
+        (λ next. ReadsTo (state_at place) bytes.now (state_at next)) }
+{
+    let mut stands = place;
+    for (index, byte) in bytes.iter().enumerate() {
+        match place_after(stands, *byte) {
+            Some(next) => stands = next,
+            None => return Ok(index + 1),
+        }
+    }
+    Err(stands)
 }

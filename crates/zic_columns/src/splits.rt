@@ -60,6 +60,7 @@ impl<'a> Splitter<'a> {
         ensures piece { self.new.piece ≡ self.old.piece }
         ensures wanted { self.new.wanted ≡ self.old.wanted }
         ensures few { result ≤ BATCH }
+        ensures long { length records.new ≡ BATCH }
         ensures split { self.old.left
             ≡ map (record_at self.old.piece) (take result records.new) ++ self.new.left }
         ensures each { All (IsSplit self.old.piece self.old.wanted) (take result records.new) }

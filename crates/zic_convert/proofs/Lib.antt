@@ -12,6 +12,7 @@ pub mod InMemory
 pub mod Joining
 pub mod Logs
 pub mod MoreRows
+pub mod PieceRows
 pub mod NextRows
 pub mod Once
 pub mod Options

@@ -1,14 +1,14 @@
 -- What the footer of a zone is by its tail, and why there is none.
-use Rattle.std.proofs.Common.{◌≡◌, inl, inr, Result, Ok, Err, Option, Some, None, List, true, false, sym, subst, arith, ℕ}
+use Rattle.std.proofs.Common.{◌≡◌, inl, inr, Result, Ok, Err, Option, Some, None, List, true, false, sym, ap, subst, arith, ℕ}
 use Rattle.std.specs.Prelude.{ℤ, pos, ◌-ℤ◌, IfOk, IfSome}
 use Rattle.std.proofs.lemmas.Int.{ints}
-use Rattle.zic_base.specs.Fault.{fault_at, fault_of}
+use Rattle.zic_base.specs.Fault.{fault_at, kind_of}
 use Rattle.zic_base.specs.Memory.{IfRefusal}
 use Rattle.zic_base.specs.State.{Shown}
-use Rattle.zic_base.specs.declared.fault.Fault.{Fault}
+use Rattle.zic_base.specs.declared.fault.Kind.{Kind}
 use Rattle.zic_base.specs.declared.fault.Kind.TheVariants as kind
-use Rattle.zic_base.specs.declared.fault.Stop.{Stop}
 use Rattle.zic_base.specs.declared.place.Place.{Place}
+use Rattle.zic_base.specs.declared.zone_stop.ZoneStop.{ZoneStop}
 use Rattle.zic_states.specs.Tail.{Alternate}
 use Rattle.zic_states.specs.Until.{set_of}
 use Rattle.zic_states.specs.Zone.{Zone}
@@ -21,6 +21,7 @@ use Rattle.zic_rules.specs.declared.tail.TailRule.{TailRule}
 use Rattle.zic_rules.proofs.Limits.{shows_within_limits}
 use Rattle.zic_posix.specs.Footer.{TzString, constant}
 use Rattle.zic_footer.specs.Making.{IsPair, IsForEver, AreInTurn, IsMade, GoesOn, IsFaultOfFooter, by_rules}
+use Rattle.zic_footer.specs.code.Faults.{IsFirstFault}
 use Rattle.zic_footer.specs.code.Turns.{AreSoundTails, TakeTurns, IsMadeOf, NoneTakeTurns}
 use Rattle.zic_footer.proofs.Alternation.{alternate_from, in_turn_from}
 use Rattle.zic_footer.proofs.ForEver.{goes_on}
@@ -39,9 +40,9 @@ if_some : {X : Type 0} (P Q : X → Type 0) → ((x : X) → P x → Q x) → (o
 if_some P Q step None h = tt
 if_some P Q step (Some x) h = step x h
 
-pub if_refusal : {X : Type 0} (P Q : Fault → Type 0) → ((fault : Fault) → P fault → Q fault) → (r : Result X Stop) → IfRefusal fault_of r P → IfRefusal fault_of r Q
+pub if_refusal : {X : Type 0} (P Q : Kind → Type 0) → ((fault : Kind) → P fault → Q fault) → (r : Result X ZoneStop) → IfRefusal kind_of r P → IfRefusal kind_of r Q
 if_refusal P Q step (Ok x) h = tt
-if_refusal P Q step (Err e) h = if_some P Q step (fault_of e) h
+if_refusal P Q step (Err e) h = if_some P Q step (kind_of e) h
 
 -- ---- one state for ever
 
@@ -54,14 +55,14 @@ module _ (zone : Zone) (whole : IsWholeZone zone) (state : Shown) (tail : IsCons
   pub state_within : IsWithinLimits state
   state_within = shows_within_limits zone whole.source whole.sound (for_ever.end -ℤ pos 1) state for_ever.shows
 
-  pub constant_made : (r : Result TzString Stop) → IfOk r (λ f. (state.daylight ≡ false) × (f ≡ constant state.name state.offset)) → IfOk r (IsMade zone)
+  pub constant_made : (r : Result TzString ZoneStop) → IfOk r (λ f. (state.daylight ≡ false) × (f ≡ constant state.name state.offset)) → IfOk r (IsMade zone)
   constant_made r made =
       if_ok (λ f. (state.daylight ≡ false) × (f ≡ constant state.name state.offset)) (IsMade zone) (λ f h. inl (state, for_ever, h.0, h.1)) r made
 
-  pub constant_fault : (place : Place) (r : Result TzString Stop)
-      → IfRefusal fault_of r (λ fault. (fault ≡ fault_at place kind.PermanentDaylight) × (state.daylight ≡ true)) → IfRefusal fault_of r (IsFaultOfFooter zone place)
-  constant_fault place r refused =
-      if_refusal (λ fault. (fault ≡ fault_at place kind.PermanentDaylight) × (state.daylight ≡ true)) (IsFaultOfFooter zone place)
+  pub constant_fault : (r : Result TzString ZoneStop)
+      → IfRefusal kind_of r (λ fault. (fault ≡ kind.PermanentDaylight) × (state.daylight ≡ true)) → IfRefusal kind_of r (IsFirstFault zone)
+  constant_fault r refused =
+      if_refusal (λ fault. (fault ≡ kind.PermanentDaylight) × (state.daylight ≡ true)) (IsFirstFault zone)
       (λ fault h. inl (h.0, (state, for_ever, h.1))) r refused
 
 -- ---- rules that go on for ever
@@ -114,18 +115,18 @@ module _ (zone : Zone) (whole : IsWholeZone zone) (standard year : ℤ) (tails :
         let (sound_start, sound_stop) = sound_pair standard tails starting ending tails_are_sound turns.pair in
         goes_on zone whole.orderly standard year tails tail starting ending turns.pair (alternate turns) sound_start sound_stop turns.start turns.stop
 
-  pub rules_made : (r : Result TzString Stop) → IfOk r (IsMadeOf standard tails) → IfOk r (IsMade zone)
+  pub rules_made : (r : Result TzString ZoneStop) → IfOk r (IsMadeOf standard tails) → IfOk r (IsMade zone)
   rules_made r made = if_ok (IsMadeOf standard tails) (IsMade zone)
       (λ f h. let (starting, ending, turns, is) = h in inr (standard, starting, ending, are_in_turn starting ending turns, is)) r made
 
-  pub rules_go_on : (r : Result TzString Stop) → IfOk r (IsMadeOf standard tails) → IfOk r (GoesOn zone)
+  pub rules_go_on : (r : Result TzString ZoneStop) → IfOk r (IsMadeOf standard tails) → IfOk r (GoesOn zone)
   rules_go_on r made = if_ok (IsMadeOf standard tails) (GoesOn zone)
       (λ f h. let (starting, ending, turns, is) = h in subst (GoesOn zone) (sym is) (turns_go_on starting ending turns)) r made
 
-  pub rules_fault : (place : Place) (r : Result TzString Stop)
-      → IfRefusal fault_of r (λ fault. (fault ≡ fault_at place kind.NoFooter) × NoneTakeTurns standard tails) → IfRefusal fault_of r (IsFaultOfFooter zone place)
-  rules_fault place r refused =
-      if_refusal (λ fault. (fault ≡ fault_at place kind.NoFooter) × NoneTakeTurns standard tails) (IsFaultOfFooter zone place)
+  pub rules_fault : (r : Result TzString ZoneStop)
+      → IfRefusal kind_of r (λ fault. (fault ≡ kind.NoFooter) × NoneTakeTurns standard tails) → IfRefusal kind_of r (IsFirstFault zone)
+  rules_fault r refused =
+      if_refusal (λ fault. (fault ≡ kind.NoFooter) × NoneTakeTurns standard tails) (IsFirstFault zone)
       (λ fault h. inr (
         h.0,
         record {
@@ -136,3 +137,9 @@ module _ (zone : Zone) (whole : IsWholeZone zone) (standard year : ℤ) (tails :
           none = λ starting ending others. h.1 starting ending (take_turns starting ending others);
         },
       )) r refused
+
+-- ---- the fault at the Zone line
+
+pub placed : (zone : Zone) (place : Place) (fault : Kind) → IsFirstFault zone fault → IsFaultOfFooter zone place (fault_at place fault)
+placed zone place fault (inl (is, daylight)) = inl (ap (fault_at place) is, daylight)
+placed zone place fault (inr (is, none)) = inr (ap (fault_at place) is, none)

@@ -1,7 +1,7 @@
 -- The string of a pair of rules.
 use Rattle.std.proofs.Common.{◌≡◌, inl, inr, true, false, List, ℕ, [], ◌∷◌, Result, Ok, Err, Some, sym, ap, subst, arith}
 use Rattle.std.specs.Prelude.{ℤ, ◌+ℤ◌, IfOk, slice_get}
-use Rattle.zic_base.specs.declared.fault.Stop.{Stop}
+use Rattle.zic_base.specs.declared.zone_stop.ZoneStop.{ZoneStop}
 use Rattle.zic_posix.specs.Footer.{TzString}
 use Rattle.zic_posix.specs.Grammar.{IsName, IsEdge, IsDaylight, IsTzString}
 use Rattle.zic_posix.specs.declared.footer.Dst.{Dst}
@@ -73,7 +73,7 @@ module _ (standard : ℤ) (tails : List TailRule) (p : Pair) (pair : IsPair tail
   takes_turns : FollowInTurn p.starting.now.moment p.ending.now.moment → HasWideEdges standard p → TakeTurns standard tails p.starting.now p.ending.now
   takes_turns in_turn wide = record { pair = pair; in_turn = in_turn; start = wide.start; stop = wide.stop }
 
-  pub pair_made : FollowInTurn p.starting.now.moment p.ending.now.moment → (r : Result TzString Stop)
+  pub pair_made : FollowInTurn p.starting.now.moment p.ending.now.moment → (r : Result TzString ZoneStop)
       → IfOk r (λ f. f ≡ by_rules standard p.starting.now p.ending.now) → IfOk r (λ _. HasWideEdges standard p) → IfOk r (IsMadeOf standard tails)
   pair_made in_turn (Ok f) is wide = (p.starting.now, p.ending.now, takes_turns in_turn wide, is)
   pair_made in_turn (Err e) is wide = tt

@@ -1,7 +1,7 @@
 //! The footer that goes on for a zone.
 
 ghost use Rattle.std.specs.Prelude.{◌≡◌, ◌↔◌, false, true, IsOk, IfOk, IsTrue};
-ghost use Rattle.zic_base.specs.Fault.{fault_at, fault_of};
+ghost use Rattle.zic_base.specs.Fault.{fault_of, kind_of};
 ghost use Rattle.zic_base.specs.Memory.{IfRefusal, OnOutOfMemory};
 ghost use Rattle.zic_base.specs.State.{shown};
 ghost use Rattle.zic_posix.specs.Footer as footer;
@@ -9,12 +9,13 @@ ghost use Rattle.zic_posix.specs.Grammar.{IsName};
 ghost use Rattle.zic_words.specs.Limits.{IsWithinLimits};
 ghost use Rattle.zic_footer.specs.Making as making;
 ghost use Rattle.zic_footer.specs.Making.{IsMade, GoesOn, IsFaultOfFooter, IsWide};
+ghost use Rattle.zic_footer.specs.code.Faults.{IsFirstFault};
 ghost use Rattle.zic_footer.specs.code.Turns.{AreSoundTails, IsSoundPair, IsPairOf, HasWideEdges, IsMadeOf, NoneTakeTurns};
 
 use crate::edges::edge_of;
 use crate::turns::follow_in_turn;
 use std::alloc::{AllocError, Global};
-use zic_base::{Kind, Place, State, Stop};
+use zic_base::{Kind, Place, State, Stop, ZoneStop};
 use zic_posix::{Abbr, Dst, Edge, Footer, MAX_WIDE_HOURS};
 use zic_rules::{Tail, TailRule, Timeline};
 
@@ -34,28 +35,40 @@ pub fn make(alloc: Global, zone_place: Place, t: &Timeline<'_>) -> Result<Footer
     ensures err { IfRefusal fault_of result (IsFaultOfFooter t.now zone_place) }
     ensures memory { OnOutOfMemory fault_of result ⊥ }
 {
+    match footer_of(alloc, t) {
+        Ok(footer) => Ok(footer),
+        Err(stop) => Err(stop.at(zone_place)),
+    }
+}
+
+/// Returns the footer of a zone.
+fn footer_of(alloc: Global, t: &Timeline<'_>) -> Result<Footer, ZoneStop>
+    ensures made { IfOk result (IsMade t.now) }
+    ensures goes_on { IfOk result (GoesOn t.now) }
+    ensures err { IfRefusal kind_of result (IsFirstFault t.now) }
+    ensures memory { OnOutOfMemory kind_of result ⊥ }
+{
     match t.tail() {
-        Tail::Constant(state) => by_state(alloc, zone_place, state),
+        Tail::Constant(state) => by_state(alloc, state),
         Tail::Rules {
             standard,
             rules,
             ..
-        } => by_rules(alloc, zone_place, standard, rules),
+        } => by_rules(alloc, standard, rules),
     }
 }
 
 /// Returns the footer of one state.
-fn by_state(alloc: Global, zone_place: Place, state: State<'_>) -> Result<Footer, Stop>
+fn by_state(alloc: Global, state: State<'_>) -> Result<Footer, ZoneStop>
     requires { IsWithinLimits (shown state) }
     ensures made { IfOk result (λ f. (state.entry.daylight ≡ false)
         × (f ≡ footer.constant state.entry.name.now state.entry.offset)) }
-    ensures err { IfRefusal fault_of result
-        (λ fault. (fault ≡ fault_at zone_place Kind.PermanentDaylight)
-        × (state.entry.daylight ≡ true)) }
-    ensures memory { OnOutOfMemory fault_of result ⊥ }
+    ensures err { IfRefusal kind_of result
+        (λ kind. (kind ≡ Kind.PermanentDaylight) × (state.entry.daylight ≡ true)) }
+    ensures memory { OnOutOfMemory kind_of result ⊥ }
 {
     if state.daylight {
-        return Err(Stop::at(zone_place, Kind::PermanentDaylight));
+        return Err(ZoneStop::Fault(Kind::PermanentDaylight));
     }
     let std = Abbr::new(alloc, state.name)?;
     Ok(Footer {
@@ -66,23 +79,18 @@ fn by_state(alloc: Global, zone_place: Place, state: State<'_>) -> Result<Footer
 }
 
 /// Returns the footer of rules that go on for ever.
-fn by_rules(
-    alloc: Global,
-    zone_place: Place,
-    standard: i32,
-    rules: &[TailRule],
-) -> Result<Footer, Stop>
+fn by_rules(alloc: Global, standard: i32, rules: &[TailRule]) -> Result<Footer, ZoneStop>
     requires { AreSoundTails standard rules.now }
     ensures made { IfOk result (IsMadeOf standard rules.now) }
-    ensures err { IfRefusal fault_of result
-        (λ fault. (fault ≡ fault_at zone_place Kind.NoFooter) × NoneTakeTurns standard rules.now) }
-    ensures memory { OnOutOfMemory fault_of result ⊥ }
+    ensures err { IfRefusal kind_of result
+        (λ kind. (kind ≡ Kind.NoFooter) × NoneTakeTurns standard rules.now) }
+    ensures memory { OnOutOfMemory kind_of result ⊥ }
 {
     match pair_of(rules) {
         Some(pair) if follow_in_turn(&pair.starting.moment, &pair.ending.moment) => {
-            by_pair(alloc, zone_place, standard, &pair)
+            by_pair(alloc, standard, &pair)
         }
-        _ => Err(Stop::at(zone_place, Kind::NoFooter)),
+        _ => Err(ZoneStop::Fault(Kind::NoFooter)),
     }
 }
 
@@ -111,19 +119,18 @@ fn pair_of(rules: &[TailRule]) -> Option<Pair<'_>>
 }
 
 /// Returns the footer of two rules that follow each other in turn.
-fn by_pair(alloc: Global, zone_place: Place, standard: i32, pair: &Pair<'_>) -> Result<Footer, Stop>
+fn by_pair(alloc: Global, standard: i32, pair: &Pair<'_>) -> Result<Footer, ZoneStop>
     requires { IsSoundPair standard pair.now }
     ensures made { IfOk result
         (λ f. f ≡ making.by_rules standard pair.now.starting.now pair.now.ending.now) }
     ensures wide { IfOk result (λ _. HasWideEdges standard pair.now) }
-    ensures err { IfRefusal fault_of result
-        (λ fault. (fault ≡ fault_at zone_place Kind.NoFooter)
-        × (HasWideEdges standard pair.now → ⊥)) }
-    ensures memory { OnOutOfMemory fault_of result ⊥ }
+    ensures err { IfRefusal kind_of result
+        (λ kind. (kind ≡ Kind.NoFooter) × (HasWideEdges standard pair.now → ⊥)) }
+    ensures memory { OnOutOfMemory kind_of result ⊥ }
 {
     let dst = daylight_part(alloc, standard, pair)?;
     if !is_wide(&dst.start) || !is_wide(&dst.stop) {
-        return Err(Stop::at(zone_place, Kind::NoFooter));
+        return Err(ZoneStop::Fault(Kind::NoFooter));
     }
     let std = Abbr::new(alloc, pair.ending.name.octets())?;
     Ok(Footer {

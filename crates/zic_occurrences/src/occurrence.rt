@@ -1,7 +1,7 @@
 //! The occurrences of a set.
 
 ghost use Rattle.std.specs.Prelude.{◌≡◌, ◌≤◌, true, IfOk};
-ghost use Rattle.zic_base.specs.Fault.{fault_at, fault_of};
+ghost use Rattle.zic_base.specs.Fault.{kind_of};
 ghost use Rattle.zic_base.specs.Memory.{IfRefusal};
 ghost use Rattle.zic_source.specs.Source.{is_set};
 ghost use Rattle.zic_source.specs.Sound.{IsWithinDay};
@@ -13,7 +13,7 @@ use crate::apart::lie_far_apart;
 use crate::nominal::{has_tie, in_order};
 use crate::walk::timed;
 use std::alloc::Global;
-use zic_base::{Kind, Place, Stop};
+use zic_base::{Kind, ZoneStop};
 use zic_source::{MAX_RULES, Source};
 use zic_words::SetName;
 
@@ -64,17 +64,16 @@ fn years_in_question(source: &Source, set: &SetName) -> u16
 
 /// Returns all occurrences of a set of nominal seconds before the year `before`, and perhaps some
 /// more, in the order of their instants on a line whose standard UT offset is `offset` seconds,
-/// positive east; the line is of the zone whose Zone line stands at `zone_place`.
+/// positive east.
 ///
 /// `RulesOutOfOrder` where the set is out of order in any year.
 pub fn occurrences(
     alloc: Global,
-    zone_place: Place,
     source: &Source,
     set: &SetName,
     offset: i32,
     before: u16,
-) -> Result<Vec<TimedOccurrence>, Stop>
+) -> Result<Vec<TimedOccurrence>, ZoneStop>
     requires set { is_set set.now source.now.rules ≡ true }
     requires offset { IsWithinDay offset }
     requires before { before ≤ 9999 }
@@ -83,8 +82,8 @@ pub fn occurrences(
     ensures all { IfOk result
         (λ made. AreOccurrencesTo
         (record { rules = source.now.rules; name = set.now }) offset before made.items) }
-    ensures err { IfRefusal fault_of result
-        (λ fault. (fault ≡ fault_at zone_place Kind.RulesOutOfOrder)
+    ensures err { IfRefusal kind_of result
+        (λ kind. (kind ≡ Kind.RulesOutOfOrder)
         × IsOutOfOrder (record { rules = source.now.rules; name = set.now }) offset) }
 {
     // So the number of each rule fits 16 bits.
@@ -93,7 +92,7 @@ pub fn occurrences(
     let last = before.max(last_named_year(source, set) + years);
     let nominals = in_order(alloc, source, set, last)?;
     if has_tie(&nominals) {
-        return Err(Stop::at(zone_place, Kind::RulesOutOfOrder));
+        return Err(ZoneStop::Fault(Kind::RulesOutOfOrder));
     }
-    timed(alloc, zone_place, source, offset, &nominals)
+    timed(alloc, source, offset, &nominals)
 }

@@ -1,7 +1,7 @@
 //! The walk through a set's occurrences, which finds their instants.
 
 ghost use Rattle.std.specs.Prelude.{◌≡◌, ◌<◌, ◌<ℤ◌, pos, length, All, AllPairs, IfOk, MatchBool};
-ghost use Rattle.zic_base.specs.Fault.{fault_at, fault_of};
+ghost use Rattle.zic_base.specs.Fault.{kind_of};
 ghost use Rattle.zic_base.specs.Memory.{IfRefusal};
 ghost use Rattle.zic_source.specs.Sound.{IsWithinDay};
 ghost use Rattle.zic_occurrences.specs.Occurrence.{IsNear};
@@ -11,7 +11,7 @@ ghost use Rattle.zic_occurrences.specs.code.Timed.{timed_from, HasFall, ComesAft
 use crate::nominal::Nominal;
 use crate::occurrence::TimedOccurrence;
 use std::alloc::Global;
-use zic_base::{Kind, Place, Stop};
+use zic_base::{Kind, ZoneStop};
 use zic_source::Source;
 use zic_words::ClockForm;
 
@@ -41,19 +41,18 @@ fn comes_after(instant: i64, timed: &[TimedOccurrence]) -> bool
 /// Returns these occurrences with their instants, if each comes after the one before it.
 pub(crate) fn timed(
     alloc: Global,
-    zone_place: Place,
     source: &Source,
     offset: i32,
     nominals: &[Nominal],
-) -> Result<Vec<TimedOccurrence>, Stop>
+) -> Result<Vec<TimedOccurrence>, ZoneStop>
     requires offset { IsWithinDay offset }
     requires known { All (λ n. n.rule < length source.now.rules) nominals.now }
     requires near { All (λ n. IsNear n.second) nominals.now }
     ensures items { IfOk result
         (λ made. made.items ≡ timed_from source.now.rules offset (pos 0) nominals.now) }
     ensures rising { IfOk result (λ made. AllPairs (λ a b. a.instant <ℤ b.instant) made.items) }
-    ensures err { IfRefusal fault_of result
-        (λ fault. (fault ≡ fault_at zone_place Kind.RulesOutOfOrder)
+    ensures err { IfRefusal kind_of result
+        (λ kind. (kind ≡ Kind.RulesOutOfOrder)
         × HasFall (timed_from source.now.rules offset (pos 0) nominals.now)) }
 {
     let mut timed = Vec::with_capacity(alloc, nominals.len())?;
@@ -62,7 +61,7 @@ pub(crate) fn timed(
         let rule = source.rule(usize::from(nominal.rule));
         let instant = instant_by(rule.moment.at.form, offset, saved, nominal.second);
         if !comes_after(instant, &timed) {
-            return Err(Stop::at(zone_place, Kind::RulesOutOfOrder));
+            return Err(ZoneStop::Fault(Kind::RulesOutOfOrder));
         }
         timed.push(TimedOccurrence {
             instant,

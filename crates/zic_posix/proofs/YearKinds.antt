@@ -1,5 +1,5 @@
 -- In years of one kind an edge comes as many seconds after the start of the year.
-use Rattle.std.proofs.Common.{◌≡◌, ℕ, zero, suc, ◌+◌, ◌-◌, ◌*◌, ◌%◌, ◌<◌, ◌≤◌, Bool, true, false, inl, inr, List, length, get_or, map, refl, sym, ap, ◌∙◌, arith, ℤ, pos, ◌+ℤ◌, ◌-ℤ◌, ◌*ℤ◌, ◌<ℤ◌, ◌≤ℤ◌}
+use Rattle.std.proofs.Common.{◌≡◌, ℕ, zero, suc, ◌+◌, ◌-◌, ◌%◌, ◌<◌, ◌≤◌, Bool, true, false, List, length, get_or, map, refl, sym, ap, ◌∙◌, arith, ℤ, pos, ◌+ℤ◌, ◌-ℤ◌, ◌*ℤ◌, ◌<ℤ◌, ◌≤ℤ◌}
 use Rattle.std.specs.Prelude.{◌==◌, ◌&&◌, nat_le, int_le, int_lt, if◌then◌else◌}
 use Rattle.std.specs.List.{list_all, range_with_len}
 use Rattle.std.proofs.lemmas.Int.{ints}
@@ -22,7 +22,7 @@ use Rattle.zic_posix.specs.Laws.{year_second}
 use Rattle.zic_posix.specs.Meaning.{day_in}
 use Rattle.zic_posix.specs.code.State.{instant_in}
 use Rattle.zic_posix.specs.code.Inside.{is_inside, AreInside}
-use Rattle.zic_posix.specs.code.Years.{kind_of, edge_second, AreEdgeSeconds}
+use Rattle.zic_posix.specs.code.Years.{kind_of, AreEdgeSeconds}
 
 -- ---- the kind of a year
 

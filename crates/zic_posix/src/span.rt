@@ -5,7 +5,7 @@ ghost use Rattle.zic_base.specs.declared.limit.TheConstants.{FARTHEST_FILE_OFFSE
 ghost use Rattle.zic_base.specs.State.{shown};
 ghost use Rattle.zic_posix.specs.Grammar.{IsEdge, IsOffset, IsDaylight};
 ghost use Rattle.zic_posix.specs.Instants.{Includes, AreBetween};
-ghost use Rattle.zic_posix.specs.Meaning.{HasEdgeAt, MeansThroughout};
+ghost use Rattle.zic_posix.specs.Meaning.{HasEdgeAt, Means, MeansThroughout};
 ghost use Rattle.zic_posix.specs.code.Span.{IsAround, IsPhase};
 ghost use Rattle.zic_posix.specs.code.Years.{IsYearTable, IsTableOf};
 ghost use Rattle.zic_posix.specs.code.State.{IsInCycle, IsLatestYear, IsYearOfCycle, instant_in};
@@ -24,6 +24,13 @@ pub struct StateSpan<'a> {
 }
 
 impl Footer {
+    /// Returns the state at an instant, in seconds since 1970-01-01 00:00 UT.
+    pub fn state(&self, t: i64) -> State<'_>
+        ensures { Means self.now t (shown result) }
+    {
+        self.span_by(None, t).state
+    }
+
     /// Returns the state at an instant, in seconds since 1970-01-01 00:00 UT, and the instants
     /// round it up to the next edges, at which it is the same: from the last edge that isn't after
     /// it to just before the first one after it, or all instants where there is no daylight part.

@@ -1,15 +1,13 @@
-//! The state of a footer at an instant.
+//! The two states of a footer, and the instants of its edges.
 
-ghost use Rattle.std.specs.Prelude.{◌≡◌, ◌≤◌, unsigned_abs, MatchBool};
+ghost use Rattle.std.specs.Prelude.{◌≡◌};
 ghost use Rattle.std.specs.Int.{IsInRange};
-ghost use Rattle.zic_base.specs.declared.limit.TheConstants.{FARTHEST_FILE_OFFSET};
 ghost use Rattle.zic_base.specs.State.{shown};
 ghost use Rattle.zic_calendar.specs.Calendar.{IsSupportedYear};
 ghost use Rattle.zic_calendar.specs.DayForm.{IsNearSupportedDay};
-ghost use Rattle.zic_posix.specs.Grammar.{IsDay, IsEdge, IsOffset, IsDaylight};
+ghost use Rattle.zic_posix.specs.Grammar.{IsDay, IsEdge};
 ghost use Rattle.zic_posix.specs.Meaning as meaning;
-ghost use Rattle.zic_posix.specs.Meaning.{IsDaylightAt, IsStandardAt, Means};
-ghost use Rattle.zic_posix.specs.code.State.{IsInCycle, IsLatestYear, IsYearOfCycle, instant_in, IsLastInstant};
+ghost use Rattle.zic_posix.specs.code.State.{IsInCycle, IsLatestYear, IsYearOfCycle, instant_in};
 
 use crate::footer::{DayRule, Dst, Edge, Footer};
 use zic_base::State;
@@ -23,17 +21,6 @@ pub(crate) const CYCLE: i64 = 146_097 * SECONDS_OF_DAY;
 const FARTHEST_DAYS: i64 = 10;
 
 impl Footer {
-    /// Returns the state at an instant, in seconds since 1970-01-01 00:00 UT.
-    pub fn state(&self, t: i64) -> State<'_>
-        ensures { Means self.now t (shown result) }
-    {
-        let t = t.rem_euclid(CYCLE);
-        match &self.dst {
-            Some(dst) if is_daylight(self.offset, dst, t) => daylight_state(dst),
-            _ => self.standard_state(),
-        }
-    }
-
     /// Returns the state of standard time.
     pub(crate) fn standard_state(&self) -> State<'_>
         ensures { shown result ≡ meaning.standard_state self.now }
@@ -57,21 +44,6 @@ pub(crate) fn daylight_state(dst: &Dst) -> State<'_>
     }
 }
 
-/// Returns whether daylight saving time holds at an instant of the first 400 years from 1970 on.
-fn is_daylight(standard: i32, dst: &Dst, t: i64) -> bool
-    requires standard { IsOffset standard }
-    requires dst { IsDaylight standard dst.now }
-    requires t { IsInCycle t }
-    ensures { MatchBool result
-        (IsDaylightAt standard dst.now t)
-        (IsStandardAt standard dst.now t) }
-{
-    let year = latest_year(t);
-    let start = last_not_after(t, year, &dst.start, standard);
-    let stop = last_not_after(t, year, &dst.stop, dst.offset);
-    stop <= start
-}
-
 /// Returns the latest year of which an edge may have come at an instant.
 pub(crate) fn latest_year(t: i64) -> i64
     requires { IsInCycle t }
@@ -79,26 +51,6 @@ pub(crate) fn latest_year(t: i64) -> i64
     ensures range { IsYearOfCycle result }
 {
     civil(t / SECONDS_OF_DAY + FARTHEST_DAYS, 0).year
-}
-
-/// Returns the last instant of an edge that isn't after this one, where local time has this UT
-/// offset before the edge.
-fn last_not_after(t: i64, year: i64, edge: &Edge, offset: i32) -> i64
-    requires year { IsLatestYear t year }
-    requires range { IsYearOfCycle year }
-    requires edge { IsEdge edge.now }
-    requires offset { unsigned_abs offset ≤ FARTHEST_FILE_OFFSET }
-    ensures { IsLastInstant (instant_in edge.now offset) t result }
-{
-    let latest = instant_in(year, edge, offset);
-    if latest <= t {
-        return latest;
-    }
-    let before = instant_in(year - 1, edge, offset);
-    if before <= t {
-        return before;
-    }
-    instant_in(year - 2, edge, offset)
 }
 
 /// Returns the instant of an edge in a year, where local time has this UT offset before it.

@@ -17,7 +17,7 @@ use Rattle.zic_states.specs.Zone.{Zone, line_at, Keeps}
 use Rattle.zic_states.proofs.Lines.{line_at_is}
 use Rattle.zic_states.proofs.Filters.{int_le-true, not_after_from_test, into_filter}
 use Rattle.zic_rules.specs.declared.period.Period.{Period}
-use Rattle.zic_rules.specs.Period.{Holds}
+use Rattle.zic_rules.specs.code.Period.{Holds}
 use Rattle.zic_rules.specs.code.Held.{AreHeld, HeldTo, AreSoFar, last_line}
 use Rattle.zic_rules.specs.code.Line.{TellsKept, IsLineTo, IsEndOfWindow, period_at}
 use Rattle.zic_rules.specs.code.End.{IsInYears}

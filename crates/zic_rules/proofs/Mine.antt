@@ -7,7 +7,7 @@ use Rattle.zic_occurrences.specs.declared.occurrence.TimedOccurrence.{TimedOccur
 use Rattle.zic_states.specs.ByList.{AreRising, not_after, last_of, rule_at}
 use Rattle.zic_states.specs.Zone.{Zone}
 use Rattle.zic_states.proofs.Filters.{int_le-true}
-use Rattle.zic_rules.specs.Period.{Holds}
+use Rattle.zic_rules.specs.code.Period.{Holds}
 use Rattle.zic_rules.specs.code.Held.{IsFrom, ComesAfter, AreHeld}
 use Rattle.zic_rules.specs.code.Line.{period_at}
 use Rattle.zic_rules.proofs.Held.{before_from}

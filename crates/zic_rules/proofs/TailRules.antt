@@ -14,7 +14,7 @@ use Rattle.zic_occurrences.proofs.Members.{member_at, member_within}
 use Rattle.zic_states.specs.Tail.{IsContinuing, HasNoSet}
 use Rattle.zic_states.specs.Until.{set_of}
 use Rattle.zic_states.specs.Zone.{Zone, lines_of, line_at}
-use Rattle.zic_rules.specs.Period.{IsFixed}
+use Rattle.zic_rules.specs.Timeline.{IsFixed}
 use Rattle.zic_rules.specs.Tail.{IsTailRule, AreTailRules}
 use Rattle.zic_rules.specs.declared.tail.TailRule.{TailRule}
 use Rattle.zic_rules.specs.code.Tail.{numbers_of, goes_on, continuing}

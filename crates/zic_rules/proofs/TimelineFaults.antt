@@ -1,13 +1,11 @@
 -- What is wrong with a zone, and that nothing is.
-use Rattle.std.proofs.Common.{◌≡◌, ◌<◌, ◌≤◌, ℕ, List, length, None, sym, ap, subst, ◌∙◌, ⊎_elim, arith}
-use Rattle.std.specs.Prelude.{ℤ, ◌+ℤ◌, ◌<ℤ◌, IfSome, IsSomeAnd}
+use Rattle.std.proofs.Common.{◌≡◌, ◌<◌, ◌≤◌, ℕ, List, length, None, inl, inr, sym, ap, subst, ◌∙◌, arith}
+use Rattle.std.specs.Prelude.{ℤ, ◌+ℤ◌, ◌<ℤ◌, IsSomeAnd}
 use Rattle.std.proofs.lemmas.Int.{by_lt_z}
-use Rattle.zic_base.specs.Fault.{fault_of, kind_number}
-use Rattle.zic_base.specs.declared.fault.Fault.{Fault}
-use Rattle.zic_base.specs.declared.fault.Stop.{Stop}
-use Rattle.zic_base.specs.declared.fault.Stop.TheVariants as stops
+use Rattle.zic_base.specs.Fault.{fault_at, kind_number}
 use Rattle.zic_base.specs.declared.fault.Kind.{Kind}
 use Rattle.zic_base.specs.declared.fault.Kind.TheVariants as kind
+use Rattle.zic_base.specs.declared.place.Place.{Place}
 use Rattle.zic_lines.specs.declared.zone_line.ZoneLine.{ZoneLine}
 use Rattle.zic_states.specs.Abbreviation.{abbreviation}
 use Rattle.zic_words.specs.Limits.{is_abbreviation}
@@ -22,7 +20,8 @@ use Rattle.zic_states.proofs.Kept.{one_kept}
 use Rattle.zic_states.proofs.Governing.{one_line}
 use Rattle.zic_states.proofs.States.{one_state}
 use Rattle.zic_rules.specs.declared.period.Periods.{Periods}
-use Rattle.zic_rules.specs.Period.{IsFaultOfPeriods}
+use Rattle.zic_rules.specs.code.Period.{IsFaultOfPeriods}
+use Rattle.zic_rules.specs.code.Faults.{IsFirstFault}
 use Rattle.zic_rules.specs.code.Shown.{HasPeriods, IsUnnamed, ShowsNamed, AreSoFrom, ShowsSomeBefore, IsTimeline}
 use Rattle.zic_rules.proofs.TimelineBefore.{shown_before}
 use Rattle.zic_rules.proofs.TimelineChanges.{so_somewhere}
@@ -50,54 +49,55 @@ least_by zone n range order untils letter le _ is lt = is
 
 -- ---- the fault
 
-module _ (zone : Zone) (fault : Fault) (place : IsSomeAnd (lines_of zone) (λ lines. fault.place ≡ lines.first.place)) where
-  made : (k : Kind) → fault.kind ≡ k → Applies zone k → ((other : Kind) → Applies zone other → kind_number other < kind_number k → ⊥)
-      → IsFaultOfStates zone fault
-  made k is applies least = record {
-    applies = subst (Applies zone) (sym is) applies;
-    least = subst (λ (j : Kind). (other : Kind) → Applies zone other → kind_number other < kind_number j → ⊥) (sym is) least;
-    place = place;
+module _ (zone : Zone) where
+  pub fault_of_range : HasOffsetOutOfRange zone → IsFirstFault zone kind.OffsetRange
+  fault_of_range has = record {
+    applies = has;
+    least = least_by zone 24 (λ lt. absurd (omega (arith, lt))) (λ lt. absurd (omega (arith, lt))) (λ lt. absurd (omega (arith, lt)))
+        (λ lt. absurd (omega (arith, lt))) (omega arith);
   }
 
-  pub fault_of_range : fault.kind ≡ kind.OffsetRange → HasOffsetOutOfRange zone → IsFaultOfStates zone fault
-  fault_of_range is has = made kind.OffsetRange is has
-      (least_by zone 24 (λ lt. absurd (omega (arith, lt))) (λ lt. absurd (omega (arith, lt))) (λ lt. absurd (omega (arith, lt)))
-      (λ lt. absurd (omega (arith, lt))) (omega arith))
+  fault_of_order : (HasOffsetOutOfRange zone → ⊥) → HasRulesOutOfOrder zone → IsFirstFault zone kind.RulesOutOfOrder
+  fault_of_order range has = record {
+    applies = has;
+    least = least_by zone 25 (λ _. range) (λ lt. absurd (omega (arith, lt))) (λ lt. absurd (omega (arith, lt)))
+        (λ lt. absurd (omega (arith, lt))) (omega arith);
+  }
 
-  pub fault_of_periods : (HasOffsetOutOfRange zone → ⊥) → IsFaultOfPeriods zone fault → IsFaultOfStates zone fault
-  fault_of_periods range is = ⊎_elim
-      (λ order. made kind.RulesOutOfOrder order.0 order.1
-      (least_by zone 25 (λ _. range) (λ lt. absurd (omega (arith, lt))) (λ lt. absurd (omega (arith, lt)))
-      (λ lt. absurd (omega (arith, lt))) (omega arith)))
-      (λ untils. made kind.UntilNotRising untils.0 untils.1
-      (least_by zone 26 (λ _. range) (λ _. untils.2) (λ lt. absurd (omega (arith, lt)))
-      (λ lt. absurd (omega (arith, lt))) (omega arith)))
-      is.kind
+  fault_of_untils : (HasOffsetOutOfRange zone → ⊥) → (HasRulesOutOfOrder zone → ⊥) → HasUntilNotRising zone → IsFirstFault zone kind.UntilNotRising
+  fault_of_untils range order has = record {
+    applies = has;
+    least = least_by zone 26 (λ _. range) (λ _. order) (λ lt. absurd (omega (arith, lt))) (λ lt. absurd (omega (arith, lt))) (omega arith);
+  }
+
+  pub fault_of_periods : (HasOffsetOutOfRange zone → ⊥) → (fault : Kind) → IsFaultOfPeriods zone fault → IsFirstFault zone fault
+  fault_of_periods range fault (inl (is, has)) = subst (IsFirstFault zone) (sym is) (fault_of_order range has)
+  fault_of_periods range fault (inr (is, has, order)) = subst (IsFirstFault zone) (sym is) (fault_of_untils range order has)
 
   module _ (all : Periods) (known : HasPeriods zone all) where
-    pub fault_of_letter : fault.kind ≡ kind.NoLetter → HasNoLetter zone → IsFaultOfStates zone fault
-    fault_of_letter is has = made kind.NoLetter is has
-        (least_by zone 27 (λ _. known.in_range) (λ _. known.orderly.sets.in_order) (λ _. known.orderly.untils)
-        (λ lt. absurd (omega (arith, lt))) (omega arith))
+    pub fault_of_letter : HasNoLetter zone → IsFirstFault zone kind.NoLetter
+    fault_of_letter has = record {
+      applies = has;
+      least = least_by zone 27 (λ _. known.in_range) (λ _. known.orderly.sets.in_order) (λ _. known.orderly.untils)
+          (λ lt. absurd (omega (arith, lt))) (omega arith);
+    }
 
-    fault_of_name : fault.kind ≡ kind.BadAbbreviation → (HasNoLetter zone → ⊥) → HasBadAbbreviation zone → IsFaultOfStates zone fault
-    fault_of_name is letter has = made kind.BadAbbreviation is has
-        (least_by zone 28 (λ _. known.in_range) (λ _. known.orderly.sets.in_order) (λ _. known.orderly.untils)
-        (λ _. letter) (omega arith))
+    fault_of_name : (HasNoLetter zone → ⊥) → HasBadAbbreviation zone → IsFirstFault zone kind.BadAbbreviation
+    fault_of_name letter has = record {
+      applies = has;
+      least = least_by zone 28 (λ _. known.in_range) (λ _. known.orderly.sets.in_order) (λ _. known.orderly.untils)
+          (λ _. letter) (omega arith);
+    }
 
-    pub fault_of_unnamed : (k : Kind) → fault.kind ≡ k → (HasNoLetter zone → ⊥) → IsUnnamed zone k → IsFaultOfStates zone fault
-    fault_of_unnamed kind.NoLetter is letter un = absurd (letter un)
-    fault_of_unnamed kind.BadAbbreviation is letter un = fault_of_name is letter un
-    fault_of_unnamed _ is letter un = absurd un
+    pub fault_of_unnamed : (k : Kind) → (HasNoLetter zone → ⊥) → IsUnnamed zone k → IsFirstFault zone k
+    fault_of_unnamed kind.NoLetter letter un = absurd (letter un)
+    fault_of_unnamed kind.BadAbbreviation letter un = fault_of_name letter un
+    fault_of_unnamed _ letter un = absurd un
 
-pub stop_tells : (zone : Zone) (stop : Stop) (fault : Fault) → stop ≡ stops.Fault fault → IsFaultOfStates zone fault
-    → IfSome (fault_of stop) (IsFaultOfStates zone)
-stop_tells zone stop fault e is = subst (λ (s : Stop). IfSome (fault_of s) (IsFaultOfStates zone)) (sym e) is
-
-pub from_periods : (zone : Zone) (stop : Stop) → (HasOffsetOutOfRange zone → ⊥) → IfSome (fault_of stop) (IsFaultOfPeriods zone)
-    → IfSome (fault_of stop) (IsFaultOfStates zone)
-from_periods zone (stops.Fault fault) range is = fault_of_periods zone fault is.place range is
-from_periods zone stops.Memory range is = tt
+  -- the same at the Zone line
+  pub fault_of_states : (place : Place) → IsSomeAnd (lines_of zone) (λ lines. place ≡ lines.first.place) → (fault : Kind) → IsFirstFault zone fault
+      → IsFaultOfStates zone (fault_at place fault)
+  fault_of_states place stands fault is = record { applies = is.applies; least = is.least; place = stands }
 
 -- ---- before the end
 

@@ -23,7 +23,7 @@ use Rattle.zic_base.specs.State.{Shown}
 use Rattle.zic_states.specs.Zone.{Zone, line_at, ZoneKeeps}
 use Rattle.zic_rules.specs.declared.period.Period.{Period}
 use Rattle.zic_rules.specs.declared.period.Periods.{Periods}
-use Rattle.zic_rules.specs.Period.{HasLine, ArePeriods, Holds}
+use Rattle.zic_rules.specs.code.Period.{HasLine, ArePeriods, Holds}
 use Rattle.zic_rules.specs.code.Held.{IsFrom, ComesAfter}
 use Rattle.zic_rules.specs.code.Shown.{IsShownBy, IsRefusedBy, IsHeld, ShowsWhereHeld, IsUnnamed, IsUnnamedAt, AreSoFrom, from_of, IsUpTo, IsSoTo, ShowsSomeTo, ShowsSomeBefore, ShowsNamed, AreKeptTo, shown_by, dated}
 use Rattle.zic_rules.proofs.TimelineChanges.{so_earlier}

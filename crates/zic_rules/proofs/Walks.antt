@@ -4,10 +4,8 @@ use Rattle.std.specs.Prelude.{IfSome, IsSomeAnd, slice_get, option_map, is_some}
 use Rattle.std.proofs.lemmas.Bool.{cases_lt}
 use Rattle.std.proofs.lemmas.Int.{ints}
 use Rattle.std.proofs.lemmas.Option.{same_Some, slice_get-map, slice_get_within}
-use Rattle.zic_base.specs.declared.fault.Fault.{Fault}
+use Rattle.zic_base.specs.declared.fault.Kind.{Kind}
 use Rattle.zic_base.specs.declared.fault.Kind.TheVariants as kind
-use Rattle.zic_base.specs.declared.place.Place.{Place}
-use Rattle.zic_base.specs.Fault.{fault_at}
 use Rattle.zic_lines.specs.Entry.{has_until}
 use Rattle.zic_lines.specs.declared.rules.Rules.{Rules}
 use Rattle.zic_lines.specs.declared.rules.Rules.TheVariants.{Standard, Amount, Set}
@@ -27,7 +25,7 @@ use Rattle.zic_states.specs.Zone.{Zone, lines_of, line_at, Ends, HasBegun, IsNot
 use Rattle.zic_states.proofs.Lines.{line_of, line_at_is}
 use Rattle.zic_states.proofs.Ordered.{one_until}
 use Rattle.zic_rules.specs.declared.period.Period.{Period}
-use Rattle.zic_rules.specs.Period.{IsFaultOfPeriods}
+use Rattle.zic_rules.specs.code.Period.{IsFaultOfPeriods}
 use Rattle.zic_rules.specs.code.End.{IsStart, IsInYears, IsEndAfter, IsEndFrom}
 use Rattle.zic_rules.specs.code.Held.{IsFrom, AreSoFar}
 use Rattle.zic_rules.specs.code.Line.{IsOrderedOn, IsDisorderedOn, AreOccurrencesOn, TellsKept, IsLineTo, bound_of}
@@ -121,15 +119,9 @@ out_of_order zone number line Standard has at out = absurd out
 out_of_order zone number line (Amount saving) has at out = absurd out
 out_of_order zone number line (Set name) has at out = record { number = number; line = line; is_line = at; name = name; has_set = has; disorder = out }
 
-pub fault_of_order : (zone : Zone) (number : ℕ) (line : ZoneLine) (place : Place) (fault : Fault) → line_at zone number ≡ Some line
-    → IsSomeAnd (lines_of zone) (λ lines. place ≡ lines.first.place)
-    → (fault ≡ fault_at place kind.RulesOutOfOrder) × IsDisorderedOn zone.source.rules line.offset line.rules → IsFaultOfPeriods zone fault
-fault_of_order zone number line place fault at stands (is, out) =
-    subst (IsFaultOfPeriods zone) (sym is) (record { place = stands; kind = inl (refl, out_of_order zone number line line.rules refl at out) })
-
-pub fault_of_untils : (zone : Zone) (place : Place) → IsSomeAnd (lines_of zone) (λ lines. place ≡ lines.first.place) → HasUntilNotRising zone
-    → (HasRulesOutOfOrder zone → ⊥) → IsFaultOfPeriods zone (fault_at place kind.UntilNotRising)
-fault_of_untils zone place stands falls order = record { place = stands; kind = inr (refl, falls, order) }
+pub fault_of_order : (zone : Zone) (number : ℕ) (line : ZoneLine) (fault : Kind) → line_at zone number ≡ Some line
+    → (fault ≡ kind.RulesOutOfOrder) × IsDisorderedOn zone.source.rules line.offset line.rules → IsFaultOfPeriods zone fault
+fault_of_order zone number line fault at (is, out) = inl (is, out_of_order zone number line line.rules refl at out)
 
 -- ---- ends
 

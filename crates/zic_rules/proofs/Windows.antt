@@ -15,7 +15,7 @@ use Rattle.zic_states.specs.ByList.{rule_at}
 use Rattle.zic_states.specs.Kept.{Kept, IsKeptBy, IsRuleOf}
 use Rattle.zic_states.specs.Zone.{Zone, line_at, Ends, IsWindowEnd, Keeps}
 use Rattle.zic_rules.specs.declared.period.Period.{Period}
-use Rattle.zic_rules.specs.Period.{Holds}
+use Rattle.zic_rules.specs.code.Period.{Holds}
 use Rattle.zic_rules.specs.code.Held.{HeldTo, AreSoFar, last_rule}
 use Rattle.zic_rules.specs.code.Line.{TellsKept, IsEndOfWindow, IsTotalOffset}
 use Rattle.zic_words.specs.Time.{IsWithin}

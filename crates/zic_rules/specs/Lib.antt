@@ -2,7 +2,6 @@ pub mod code
 pub mod Laws
 pub mod Tail
 pub mod Timeline
-pub mod Period
 pub use Rattle.zic_states.specs.Change
 pub use Rattle.zic_states.specs.Fault
 pub use Rattle.zic_states.specs.Zone

@@ -1,14 +1,24 @@
--- The answers of a timeline.
-use Rattle.std.specs.Prelude.{◌≡◌, ◌<◌, ℕ, ℤ, Some, List, length, slice_get}
+-- The zones of a source, and the answers of a timeline.
+use Rattle.std.specs.Prelude.{◌≡◌, ◌<◌, ℕ, ℤ, Some, List, [], length, slice_get, IsSomeAnd}
 use Rattle.zic_states.specs.Change as changes
 use Rattle.zic_states.specs.Change.{AreChanges}
 use Rattle.zic_base.specs.State.{shown}
 use Rattle.zic_base.specs.declared.state.State.{State}
 use Rattle.zic_source.specs.Sound.{IsSoundSource}
+use Rattle.zic_source.specs.Source.{SourceLines}
 use Rattle.zic_states.specs.End.{IsEnd}
 use Rattle.zic_states.specs.Fault.{IsSound}
 use Rattle.zic_states.specs.Laws.{IsOrderly}
-use Rattle.zic_states.specs.Zone.{Zone}
+use Rattle.zic_states.specs.Tail.{HasNoSet}
+use Rattle.zic_states.specs.Zone.{Zone, lines_of}
+
+-- the zone of this number of a source
+abbrev pub zone_of : SourceLines → ℕ → Zone
+zone_of source number = record { source = source; number = number }
+
+-- The zone has one line, whose RULES name no set.
+abbrev pub IsFixed : Zone → Type 0
+IsFixed zone = IsSomeAnd (lines_of zone) (λ lines. (lines.continuations ≡ []) × HasNoSet lines.first.rules)
 
 -- a change by its instant and its state, without where the state's abbreviation lies
 abbrev pub change_of : ℤ × State → changes.Change

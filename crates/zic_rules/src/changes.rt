@@ -1,19 +1,20 @@
 //! The changes of a zone, by its periods.
 
-ghost use Rattle.std.specs.Prelude.{◌≡◌, ◌<◌, None, true, false, map, IfOk, IfErr, IfSome, IfNone, []};
-ghost use Rattle.zic_base.specs.Fault.{fault_of};
+ghost use Rattle.std.specs.Prelude.{◌≡◌, ◌<◌, None, true, false, map, IfOk, IfErr, []};
+ghost use Rattle.zic_base.specs.Fault.{kind_of};
 ghost use Rattle.zic_base.specs.Memory.{IfRefusal, OnOutOfMemory};
 ghost use Rattle.zic_words.specs.Limits.{is_abbreviation};
-ghost use Rattle.zic_states.specs.Fault.{HasOffsetOutOfRange, IsFaultOfStates, HasNoLetter};
+ghost use Rattle.zic_states.specs.Fault.{HasOffsetOutOfRange, HasNoLetter};
 ghost use Rattle.zic_base.specs.State.{Shown};
-ghost use Rattle.zic_rules.specs.Period.{the_zone};
+ghost use Rattle.zic_rules.specs.code.Period.{the_zone};
+ghost use Rattle.zic_rules.specs.code.Faults.{IsFirstFault};
 ghost use Rattle.zic_rules.specs.code.Shown.{HasPeriods, IsHeld, ShowsWhereHeld, IsUnnamed, IsUnnamedAt, ShowsNamed, AreSoFrom, shown_by, dated};
 
 use crate::period::Periods;
 use crate::zone::Zone;
 use crate::zone_state::{ZoneState, state_by};
 use std::alloc::Global;
-use zic_base::{Kind, Stop};
+use zic_base::{Kind, ZoneStop};
 
 /// A state and the instant from which on a zone shows it.
 #[derive(Clone, Copy)]
@@ -41,15 +42,15 @@ pub(crate) fn changes_of(
     zone: Zone<'_>,
     all: &Periods,
     first: &ZoneState,
-) -> Result<Vec<DatedState>, Stop>
+) -> Result<Vec<DatedState>, ZoneStop>
     requires periods { HasPeriods (the_zone zone) all.now }
     requires first { ShowsWhereHeld (the_zone zone) 0 None (shown_by first.now) }
     requires within { is_abbreviation first.now.name ≡ true }
     ensures ok { IfOk result
         (λ cs. AreSoFrom (ShowsNamed (the_zone zone.entry)) all.now.end None
         (shown_by first.now) (map dated cs.items)) }
-    ensures err { IfRefusal fault_of result (IsFaultOfStates (the_zone zone.entry)) }
-    ensures memory { OnOutOfMemory fault_of result (all.now.list.items ≡ [] → ⊥) }
+    ensures err { IfRefusal kind_of result (IsFirstFault (the_zone zone.entry)) }
+    ensures memory { OnOutOfMemory kind_of result (all.now.list.items ≡ [] → ⊥) }
 {
     // A list that grows as needed can come to hold room for twice its items.
     let mut changes = Vec::with_capacity(alloc, all.list.len())?;
@@ -65,7 +66,7 @@ pub(crate) fn changes_of(
                 }
                 last = state;
             }
-            Err(kind) => return Err(refusal(zone, all, kind)),
+            Err(kind) => return Err(ZoneStop::Fault(refusal(zone, all, kind))),
         }
     }
     Ok(changes)
@@ -73,17 +74,15 @@ pub(crate) fn changes_of(
 
 /// Returns why a zone whose FORMAT gives no abbreviation somewhere, for this reason, has no
 /// timeline: the lack of a letter anywhere goes first.
-pub(crate) fn refusal(zone: Zone<'_>, all: &Periods, kind: Kind) -> Stop
+pub(crate) fn refusal(zone: Zone<'_>, all: &Periods, kind: Kind) -> Kind
     requires periods { HasPeriods (the_zone zone) all.now }
     requires unnamed { IsUnnamed (the_zone zone) kind }
-    ensures err { IfSome (fault_of result) (IsFaultOfStates (the_zone zone.entry)) }
-    ensures fault { IfNone (fault_of result) ⊥ }
+    ensures { IsFirstFault (the_zone zone.entry) result }
 {
-    let place = zone.place();
     if lacks_letter(zone, all) {
-        Stop::at(place, Kind::NoLetter)
+        Kind::NoLetter
     } else {
-        Stop::at(place, kind)
+        kind
     }
 }
 

@@ -1,11 +1,13 @@
 //! The timeline of a zone, by its periods.
 
-ghost use Rattle.std.specs.Prelude.{◌≡◌, ◌<◌, None, true, IfOk, length, []};
-ghost use Rattle.zic_base.specs.Fault.{fault_of};
+ghost use Rattle.std.specs.Prelude.{◌≡◌, ◌<◌, None, true, IfOk, IfErr, length, []};
+ghost use Rattle.zic_base.specs.Fault.{fault_of, kind_of};
 ghost use Rattle.zic_base.specs.Memory.{IfRefusal, OnOutOfMemory};
 ghost use Rattle.zic_states.specs.Fault.{HasOffsetOutOfRange, IsSound, IsFaultOfStates};
 ghost use Rattle.zic_words.specs.Limits.{is_abbreviation};
-ghost use Rattle.zic_rules.specs.Period.{zone_of, the_zone, IsFixed};
+ghost use Rattle.zic_rules.specs.Timeline.{zone_of, IsFixed};
+ghost use Rattle.zic_rules.specs.code.Period.{the_zone};
+ghost use Rattle.zic_rules.specs.code.Faults.{IsFirstFault};
 ghost use Rattle.zic_rules.specs.code.Shown.{HasPeriods, ShowsWhereHeld, shown_by};
 
 use crate::changes::{changes_of, refusal, state_at};
@@ -17,7 +19,7 @@ use crate::walk::periods;
 use crate::zone::Zone;
 use crate::zone_state::ZoneState;
 use std::alloc::Global;
-use zic_base::{Kind, Stop};
+use zic_base::{Kind, Stop, ZoneStop};
 use zic_source::{MAX_RULES, Source};
 
 /// Returns all that a zone shows before its explicit end, and the rules that go on for ever after
@@ -42,21 +44,36 @@ pub fn timeline<'a>(alloc: Global, source: &'a Source, zone: usize) -> Result<Ti
         source,
         number: zone,
     };
-    if !are_offsets_in_range(zone) {
-        return Err(Stop::at(zone.place(), Kind::OffsetRange));
+    match compiled(alloc, zone) {
+        Ok(compiled) => Ok(compiled),
+        Err(stop) => Err(stop.at(zone.place())),
     }
-    prove!(source.rules() <= MAX_RULES);
+}
+
+/// Returns the timeline of a zone.
+fn compiled<'a>(alloc: Global, zone: Zone<'a>) -> Result<Timeline<'a>, ZoneStop>
+    ensures ok { IfOk result (λ t. t ≡ the_zone zone.entry) }
+    ensures sound { IfOk result IsSound }
+    ensures err { IfRefusal kind_of result (IsFirstFault (the_zone zone.entry)) }
+    ensures memory { OnOutOfMemory kind_of result
+        (HasOffsetOutOfRange (the_zone zone.entry) → ⊥) }
+    ensures fixed { OnOutOfMemory kind_of result (IsFixed (the_zone zone.entry) → ⊥) }
+{
+    if !are_offsets_in_range(zone) {
+        return Err(ZoneStop::Fault(Kind::OffsetRange));
+    }
+    prove!(zone.source.rules() <= MAX_RULES);
     let all = periods(alloc, zone)?;
     timeline_of(alloc, zone, &all)
 }
 
 /// Returns the timeline of a zone with these periods.
-fn timeline_of<'a>(alloc: Global, zone: Zone<'a>, all: &Periods) -> Result<Timeline<'a>, Stop>
+fn timeline_of<'a>(alloc: Global, zone: Zone<'a>, all: &Periods) -> Result<Timeline<'a>, ZoneStop>
     requires periods { HasPeriods (the_zone zone) all.now }
     ensures ok { IfOk result (λ t. t ≡ the_zone zone.entry) }
     ensures sound { IfOk result IsSound }
-    ensures err { IfRefusal fault_of result (IsFaultOfStates (the_zone zone.entry)) }
-    ensures memory { OnOutOfMemory fault_of result
+    ensures err { IfRefusal kind_of result (IsFirstFault (the_zone zone.entry)) }
+    ensures memory { OnOutOfMemory kind_of result
         (IsFixed (the_zone zone.entry) → all.now.list.items ≡ [] → ⊥) }
 {
     let first = first_of(zone, all)?;
@@ -66,12 +83,11 @@ fn timeline_of<'a>(alloc: Global, zone: Zone<'a>, all: &Periods) -> Result<Timel
 }
 
 /// Returns the state before all periods.
-fn first_of(zone: Zone<'_>, all: &Periods) -> Result<ZoneState, Stop>
+fn first_of(zone: Zone<'_>, all: &Periods) -> Result<ZoneState, Kind>
     requires periods { HasPeriods (the_zone zone) all.now }
     ensures shows { IfOk result (λ s. ShowsWhereHeld (the_zone zone.entry) 0 None (shown_by s)) }
     ensures within { IfOk result (λ s. is_abbreviation s.name ≡ true) }
-    ensures err { IfRefusal fault_of result (IsFaultOfStates (the_zone zone.entry)) }
-    ensures memory { OnOutOfMemory fault_of result ⊥ }
+    ensures err { IfErr result (IsFirstFault (the_zone zone.entry)) }
 {
     match state_at(zone, 0, None) {
         Ok(first) => Ok(first),

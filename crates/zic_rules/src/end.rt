@@ -4,7 +4,7 @@ ghost use Rattle.std.specs.Prelude.{◌≡◌, ◌≤◌, true, IfSome};
 ghost use Rattle.zic_source.specs.Source.{is_set};
 ghost use Rattle.zic_source.specs.Sound.{IsSoundSource, IsSoundLine};
 ghost use Rattle.zic_states.specs.Until.{set_of};
-ghost use Rattle.zic_rules.specs.Period.{the_zone};
+ghost use Rattle.zic_rules.specs.code.Period.{the_zone};
 ghost use Rattle.zic_rules.specs.code.End.{IsStart, IsInYears, IsLastYearFrom, IsEndFrom};
 
 use crate::year::year_of;

@@ -23,9 +23,6 @@ mod zone;
 mod zone_state;
 
 pub use compile::timeline;
-pub use period::{Period, Periods};
 pub use tail::{Tail, TailRule};
 pub use timelines::Timeline;
-pub use walk::periods;
 pub use zic_base::State;
-pub use zone::Zone;

@@ -3,7 +3,7 @@
 ghost use Rattle.std.specs.Prelude.{◌≡◌, ◌<◌, ◌<ℤ◌, ◌++◌, map, IfOk, IfErr, IfSome, None, length, []};
 ghost use Rattle.zic_source.specs.Sound.{IsSoundSource};
 ghost use Rattle.zic_states.specs.ByList.{AreRising, before, not_after};
-ghost use Rattle.zic_rules.specs.Period.{the_zone, HasLine};
+ghost use Rattle.zic_rules.specs.code.Period.{the_zone, HasLine};
 ghost use Rattle.zic_rules.specs.code.End.{IsInYears};
 ghost use Rattle.zic_rules.specs.code.Held.{AreSoFar, HeldTo};
 ghost use Rattle.zic_rules.specs.code.Line.{IsLineTo, period_at};

@@ -1,14 +1,14 @@
 //! The occurrences of a line.
 
 ghost use Rattle.std.specs.Prelude.{◌≡◌, ◌≤◌, IfOk};
-ghost use Rattle.zic_base.specs.Fault.{fault_at, fault_of};
+ghost use Rattle.zic_base.specs.Fault.{kind_of};
 ghost use Rattle.zic_base.specs.Memory.{IfRefusal, OnOutOfMemory};
 ghost use Rattle.zic_source.specs.Sound.{IsSoundLine};
 ghost use Rattle.zic_states.specs.Tail.{HasNoSet};
 ghost use Rattle.zic_rules.specs.code.Line.{IsOrderedOn, IsDisorderedOn, AreOccurrencesOn};
 
 use std::alloc::Global;
-use zic_base::{Kind, Place, Stop};
+use zic_base::{Kind, ZoneStop};
 use zic_occurrences::{TimedOccurrence, occurrences};
 use zic_source::{Rules, Source, ZoneLine};
 
@@ -16,24 +16,23 @@ use zic_source::{Rules, Source, ZoneLine};
 /// more; none where RULES name no set.
 pub(crate) fn line_occurrences(
     alloc: Global,
-    zone_place: Place,
     source: &Source,
     line: &ZoneLine,
     before: u16,
-) -> Result<Vec<TimedOccurrence>, Stop>
+) -> Result<Vec<TimedOccurrence>, ZoneStop>
     requires line { IsSoundLine source.now.rules line.now }
     requires before { before ≤ 9999 }
     ensures order { IfOk result
         (λ _. IsOrderedOn source.now.rules line.now.offset line.now.rules) }
     ensures all { IfOk result
         (λ xs. AreOccurrencesOn source.now.rules line.now.offset before line.now.rules xs.items) }
-    ensures err { IfRefusal fault_of result
-        (λ fault. (fault ≡ fault_at zone_place Kind.RulesOutOfOrder)
+    ensures err { IfRefusal kind_of result
+        (λ kind. (kind ≡ Kind.RulesOutOfOrder)
         × IsDisorderedOn source.now.rules line.now.offset line.now.rules) }
-    ensures memory { OnOutOfMemory fault_of result (HasNoSet line.now.rules → ⊥) }
+    ensures memory { OnOutOfMemory kind_of result (HasNoSet line.now.rules → ⊥) }
 {
     match &line.rules {
-        Rules::Set(name) => occurrences(alloc, zone_place, source, name, line.offset, before),
+        Rules::Set(name) => occurrences(alloc, source, name, line.offset, before),
         Rules::Standard | Rules::Amount(_) => Ok(Vec::new(alloc)),
     }
 }

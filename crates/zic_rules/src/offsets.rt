@@ -4,7 +4,7 @@ ghost use Rattle.std.specs.Prelude.{◌≡◌, ◌<◌, ◌≤◌, ◌+ℤ◌, t
 ghost use Rattle.std.specs.List.{list_all};
 ghost use Rattle.zic_source.specs.Sound.{IsSoundLine, IsWithinDay};
 ghost use Rattle.zic_states.specs.Fault.{HasOffsetOutOfRange};
-ghost use Rattle.zic_rules.specs.Period.{the_zone};
+ghost use Rattle.zic_rules.specs.code.Period.{the_zone};
 ghost use Rattle.zic_rules.specs.code.Shown.{IsInRangeOn, IsOutOfRangeOn, AreAllInRange, IsOneOutOfRange};
 
 use crate::zone::Zone;

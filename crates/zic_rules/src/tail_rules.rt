@@ -1,13 +1,14 @@
 //! The rules of a zone's last line that go on for ever.
 
 ghost use Rattle.std.specs.Prelude.{◌≡◌, ◌<◌, ◌≤◌, ◌+ℤ◌, IfOk, IfErr, length, unsigned_abs};
-ghost use Rattle.zic_base.specs.Fault.{fault_of};
+ghost use Rattle.zic_base.specs.Fault.{kind_of};
 ghost use Rattle.zic_base.specs.Memory.{IfRefusal, OnOutOfMemory};
 ghost use Rattle.zic_source.specs.Sound.{IsSoundSource, IsSoundLine};
-ghost use Rattle.zic_states.specs.Fault.{IsFaultOfStates};
-ghost use Rattle.zic_rules.specs.Period.{the_zone, IsFixed};
+ghost use Rattle.zic_rules.specs.Timeline.{IsFixed};
+ghost use Rattle.zic_rules.specs.code.Period.{the_zone};
 ghost use Rattle.zic_words.specs.declared.time.TheConstants.{GREATEST_OFFSET};
 ghost use Rattle.zic_rules.specs.Tail.{IsTailRule};
+ghost use Rattle.zic_rules.specs.code.Faults.{IsFirstFault};
 ghost use Rattle.zic_rules.specs.code.Shown.{HasPeriods};
 ghost use Rattle.zic_rules.specs.code.Tail.{IsLastOf, HasTailRules, IsRefusedOnce, numbers_of};
 
@@ -16,7 +17,7 @@ use crate::period::Periods;
 use crate::tail::TailRule;
 use crate::zone::Zone;
 use std::alloc::Global;
-use zic_base::{Kind, Stop};
+use zic_base::{Kind, ZoneStop};
 use zic_source::{Rule, Rules, Source, ZoneLine};
 use zic_states::format::abbreviation;
 
@@ -26,11 +27,11 @@ pub(crate) fn tail_rules(
     alloc: Global,
     zone: Zone<'_>,
     all: &Periods,
-) -> Result<Vec<TailRule>, Stop>
+) -> Result<Vec<TailRule>, ZoneStop>
     requires periods { HasPeriods (the_zone zone) all.now }
     ensures ok { IfOk result (λ rules. HasTailRules (the_zone zone.entry) rules.items) }
-    ensures err { IfRefusal fault_of result (IsFaultOfStates (the_zone zone.entry)) }
-    ensures memory { OnOutOfMemory fault_of result (IsFixed (the_zone zone.entry) → ⊥) }
+    ensures err { IfRefusal kind_of result (IsFirstFault (the_zone zone.entry)) }
+    ensures memory { OnOutOfMemory kind_of result (IsFixed (the_zone zone.entry) → ⊥) }
 {
     let line = last_line(zone);
     let mut rules = Vec::new(alloc);
@@ -39,7 +40,7 @@ pub(crate) fn tail_rules(
         if rule.last.is_none() {
             match tail_rule(line, rule) {
                 Ok(tail) => rules.push(tail)?,
-                Err(kind) => return Err(refusal(zone, all, kind)),
+                Err(kind) => return Err(ZoneStop::Fault(refusal(zone, all, kind))),
             }
         }
     }

@@ -6,7 +6,7 @@ ghost use Rattle.zic_states.specs.Change as changes;
 ghost use Rattle.zic_states.specs.End.{IsEnd};
 ghost use Rattle.zic_states.specs.Zone.{Shows};
 ghost use Rattle.zic_states.specs.Fault.{IsSound};
-ghost use Rattle.zic_rules.specs.Period.{the_zone};
+ghost use Rattle.zic_rules.specs.code.Period.{the_zone};
 ghost use Rattle.zic_rules.specs.code.Shown.{IsTimeline, shown_by, dated};
 ghost use Rattle.zic_rules.specs.code.Tail.{HasTailRules};
 ghost use Rattle.zic_base.specs.State.{shown};
@@ -44,7 +44,7 @@ impl<'a> Model for Timeline<'a> {
     ghost use Rattle.std.specs.Prelude.{map};
     ghost use Rattle.zic_rules.specs.code.Shown.{shown_by, dated};
     ghost use Rattle.zic_rules.specs.code.Tail.{IsKept};
-    ghost use Rattle.zic_rules.specs.Period.{the_zone};
+    ghost use Rattle.zic_rules.specs.code.Period.{the_zone};
 
     ghost Value = { states.Zone };
 

@@ -5,7 +5,7 @@ ghost use Rattle.zic_source.specs.Sound.{IsSoundSource, IsSoundLine};
 ghost use Rattle.zic_states.specs.ByList.{rule_at};
 ghost use Rattle.zic_states.specs.Kept.{IsRuleOf};
 ghost use Rattle.zic_states.specs.Zone.{line_at};
-ghost use Rattle.zic_rules.specs.Period.{the_zone, HasLine};
+ghost use Rattle.zic_rules.specs.code.Period.{the_zone, HasLine};
 ghost use Rattle.zic_rules.specs.code.End.{IsInYears};
 ghost use Rattle.zic_rules.specs.code.Held.{AreSoFar, last_rule};
 ghost use Rattle.zic_rules.specs.code.Line.{TellsKept, IsEndOfWindow, IsTotalOffset};

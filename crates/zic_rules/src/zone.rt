@@ -6,11 +6,11 @@ use zic_base::Place;
 use zic_source::{Source, ZoneLine};
 
 /// A zone of a source, by its number from 0 in the order of the texts and their lines.
-#[derive(Clone, Copy, Debug)]
-pub struct Zone<'a> {
-    pub source: &'a Source,
-    pub number: usize,
-    pub ghost is_zone: { number < length source.now.zones },
+#[derive(Clone, Copy)]
+pub(crate) struct Zone<'a> {
+    pub(crate) source: &'a Source,
+    pub(crate) number: usize,
+    pub(crate) ghost is_zone: { number < length source.now.zones },
 }
 
 impl<'a> Zone<'a> {
@@ -18,10 +18,10 @@ impl<'a> Zone<'a> {
     ghost use Rattle.zic_source.specs.Source.{lines_of_zone};
     ghost use Rattle.zic_source.specs.Sound.{IsSoundLine};
     ghost use Rattle.zic_states.specs.Zone.{lines_of, line_at};
-    ghost use Rattle.zic_rules.specs.Period.{the_zone, HasLine};
+    ghost use Rattle.zic_rules.specs.code.Period.{the_zone, HasLine};
 
     /// Returns the number of lines of the zone: its Zone line and its continuation lines.
-    pub fn lines(self) -> usize
+    pub(crate) fn lines(self) -> usize
         ensures { IfSome (lines_of (the_zone self.entry))
             (λ lines. result ≡ length (lines_of_zone lines)) }
     {
@@ -29,7 +29,7 @@ impl<'a> Zone<'a> {
     }
 
     /// Returns a line of the zone by its number from 0; line 0 is the Zone line.
-    pub fn line(self, number: usize) -> &'a ZoneLine
+    pub(crate) fn line(self, number: usize) -> &'a ZoneLine
         requires { HasLine (the_zone self) number }
         ensures line { line_at (the_zone self.entry) number ≡ Some result.now }
         ensures sound { IsSoundLine self.entry.source.now.rules result.now }
@@ -38,7 +38,7 @@ impl<'a> Zone<'a> {
     }
 
     /// Returns the place of the Zone line.
-    pub fn place(self) -> Place
+    pub(crate) fn place(self) -> Place
         ensures { IsSomeAnd (lines_of (the_zone self.entry))
             (λ lines. result ≡ lines.first.place) }
     {

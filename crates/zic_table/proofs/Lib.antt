@@ -6,13 +6,4 @@ pub mod Designated
 pub mod Texts
 pub mod Designations
 pub mod Tables
-pub mod Types
 pub mod Footers
-pub mod Instants
-pub mod ChangeBounds
-pub mod Files
-pub mod OneImage
-pub mod OneFault
-pub mod Images
-pub mod Faults
-pub mod Wants

@@ -8,11 +8,9 @@ use Rattle.std.proofs.lemmas.Int.{ints}
 use Rattle.std.proofs.lemmas.List.{length-append, length-map, get_or-map, get_or_at, get_or_append_left, map-append, same_from_push}
 use Rattle.std.proofs.lemmas.List.Elements.{All-cons, All-head, All-tail, All-contains, All-filter, All-map, All-weaker, Contains-get_or, Contains-push, Contains-push_cases}
 use Rattle.zic_base.specs.Check.{first_failed}
-use Rattle.zic_base.specs.Fault.{fault_at}
 use Rattle.zic_base.specs.State.{Shown}
-use Rattle.zic_base.specs.declared.fault.Fault.{Fault}
+use Rattle.zic_base.specs.declared.fault.Kind.{Kind}
 use Rattle.zic_base.specs.declared.fault.Kind.TheVariants.{TooManyChanges, TooManyTypes, TooManyChars}
-use Rattle.zic_base.specs.declared.place.Place.{Place}
 use Rattle.zic_posix.specs.Footer.{TzString, version_by, version_of, is_of_day}
 use Rattle.zic_posix.specs.Grammar.{IsTzString, Spells}
 use Rattle.zic_posix.specs.Meaning.{Means}
@@ -30,7 +28,8 @@ use Rattle.zic_rules.specs.Timeline.{IsWholeZone}
 use Rattle.zic_rules.proofs.Limits.{shows_within_limits}
 use Rattle.zic_footer.specs.Making.{IsMade, GoesOn}
 use Rattle.zic_tzif.specs.Content.{Content, IsFooter, IsLocalType, IsWritable, type_state}
-use Rattle.zic_table.specs.ContentOf.{firsts, before, same_state, states_of, names_of, ended, local_type, transition, content_of, limits, IsContentOf, IsFaultOfTable, HasFewChanges}
+use Rattle.zic_table.specs.ContentOf.{firsts, before, same_state, states_of, names_of, ended, local_type, transition, content_of, limits, IsContentOf, HasFewChanges}
+use Rattle.zic_table.specs.code.Faults.{IsFirstFault}
 use Rattle.zic_table.specs.code.LocalTypes.{AreLocalTypes, HasManyCharacters}
 use Rattle.zic_table.specs.code.Transitions.{AreTransitions, HasManyTypes}
 use Rattle.zic_tzif.specs.declared.content.Change.{Change}
@@ -201,14 +200,14 @@ module _ (zone : Zone) (whole : IsWholeZone zone) where
   passes_none first changes few fit short =
       rw (le-leb (length changes) MAX_TRANSITIONS few, le-leb (length (states_of first changes)) MAX_TYPES fit, le-leb (length (ended (names_of (states_of first changes)))) MAX_CHARACTERS short) refl
 
-  pub too_many_changes : (place : Place) (first : Shown) (changes : List of_zone.Change) → of_zone.IsFirstState zone first → of_zone.AreChanges zone changes
-      → MAX_TRANSITIONS < length changes → IsFaultOfTable zone place (fault_at place TooManyChanges)
-  too_many_changes place first changes is_first are many = record {
+  pub too_many_changes : (first : Shown) (changes : List of_zone.Change) → of_zone.IsFirstState zone first → of_zone.AreChanges zone changes
+      → MAX_TRANSITIONS < length changes → IsFirstFault zone TooManyChanges
+  too_many_changes first changes is_first are many = record {
     first = first;
     changes = changes;
     are_changes = are;
     is_first = is_first;
-    first_exceeded = (refl, passes_first first changes many);
+    first_exceeded = passes_first first changes many;
   }
 
   module _ (all : List of_zone.Change) (are_all : of_zone.AreChanges zone all) (few : length all ≤ MAX_TRANSITIONS) where
@@ -218,13 +217,13 @@ module _ (zone : Zone) (whole : IsWholeZone zone) where
     pub has_few : HasFewChanges zone
     has_few changes are = is_few changes are
 
-    pub too_many_types : (place : Place) (fault : Fault) → fault ≡ fault_at place TooManyTypes → HasManyTypes zone → IsFaultOfTable zone place fault
-    too_many_types place fault is many = subst (IsFaultOfTable zone place) (sym is) (record {
+    pub too_many_types : (fault : Kind) → fault ≡ TooManyTypes → HasManyTypes zone → IsFirstFault zone fault
+    too_many_types fault is many = subst (IsFirstFault zone) (sym is) (record {
       first = many.first;
       changes = many.changes;
       are_changes = many.are_changes;
       is_first = many.is_first;
-      first_exceeded = (refl, passes_second many.first many.changes (is_few many.changes many.are_changes) many.many);
+      first_exceeded = passes_second many.first many.changes (is_few many.changes many.are_changes) many.many;
     })
 
     module _ (states : List Shown) (transitions : List Change) (numbered : AreTransitions zone states transitions) (fit : length states ≤ MAX_TYPES) where
@@ -237,13 +236,13 @@ module _ (zone : Zone) (whole : IsWholeZone zone) where
       types_fit : length (states_of first changes) ≤ MAX_TYPES
       types_fit = omega (arith, ap (λ (l : List Shown). length l) numbered.are_states)
 
-      pub too_many_characters : (place : Place) (fault : Fault) → fault ≡ fault_at place TooManyChars → HasManyCharacters states → IsFaultOfTable zone place fault
-      too_many_characters place fault is many = subst (IsFaultOfTable zone place) (sym is) (record {
+      pub too_many_characters : (fault : Kind) → fault ≡ TooManyChars → HasManyCharacters states → IsFirstFault zone fault
+      too_many_characters fault is many = subst (IsFirstFault zone) (sym is) (record {
         first = first;
         changes = changes;
         are_changes = numbered.are_changes;
         is_first = numbered.is_first;
-        first_exceeded = (refl, passes_third first changes (is_few changes numbered.are_changes) types_fit (subst HasManyCharacters numbered.are_states many));
+        first_exceeded = passes_third first changes (is_few changes numbered.are_changes) types_fit (subst HasManyCharacters numbered.are_states many);
       })
 
       module _ (f : TzString) (made : IsMade zone f) (goes_on : GoesOn zone f) (types : List LocalType) (octets : List ℕ) (designated : AreLocalTypes states types octets)

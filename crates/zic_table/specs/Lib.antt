@@ -1,7 +1,5 @@
 pub mod code
 pub mod ContentOf
-pub mod Image
-pub mod Laws
 pub use Rattle.zic_footer.specs.Making
 pub use Rattle.zic_tzif.specs.Content
 pub use Rattle.zic_posix.specs.Footer

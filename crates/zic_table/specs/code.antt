@@ -1,4 +1,5 @@
 -- Definitions for the code of this crate and for proofs. No contract of an exported function cites them.
+pub mod Faults
 pub mod Firsts
 pub mod Numbering
 pub mod Transitions

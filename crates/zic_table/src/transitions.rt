@@ -1,7 +1,7 @@
 //! The transitions of a zone.
 
 ghost use Rattle.std.specs.Prelude.{◌≡◌, IfOk};
-ghost use Rattle.zic_base.specs.Fault.{fault_at, fault_of};
+ghost use Rattle.zic_base.specs.Fault.{kind_of};
 ghost use Rattle.zic_base.specs.Memory.{IfRefusal};
 ghost use Rattle.zic_base.specs.State.{shown};
 ghost use Rattle.zic_states.specs.Change.{IsFirstState};
@@ -10,7 +10,7 @@ ghost use Rattle.zic_table.specs.code.Transitions.{AreTransitions, HasManyTypes}
 
 use crate::numbering::Numbering;
 use std::alloc::Global;
-use zic_base::{Kind, Place, State, Stop};
+use zic_base::{Kind, State, ZoneStop};
 use zic_rules::Timeline;
 use zic_tzif::Change;
 
@@ -21,19 +21,18 @@ pub(crate) struct Numbered<'a> {
     pub(crate) numbering: Numbering<'a>,
 }
 
-/// Returns the transitions of a zone with this first state, whose Zone line stands at
-/// `zone_place`, or `TooManyTypes` where they have more types than a table.
+/// Returns the transitions of a zone with this first state, or `TooManyTypes` where they have more
+/// types than a table.
 pub(crate) fn transitions<'a>(
     alloc: Global,
-    zone_place: Place,
     t: &'a Timeline<'_>,
     first: State<'a>,
-) -> Result<Numbered<'a>, Stop>
+) -> Result<Numbered<'a>, ZoneStop>
     requires whole { IsWholeZone t.now }
     requires first { IsFirstState t.now (shown first) }
     ensures ok { IfOk result (λ made. AreTransitions t.now made.numbering made.changes.items) }
-    ensures err { IfRefusal fault_of result
-        (λ fault. (fault ≡ fault_at zone_place Kind.TooManyTypes) × HasManyTypes t.now) }
+    ensures err { IfRefusal kind_of result
+        (λ kind. (kind ≡ Kind.TooManyTypes) × HasManyTypes t.now) }
 {
     let mut numbering = Numbering::new(alloc, first)?;
     let count = t.len();
@@ -41,7 +40,7 @@ pub(crate) fn transitions<'a>(
     for i in 0..count {
         let (instant, state) = t.change(i);
         let Some(number) = numbering.number(state)? else {
-            return Err(Stop::at(zone_place, Kind::TooManyTypes));
+            return Err(ZoneStop::Fault(Kind::TooManyTypes));
         };
         changes.push(Change { instant, number })?;
     }

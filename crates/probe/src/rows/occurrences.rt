@@ -44,9 +44,9 @@ fn occurrences_of(
     let Rules::Set(set) = &line.rules else {
         return Err(Refusal::Call);
     };
-    match occurrences(alloc, line.place, source, set, line.offset, before) {
+    match occurrences(alloc, source, set, line.offset, before) {
         Ok(found) => Ok(found),
-        Err(stop) => Err(Refusal::Stop(stop)),
+        Err(stop) => Err(Refusal::Stop(stop.at(line.place))),
     }
 }
 

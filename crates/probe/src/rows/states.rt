@@ -111,8 +111,8 @@ fn occurrences_for(
         Some(until) => until.year + 2,
         None => 1,
     };
-    match occurrences(alloc, line.place, source, set, line.offset, before) {
+    match occurrences(alloc, source, set, line.offset, before) {
         Ok(found) => Ok(found),
-        Err(stop) => Err(Refusal::Stop(stop)),
+        Err(stop) => Err(Refusal::Stop(stop.at(line.place))),
     }
 }

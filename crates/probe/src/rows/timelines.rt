@@ -1,4 +1,4 @@
-//! Periods, changes, tails and footers of the only zone of a source.
+//! Changes, tails and footers of the only zone of a source.
 
 ghost use Rattle.std.specs.Prelude.{◌≡◌, length};
 
@@ -7,7 +7,7 @@ use crate::answers::Answers;
 use std::alloc::Global;
 use zic_base::State;
 use zic_footer::{make, print};
-use zic_rules::{Periods, Tail, TailRule, Timeline, Zone, periods, timeline};
+use zic_rules::{Tail, TailRule, Timeline, timeline};
 use zic_source::Source;
 
 /// Appends the answer to a call.
@@ -24,7 +24,6 @@ pub fn answer(
         "changes" => changes(alloc, source, answers),
         "tail" => tail(alloc, source, answers),
         "footer" => footer(alloc, source, answers),
-        "periods" => zone_periods(alloc, source, call, answers),
         _ => Err(Refusal::Call),
     }
 }
@@ -122,43 +121,4 @@ fn footer(alloc: Global, source: &Source, answers: &mut Answers) -> Result<(), R
     }
     answers.end_line();
     Ok(())
-}
-
-/// `periods COUNT`: appends the place of the zone and that of its first line, the number of its
-/// lines, as many of the first periods, and the explicit end.
-fn zone_periods(
-    alloc: Global,
-    source: &Source,
-    call: &Call<'_>,
-    answers: &mut Answers,
-) -> Result<(), Refusal>
-    requires { length source.now.zones ≡ 1 }
-{
-    let count = call.number(0, 0, 9999)? as usize;
-    let zone = Zone { source, number: 0 };
-    push_zone(zone, answers);
-    let found = periods(alloc, zone)?;
-    push_periods(&found, count, answers);
-    Ok(())
-}
-
-fn push_zone(zone: Zone<'_>, answers: &mut Answers) {
-    answers.place(zone.place());
-    answers.place(zone.line(0).place);
-    answers.push(b",");
-    answers.show(&zone.lines());
-    answers.word("lines\n");
-}
-
-fn push_periods(found: &Periods, count: usize, answers: &mut Answers) {
-    for period in found.list.iter().take(count) {
-        answers.show(&period.from);
-        answers.word("line");
-        answers.show(&period.line);
-        answers.word("rule");
-        answers.debug_line(&period.rule);
-    }
-    answers.word("end");
-    answers.show(&found.end);
-    answers.end_line();
 }

@@ -1,12 +1,11 @@
 -- Files as a list of images, one for each zone, and of entries, each with the number of its zone.
-use Rattle.std.specs.Prelude.{◌≡◌, ◌⊎◌, ℕ, List, [], slice_get, slice_index_or, All, AllPairs, Contains, IfSome, IsSomeAnd}
+use Rattle.std.specs.Prelude.{◌≡◌, ◌⊎◌, ℕ, List, slice_get, All, AllPairs, Contains, IfSome, IsSomeAnd}
 use Rattle.std.specs.List.{AllZip}
 use Rattle.zic_base.specs.Place.{IsBefore}
 use Rattle.zic_base.specs.declared.place.Place.{Place}
 use Rattle.zic_lines.specs.declared.link.Link.{Link}
 use Rattle.zic_source.specs.Links.{EndsAt}
 use Rattle.zic_source.specs.Source.{SourceLines, zone_at}
-use Rattle.zic_files.specs.File.{FileImage, File}
 use Rattle.zic_files.specs.declared.entry.Entry.{Entry}
 
 -- the entry of the zone of this number

@@ -2,9 +2,9 @@
 use Rattle.std.specs.Prelude.{◌≡◌, ◌+◌, ◌≤◌, ◌<◌, ℕ, List, length, Some, slice_get}
 use Rattle.zic_base.specs.declared.fault.Fault.{Fault}
 use Rattle.zic_source.specs.Source.{SourceLines}
-use Rattle.zic_rules.specs.Period.{zone_of}
+use Rattle.zic_rules.specs.Timeline.{zone_of}
 use Rattle.zic_files.specs.File.{FileImage}
-use Rattle.zic_table.specs.Image.{IsImageOf, IsFaultOfZone, ImageNeedsMemory}
+use Rattle.zic_bulk.specs.Image.{IsImageOf, IsFaultOfZone, ImageNeedsMemory}
 use Rattle.zic_bulk.specs.Files.{IsReadImage}
 
 -- their images, in order

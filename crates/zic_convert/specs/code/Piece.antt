@@ -13,6 +13,7 @@ use Rattle.zic_convert.specs.declared.row.RowPen.{RowPen}
 -- left to split
 pub record AreSoFar (piece : Piece) (rows : RowsOf) (batch : Batch) (count : ℕ) (splitter : Splitting) : Type 0 where
   pub few : count ≤ BATCH
+  pub long : length batch.records ≡ BATCH
   pub piece_is : splitter.piece ≡ piece.bytes.now
   pub wanted_is : splitter.wanted ≡ wanted_by piece.layout.now
   pub split : All (IsSplit piece.bytes.now (wanted_by piece.layout.now)) (take count batch.records)

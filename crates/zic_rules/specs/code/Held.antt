@@ -2,7 +2,7 @@
 use Rattle.std.specs.Prelude.{◌≡◌, ℕ, zero, suc, ℤ, ◌<ℤ◌, ◌≤ℤ◌, List, [], ◌∷◌, Option, Some, None}
 use Rattle.zic_states.specs.Zone.{Zone, Ends}
 use Rattle.zic_rules.specs.declared.period.Period.{Period}
-use Rattle.zic_rules.specs.Period.{Holds}
+use Rattle.zic_rules.specs.code.Period.{Holds}
 
 -- at this instant or later; with none, at every instant
 abbrev pub IsFrom : Option ℤ → ℤ → Type 0

@@ -19,7 +19,7 @@ use Rattle.zic_rules.specs.declared.changes.DatedState.{DatedState}
 use Rattle.zic_rules.specs.declared.period.Period.{Period}
 use Rattle.zic_rules.specs.declared.period.Periods.{Periods}
 use Rattle.zic_rules.specs.declared.zone_state.ZoneState.{ZoneState}
-use Rattle.zic_rules.specs.Period.{ArePeriods, Holds}
+use Rattle.zic_rules.specs.code.Period.{ArePeriods, Holds}
 use Rattle.zic_rules.specs.code.Held.{IsFrom, ComesAfter}
 
 -- the state that a state of the code stands for

@@ -2,8 +2,8 @@ use Rattle.std.proofs.Common.{arith, rules}
 use Rattle.std.proofs.lemmas.Result.{err_from_is_err_and}
 use Rattle.zic_base.specs.Fault.{fault_of}
 use Rattle.zic_base.proofs.MemoryLemmas.{on_want}
-use Rattle.zic_rules.specs.Period.{zone_of}
-use Rattle.zic_table.specs.Image.{ImageNeedsMemory}
+use Rattle.zic_rules.specs.Timeline.{zone_of}
+use Rattle.zic_bulk.specs.Image.{ImageNeedsMemory}
 use Rattle.zic_bulk.specs.Files.{IsReadImage}
 use Rattle.zic_bulk.specs.code.Zones.{NeedsMemoryWithin}
 use Rattle.zic_bulk.proofs.Zones.{none_within, one_more, fault_within, wants_within, if_none_weaker, wanted}

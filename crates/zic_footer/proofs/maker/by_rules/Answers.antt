@@ -1,9 +1,6 @@
 use Rattle.std.proofs.Common.{◌≡◌, subst, sym, refl, arith, ℤ, to_z, of_z, w32}
 use Rattle.std.specs.Prelude.{IfOk, IfSome}
 use Rattle.std.proofs.lemmas.Int.{ints}
-use Rattle.zic_base.specs.Fault.{fault_at, fault_of}
-use Rattle.zic_base.specs.declared.fault.Kind.TheVariants.{NoFooter}
-use Rattle.zic_base.specs.declared.fault.Stop.{Stop}
 use Rattle.zic_footer.specs.Making.{by_rules}
 use Rattle.zic_footer.specs.code.Turns.{IsSoundPair, HasWideEdges, NoneTakeTurns}
 use Rattle.zic_footer.proofs.Pairs.{sound_pair, pair_made, they_follow}
@@ -42,4 +39,4 @@ returns-in_default-clause-err c =
           absurd cc
       | in_default-via-in_default w ↦ λ starting ending turns. w.in_default.ensures starting ending turns.pair
     ] in
-    subst (λ (s : Stop). IfSome (fault_of s) (λ fault. (fault ≡ fault_at c.args.zone_place NoFooter) × NoneTakeTurns c.args.standard c.args.rules.now)) (sym c.at.ensures) (refl, none)
+    (refl, none)

@@ -1,13 +1,9 @@
-use Rattle.std.proofs.Common.{◌≡◌, ◌+◌, ◌≤◌, ℤ, pos, List, refl, sym, ap, subst, ◌∙◌, to_z, of_z, w32, arith}
-use Rattle.std.specs.Prelude.{IfSome}
+use Rattle.std.proofs.Common.{◌≡◌, ◌+◌, ◌≤◌, ℤ, pos, List, refl, ap, subst, ◌∙◌, to_z, of_z, w32, arith}
 use Rattle.std.proofs.lemmas.Int.{ints}
-use Rattle.zic_base.specs.declared.fault.Stop.{Stop}
-use Rattle.zic_base.specs.declared.fault.Kind.TheVariants.{RulesOutOfOrder}
-use Rattle.zic_base.specs.Fault.{fault_at, fault_of}
+use Rattle.zic_base.specs.Fault.{kind_of}
 use Rattle.zic_occurrences.specs.declared.nominal.Nominal.{Nominal}
 use Rattle.zic_occurrences.specs.declared.occurrence.TimedOccurrence.{TimedOccurrence}
 use Rattle.zic_occurrences.specs.Occurrence.{RuleSet, year_second}
-use Rattle.zic_occurrences.specs.Order.{IsOutOfOrder}
 use Rattle.zic_occurrences.specs.code.Nominals.{HasTie, HasNoTie}
 use Rattle.zic_occurrences.specs.code.Timed.{timed_from, HasFall}
 use Rattle.zic_occurrences.proofs.LastNamed.{named_year}
@@ -31,7 +27,6 @@ pub returns-then-has_tie-clause-err : goal.returns-then-has_tie-clause-err
 returns-then-has_tie-clause-err c =
     let set : RuleSet = record { rules = c.args.source.now.rules; name = c.args.set.now } in
     let tie = subst (λ (l : List Nominal). HasTie l) c.deref.ensures.value c.if-has_tie.ensures in
-    subst (λ (stop : Stop). IfSome (fault_of stop) (λ fault. (fault ≡ fault_at c.args.zone_place RulesOutOfOrder) × IsOutOfOrder set c.args.offset)) (sym c.at.ensures)
     (refl, out_of_order set c.args.offset (year_second (pos c.max-last.result)) c.in_ok-nominals.nominals.items c.in_ok-nominals.ensures.all tie)
 
 pub returns-clause-order : goal.returns-clause-order
@@ -72,8 +67,8 @@ returns-clause-err c =
     let same : to_z w32 (of_z w32 c.args.offset) ≡ c.args.offset = omega (arith, ints, c.requires.offset) in
     let whole : timed_from set.rules (to_z w32 (of_z w32 c.args.offset)) (pos 0) c.deref-2.result.now ≡ timed_from set.rules c.args.offset (pos 0) ns =
     ap (λ (o : ℤ). timed_from set.rules o (pos 0) c.deref-2.result.now) same ∙ ap (λ (l : List Nominal). timed_from set.rules c.args.offset (pos 0) l) c.deref-2.ensures.value in
-    refusal_from fault_of c.timed.result c.timed.ensures.err
-    (λ fault says. (
+    refusal_from kind_of c.timed.result c.timed.ensures.err
+    (λ kind says. (
       says.0,
       disorder set c.args.offset bound ns c.in_ok-nominals.ensures.all (seconds_rise ns c.in_ok-nominals.ensures.sorted apart)
           (subst (λ (l : List TimedOccurrence). HasFall l) whole says.1),

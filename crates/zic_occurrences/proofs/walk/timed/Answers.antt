@@ -1,9 +1,6 @@
 use Rattle.std.proofs.Common.{◌≡◌, ◌+◌, ℤ, pos, List, get_or, Some, refl, sym, ap, subst, ◌∙◌, to_z, of_z, w32, w64, arith}
-use Rattle.std.specs.Prelude.{slice_get, IfSome}
+use Rattle.std.specs.Prelude.{slice_get}
 use Rattle.std.proofs.lemmas.Int.{ints}
-use Rattle.zic_base.specs.declared.fault.Stop.{Stop}
-use Rattle.zic_base.specs.declared.fault.Kind.TheVariants.{RulesOutOfOrder}
-use Rattle.zic_base.specs.Fault.{fault_at, fault_of}
 use Rattle.zic_occurrences.specs.declared.nominal.Nominal.{Nominal}
 use Rattle.zic_occurrences.specs.declared.occurrence.TimedOccurrence.{TimedOccurrence}
 use Rattle.zic_occurrences.specs.Order.{instant_by}
@@ -29,7 +26,6 @@ returns-then-not-comes_after-clause-err c =
     let falls : ComesNotAfter c.loop-nominal.timed.items instant =
     subst (λ (l : List TimedOccurrence). ComesNotAfter l instant) c.deref.ensures.value c.if-not-comes_after.ensures in
     let fall = one_falls rules offset saved ns c.loop-nominal.nominal-index n none rule c.loop-nominal.timed.items instant c.loop-nominal.invariant c.loop-nominal-test.true refl at reckoned falls in
-    subst (λ (stop : Stop). IfSome (fault_of stop) (λ fault. (fault ≡ fault_at c.args.zone_place RulesOutOfOrder) × HasFall (timed_from rules c.args.offset (pos 0) ns))) (sym c.at.ensures)
     (refl, subst (λ (o : ℤ). HasFall (timed_from rules o (pos 0) ns)) same fall)
 
 pub loop-nominal-preserved : goal.loop-nominal-preserved

@@ -1,10 +1,9 @@
-use Rattle.std.proofs.Common.{◌≡◌, ℕ, ◌+◌, ◌<◌, ◌≤◌, ℤ, pos, ◌-ℤ◌, ◌≤ℤ◌, inl, inr, List, length, get_or, set, unsigned_abs, sym, ap, subst, ◌∙◌, to_z, of_z, to_z-of_z, w64, FitsSigned, arith}
+use Rattle.std.proofs.Common.{◌≡◌, ℕ, ◌+◌, ◌<◌, ◌≤◌, ℤ, pos, ◌-ℤ◌, ◌≤ℤ◌, inl, inr, List, length, get_or, set, unsigned_abs, subst, ◌∙◌, to_z, of_z, to_z-of_z, w64, FitsSigned, arith}
 use Rattle.std.proofs.lemmas.Bool.{cases_lt}
 use Rattle.std.proofs.lemmas.Int.{ints}
 use Rattle.std.proofs.lemmas.List.{length-set, get_or-set_same, get_or-set_other}
 use Rattle.zic_posix.specs.declared.years.TheConstants.{YEARS_OF_KINDS}
 use Rattle.zic_posix.specs.code.Span.{IsNear}
-use Rattle.zic_posix.specs.code.State.{instant_in}
 use Rattle.zic_posix.specs.code.Years.{edge_second}
 use Rattle.zic_posix.proofs.Spans.{near_instant}
 use Rattle.zic_posix.proofs.YearKinds.{year_near}

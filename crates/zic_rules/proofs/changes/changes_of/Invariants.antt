@@ -1,6 +1,6 @@
 -- The changes so far.
 use Rattle.std.proofs.Common.{map}
-use Rattle.zic_rules.specs.Period.{the_zone}
+use Rattle.zic_rules.specs.code.Period.{the_zone}
 use Rattle.zic_rules.specs.code.Shown.{AreKeptTo, shown_by, dated}
 use Rattle.zic_rules.proofs.changes.changes_of.Given as goal
 

@@ -1,5 +1,5 @@
 use Rattle.std.proofs.Common.{◌≡◌, ℕ, length, get_or, ap, subst, arith}
-use Rattle.zic_rules.specs.Period.{the_zone}
+use Rattle.zic_rules.specs.code.Period.{the_zone}
 use Rattle.zic_rules.specs.code.Shown.{ShowsSomeTo}
 use Rattle.zic_rules.specs.declared.period.Period.{Period}
 use Rattle.std.specs.Prelude.{List}

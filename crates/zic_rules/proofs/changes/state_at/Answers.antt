@@ -1,7 +1,7 @@
 use Rattle.std.proofs.Common.{sym, ap, subst, ◌∙◌}
 use Rattle.std.proofs.lemmas.Result.{IfOk-weaker}
 use Rattle.zic_states.specs.Zone.{line_at}
-use Rattle.zic_rules.specs.Period.{the_zone, HasLine}
+use Rattle.zic_rules.specs.code.Period.{the_zone, HasLine}
 use Rattle.zic_rules.specs.code.Shown.{shown_by}
 use Rattle.zic_rules.proofs.TimelineOffsets.{all_in_range}
 use Rattle.zic_rules.proofs.TimelineStates.{line_held, rule_held, shows_held, unnamed_by}

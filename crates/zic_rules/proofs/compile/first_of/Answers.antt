@@ -1,5 +1,5 @@
 use Rattle.std.proofs.Common.{None}
-use Rattle.zic_rules.specs.Period.{the_zone}
+use Rattle.zic_rules.specs.code.Period.{the_zone}
 use Rattle.zic_rules.proofs.TimelineStates.{held_first, unnamed_from}
 use Rattle.zic_rules.proofs.compile.first_of.Goals as goal
 

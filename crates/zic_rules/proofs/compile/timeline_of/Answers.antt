@@ -1,7 +1,7 @@
 use Rattle.std.proofs.Common.{◌≡◌, map, sym, subst, arith, rules, ℤ, w64, to_z, of_z}
 use Rattle.std.proofs.lemmas.Int.{ints}
 use mir.Val.{SFits}
-use Rattle.zic_rules.specs.Period.{the_zone}
+use Rattle.zic_rules.specs.code.Period.{the_zone}
 use Rattle.zic_rules.specs.code.Shown.{IsTimeline, shown_by, dated}
 use Rattle.zic_rules.proofs.TimelineFaults.{timeline}
 use Rattle.zic_rules.proofs.compile.timeline_of.Goals as goal

@@ -2,7 +2,7 @@ use Rattle.std.proofs.Common.{◌≡◌, ◌∙◌, ◌+◌, Option, arith, ℤ,
 use Rattle.std.specs.Prelude.{IfSome}
 use Rattle.std.proofs.lemmas.Int.{ints}
 use Rattle.zic_occurrences.specs.Occurrence.{year_second}
-use Rattle.zic_rules.specs.Period.{the_zone}
+use Rattle.zic_rules.specs.code.Period.{the_zone}
 use Rattle.zic_rules.specs.code.End.{IsStart, IsInYears, IsEndFrom}
 use Rattle.zic_rules.proofs.Years.{small}
 use Rattle.zic_rules.proofs.Ends.{fixed_unless, end_by_set, end_after_start, end_of_one}

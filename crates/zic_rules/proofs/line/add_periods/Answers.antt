@@ -5,7 +5,7 @@ use Rattle.zic_occurrences.specs.declared.occurrence.TimedOccurrence.{TimedOccur
 use Rattle.zic_states.specs.ByList.{AreRising, before, not_after, rule_at}
 use Rattle.zic_states.specs.Zone.{line_at}
 use Rattle.zic_rules.specs.declared.period.Period.{Period}
-use Rattle.zic_rules.specs.Period.{the_zone}
+use Rattle.zic_rules.specs.code.Period.{the_zone}
 use Rattle.zic_rules.specs.code.End.{IsInYears}
 use Rattle.zic_rules.specs.code.Held.{AreSoFar}
 use Rattle.zic_rules.specs.code.Line.{IsLineTo, TellsKept, period_at}

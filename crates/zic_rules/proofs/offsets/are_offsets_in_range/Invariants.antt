@@ -2,7 +2,7 @@
 use Rattle.std.proofs.Common.{◌≡◌, ℕ, ◌<◌, Some}
 use Rattle.zic_lines.specs.declared.zone_line.ZoneLine.{ZoneLine}
 use Rattle.zic_states.specs.Zone.{line_at}
-use Rattle.zic_rules.specs.Period.{the_zone}
+use Rattle.zic_rules.specs.code.Period.{the_zone}
 use Rattle.zic_rules.specs.code.Shown.{IsInRangeOn}
 use Rattle.zic_rules.proofs.offsets.are_offsets_in_range.Given as goal
 

@@ -2,7 +2,7 @@ use Rattle.std.proofs.Common.{◌≡◌, ◌-◌, length, subst, arith}
 use Rattle.std.specs.Prelude.{Option, IfSome}
 use Rattle.zic_source.specs.Source.{ZoneLines, lines_of_zone}
 use Rattle.zic_base.proofs.Elements.{got}
-use Rattle.zic_rules.specs.Period.{the_zone}
+use Rattle.zic_rules.specs.code.Period.{the_zone}
 use Rattle.zic_rules.proofs.Walks.{last_has_none}
 use Rattle.zic_rules.proofs.tail_rules.last_line.Goals as goal
 

@@ -1,9 +1,10 @@
-use Rattle.std.proofs.Common.{◌≡◌, ◌∙◌, ℕ, List, Option, Some, None, true, slice_index_or, subst}
-use Rattle.std.specs.Prelude.{is_some, is_none, IfNone}
+use Rattle.std.proofs.Common.{◌≡◌, ◌∙◌, ℕ, List, true, slice_index_or, subst}
+use Rattle.std.specs.Prelude.{is_some, is_none}
 use Rattle.std.proofs.lemmas.List.{take_all}
-use Rattle.zic_base.specs.Fault.{fault_of}
+use Rattle.zic_base.specs.Fault.{kind_of}
 use Rattle.zic_base.proofs.MemoryLemmas.{on_want}
-use Rattle.zic_rules.specs.Period.{the_zone, IsFixed}
+use Rattle.zic_rules.specs.Timeline.{IsFixed}
+use Rattle.zic_rules.specs.code.Period.{the_zone}
 use Rattle.zic_rules.specs.Tail.{AreTailRules}
 use Rattle.zic_rules.specs.code.Tail.{continuing}
 use Rattle.zic_rules.proofs.TailHeld.{offset_within, unnamed_for_ever}
@@ -11,17 +12,9 @@ use Rattle.zic_rules.proofs.TailRules.{fixed_line, number_within, of_set, never_
 use Rattle.zic_rules.proofs.tail_rules.tail_rules.Goals as goal
 use Rattle.zic_rules.proofs.tail_rules.tail_rules.Goals.{then-is_none+in-Ok+in_ok-push-in-Ok, else-is_none}
 
-never : {F : Type 0} (o : Option F) (P : Type 0) → IfNone o ⊥ → IfNone o P
-never None P h = absurd h
-never (Some x) P h = tt
-
 pub loop-number-init : goal.loop-number-init
 loop-number-init c =
     of_none c.args.zone.source.now.rules c.last_line-line.result.now c.new-rules.result.items c.new-rules.ensures.items
-
-pub returns-in-Err-clause-memory : goal.returns-in-Err-clause-memory
-returns-in-Err-clause-memory c =
-    never (fault_of c.refusal.result) (IsFixed (the_zone c.args.zone) → ⊥) c.refusal.ensures.fault
 
 pub returns-clause-ok : goal.returns-clause-ok
 returns-clause-ok c =
@@ -75,7 +68,7 @@ returns-in_err-push-in-Ok-clause-memory c =
     let line = c.last_line-line.result.now in
     let (number, last) = c.last_line-line.ensures.last in
     let (name, has_set, member) = of_set c.args.zone.source.now.rules line.rules numbers i c.rule-rule.result.now c.rule_numbers-number-items.ensures c.loop-number-test.true c.rule-rule.ensures.rule in
-    on_want fault_of c.from_residual.result (IsFixed (the_zone c.args.zone) → ⊥) (fixed_line (the_zone c.args.zone) number line name last.is_line has_set)
+    on_want kind_of c.from_residual.result (IsFixed (the_zone c.args.zone) → ⊥) (fixed_line (the_zone c.args.zone) number line name last.is_line has_set)
 
 pub loop-number-preserved : goal.loop-number-preserved
 loop-number-preserved c =

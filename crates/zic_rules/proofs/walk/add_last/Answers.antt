@@ -2,12 +2,12 @@ use Rattle.std.proofs.Common.{List, arith, sym, subst, ℤ, pos, ◌<ℤ◌}
 use Rattle.std.specs.Prelude.{IfSome}
 use Rattle.std.proofs.lemmas.Option.{IfSome_then}
 use Rattle.std.proofs.lemmas.Result.{err_from_is_err_and}
-use Rattle.zic_base.specs.Fault.{fault_of}
+use Rattle.zic_base.specs.Fault.{kind_of}
 use Rattle.zic_base.proofs.Elements.{got}
 use Rattle.zic_occurrences.specs.declared.occurrence.TimedOccurrence.{TimedOccurrence}
 use Rattle.zic_states.specs.ByList.{before}
 use Rattle.zic_states.specs.End.{IsYearOf, IsEnd}
-use Rattle.zic_rules.specs.Period.{the_zone}
+use Rattle.zic_rules.specs.code.Period.{the_zone}
 use Rattle.zic_rules.specs.code.End.{IsInYears}
 use Rattle.zic_rules.specs.code.Line.{IsLineTo}
 use Rattle.zic_rules.proofs.Years.{cast, in_later_years, year_before}
@@ -41,8 +41,8 @@ returns-in_err-found-clause-err c =
     let zone = the_zone c.args.zone in
     let at = c.line-line.ensures.line in
     let p = err_from_is_err_and c.from_residual.result c.from_residual.ensures.1 in
-    rw (p.1, p.2) (IfSome_then (fault_of c.in_err-found.field-0.0) c.in_err-found.ensures.err
-    (λ fault h. fault_of_order zone c.args.number c.line-line.result.now c.place.result fault at c.place.ensures h))
+    rw (p.1, p.2) (IfSome_then (kind_of c.in_err-found.field-0.0) c.in_err-found.ensures.err
+    (λ fault h. fault_of_order zone c.args.number c.line-line.result.now fault at h))
 
 pub add_periods-requires-clause-start : goal.add_periods-requires-clause-start
 add_periods-requires-clause-start c =

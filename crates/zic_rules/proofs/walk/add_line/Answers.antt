@@ -3,12 +3,12 @@ use Rattle.std.specs.Prelude.{IfSome}
 use Rattle.std.proofs.lemmas.Int.{ints}
 use Rattle.std.proofs.lemmas.Option.{IfSome_then}
 use Rattle.std.proofs.lemmas.Result.{err_from_is_err_and}
-use Rattle.zic_base.specs.Fault.{fault_of}
+use Rattle.zic_base.specs.Fault.{kind_of}
 use Rattle.zic_base.proofs.Elements.{got}
 use Rattle.zic_occurrences.specs.declared.occurrence.TimedOccurrence.{TimedOccurrence}
 use Rattle.zic_states.specs.ByList.{before}
 use Rattle.zic_states.proofs.LineWalk.{le_from_test, lt_from_test}
-use Rattle.zic_rules.specs.Period.{the_zone}
+use Rattle.zic_rules.specs.code.Period.{the_zone}
 use Rattle.zic_rules.specs.code.End.{IsStart, IsInYears}
 use Rattle.zic_rules.specs.code.Held.{HeldTo}
 use Rattle.zic_rules.specs.code.Walk.{AreOrderedTo, IsWalkedTo}
@@ -31,8 +31,8 @@ returns-in_err-found-clause-err c =
     let zone = the_zone c.args.zone in
     let at = c.line-line.ensures.line in
     let p = err_from_is_err_and c.from_residual.result c.from_residual.ensures.1 in
-    rw (p.1, p.2) (IfSome_then (fault_of c.in_err-found.field-0.0) c.in_err-found.ensures.err
-    (λ fault h. fault_of_order zone c.args.number c.line-line.result.now c.place.result fault at c.place.ensures h))
+    rw (p.1, p.2) (IfSome_then (kind_of c.in_err-found.field-0.0) c.in_err-found.ensures.err
+    (λ fault h. fault_of_order zone c.args.number c.line-line.result.now fault at h))
 
 pub overflow_add-number : goal.overflow_add-number
 overflow_add-number c =

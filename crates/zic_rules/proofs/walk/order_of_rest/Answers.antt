@@ -2,7 +2,7 @@ use Rattle.std.proofs.Common.{◌≡◌, Option, add-one, arith, sym, subst, len
 use Rattle.std.specs.Prelude.{IfSome}
 use Rattle.zic_source.specs.Source.{ZoneLines, lines_of_zone}
 use Rattle.zic_base.proofs.Elements.{got}
-use Rattle.zic_rules.specs.Period.{the_zone}
+use Rattle.zic_rules.specs.code.Period.{the_zone}
 use Rattle.zic_rules.specs.code.Walk.{AreOrderedTo}
 use Rattle.zic_rules.proofs.Walks.{more_ordered, all_in_order}
 use Rattle.zic_rules.proofs.walk.order_of_rest.Goals as goal

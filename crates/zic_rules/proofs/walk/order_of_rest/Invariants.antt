@@ -1,4 +1,4 @@
-use Rattle.zic_rules.specs.Period.{the_zone}
+use Rattle.zic_rules.specs.code.Period.{the_zone}
 use Rattle.zic_rules.specs.code.Walk.{AreOrderedTo}
 use Rattle.zic_rules.proofs.walk.order_of_rest.Given as goal
 

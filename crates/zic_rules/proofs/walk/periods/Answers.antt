@@ -1,7 +1,7 @@
-use Rattle.std.proofs.Common.{◌≡◌, ◌∙◌, ◌+◌, ◌<◌, ℕ, zero, suc, ◌-◌, List, [], Option, Some, None, ℤ, arith, sym, ap, subst, length}
+use Rattle.std.proofs.Common.{◌≡◌, ◌∙◌, ℕ, zero, suc, ◌-◌, List, [], Option, Some, None, ℤ, arith, sym, ap, subst, length}
 use Rattle.std.specs.Prelude.{IfSome, IsSomeAnd}
 use Rattle.std.proofs.lemmas.Result.{err_from_is_err_and}
-use Rattle.zic_base.specs.Fault.{fault_of}
+use Rattle.zic_base.specs.Fault.{kind_of}
 use Rattle.zic_base.proofs.MemoryLemmas.{on_want}
 use Rattle.zic_lines.specs.declared.zone_line.ZoneLine.{ZoneLine}
 use Rattle.zic_source.specs.Source.{ZoneLines, lines_of_zone}
@@ -9,7 +9,8 @@ use Rattle.zic_base.proofs.Elements.{got}
 use Rattle.zic_states.specs.Tail.{HasNoSet}
 use Rattle.zic_states.specs.Zone.{Zone, lines_of}
 use Rattle.zic_rules.specs.declared.period.Period.{Period}
-use Rattle.zic_rules.specs.Period.{the_zone, ArePeriods, IsFixed}
+use Rattle.zic_rules.specs.Timeline.{IsFixed}
+use Rattle.zic_rules.specs.code.Period.{the_zone, ArePeriods}
 use Rattle.zic_rules.specs.code.Held.{AreSoFar}
 use Rattle.zic_rules.proofs.Years.{cast}
 use Rattle.zic_rules.proofs.Held.{all_periods}
@@ -62,7 +63,7 @@ returns-in_err-add_line-clause-memory c =
     let count : c.lines-last.result ≡ length (lines_of_zone found.0) =
     subst (λ (o : Option ZoneLines). IfSome o (λ z. c.lines-last.result ≡ length (lines_of_zone z))) found.1 c.lines-last.ensures
     in
-    on_want fault_of c.from_residual.result (IsFixed zone → ⊥)
+    on_want kind_of c.from_residual.result (IsFixed zone → ⊥)
     (λ fixed. absurd (omega (arith, count, one_line zone found.0 found.1 fixed, c.loop-number-test.true)))
 
 pub add_last-requires-clause-number : goal.add_last-requires-clause-number

@@ -1,4 +1,4 @@
-use Rattle.zic_rules.specs.Period.{the_zone}
+use Rattle.zic_rules.specs.code.Period.{the_zone}
 use Rattle.zic_rules.specs.code.Walk.{IsWalkedTo}
 use Rattle.zic_rules.proofs.walk.periods.Given as goal
 

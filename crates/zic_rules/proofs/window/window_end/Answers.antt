@@ -1,6 +1,6 @@
 use Rattle.std.proofs.Common.{◌≡◌, ◌∙◌, Option, ℕ, arith, ap, subst, sym, ℤ, to_z, of_z, w64}
 use Rattle.zic_states.specs.Kept.{IsRuleOf}
-use Rattle.zic_rules.specs.Period.{the_zone}
+use Rattle.zic_rules.specs.code.Period.{the_zone}
 use Rattle.std.specs.Prelude.{IfSome}
 use Rattle.zic_states.specs.ByList.{rule_at}
 use Rattle.zic_states.specs.Zone.{line_at}

@@ -4,7 +4,6 @@ use Rattle.std.specs.Prelude.{slice_get}
 use Rattle.std.proofs.lemmas.Int.{ints}
 use Rattle.std.proofs.lemmas.List.{length-map, get_or-map}
 use Rattle.std.proofs.lemmas.Option.{slice_get-get_or}
-use Rattle.zic_base.specs.Fault.{fault_at}
 use Rattle.zic_base.specs.State.{Shown, shown}
 use Rattle.zic_base.specs.declared.fault.Kind.TheVariants.{TooManyChars}
 use Rattle.zic_base.specs.declared.state.State.{State}
@@ -37,9 +36,9 @@ returns-in_err-place-in-None-clause-err c =
     let many = too_many all k (shown state) (at_place c.args.states.now k nothing (omega arith)) c.loop-state.types.items c.loop-state.names.items c.loop-state.invariant none in
     rw (p.1, p.2)
     (if_refusal {X = ℕ}
-    (λ fault. (fault ≡ fault_at c.args.zone_place TooManyChars) × (MAX_CHARACTERS < length c.loop-state.names.items + (length state.name.now + 1)))
-    (λ fault. (fault ≡ fault_at c.args.zone_place TooManyChars) × HasManyCharacters all)
-    (λ fault h. (h.0, many h.1)) (Err c.in_err-place-in-None.field-0.0) c.in_err-place-in-None.ensures.err)
+    (λ kind. (kind ≡ TooManyChars) × (MAX_CHARACTERS < length c.loop-state.names.items + (length state.name.now + 1)))
+    (λ kind. (kind ≡ TooManyChars) × HasManyCharacters all)
+    (λ kind h. (h.0, many h.1)) (Err c.in_err-place-in-None.field-0.0) c.in_err-place-in-None.ensures.err)
 
 pub loop-state-preserved : goal.loop-state-preserved
 loop-state-preserved c =

@@ -17,7 +17,6 @@ loop-i-init c =
 pub returns-in_default-clause-err : goal.returns-in_default-clause-err
 returns-in_default-clause-err c =
     let many = rw c.in_default.is at c.in_ok-number.ensures in
-    rw c.at.ensures
     (refl, too_many c.args.t.now c.requires.whole.orderly c.loop-i.i c.loop-i.numbering c.loop-i.changes.items c.loop-i.invariant (change_of c.change-instant.result) c.change-instant.ensures many)
 
 pub loop-i-preserved : goal.loop-i-preserved

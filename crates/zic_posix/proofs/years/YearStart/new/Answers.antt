@@ -1,4 +1,4 @@
-use Rattle.std.proofs.Common.{◌≡◌, ◌≤◌, true, false, Bool, ℤ, pos, ◌*ℤ◌, unsigned_abs, sym, ap, ◌∙◌, to_z, of_z, to_z-of_z, w64, FitsSigned, arith}
+use Rattle.std.proofs.Common.{◌≡◌, ◌≤◌, Bool, ℤ, pos, ◌*ℤ◌, unsigned_abs, sym, ap, ◌∙◌, to_z, of_z, to_z-of_z, w64, FitsSigned, arith}
 use Rattle.std.specs.Prelude.{if◌then◌else◌}
 use Rattle.std.proofs.lemmas.Int.{ints}
 use Rattle.zic_calendar.specs.Calendar.{day_number, is_leap_year}

@@ -5,7 +5,7 @@ use mir.Val.{SFits}
 use Rattle.std.specs.Prelude.{slice_get, Some, length}
 use Rattle.zic_states.specs.Change.{AreChanges}
 use Rattle.zic_states.specs.Zone.{Zone}
-use Rattle.zic_rules.specs.Period.{the_zone}
+use Rattle.zic_rules.specs.code.Period.{the_zone}
 use Rattle.zic_rules.specs.Timeline.{change_of}
 use Rattle.zic_rules.specs.code.Shown.{shown_by, dated}
 use Rattle.zic_rules.proofs.TimelineKept.{are_changes, the_changes, change_at_place, is_within}

@@ -2,7 +2,7 @@ use Rattle.std.proofs.Common.{map, sym, subst}
 use Rattle.zic_states.specs.Change.{IsFirstState}
 use Rattle.zic_base.specs.State.{Shown}
 use Rattle.zic_states.specs.Zone.{Zone}
-use Rattle.zic_rules.specs.Period.{the_zone}
+use Rattle.zic_rules.specs.code.Period.{the_zone}
 use Rattle.zic_rules.specs.code.Shown.{shown_by, dated}
 use Rattle.zic_rules.proofs.TimelineKept.{is_first}
 use Rattle.zic_rules.proofs.timelines.Timeline.first.Goals as goal

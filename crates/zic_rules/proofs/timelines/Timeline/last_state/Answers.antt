@@ -3,7 +3,7 @@ use Rattle.std.specs.Prelude.{slice_get, Some, None}
 use Rattle.zic_states.specs.End.{IsEnd}
 use Rattle.zic_states.specs.Zone.{Zone, Shows}
 use Rattle.zic_states.proofs.Ends.{one_end}
-use Rattle.zic_rules.specs.Period.{the_zone}
+use Rattle.zic_rules.specs.code.Period.{the_zone}
 use Rattle.zic_rules.specs.declared.changes.DatedState.{DatedState}
 use Rattle.zic_rules.specs.code.Shown.{shown_by}
 use Rattle.zic_rules.proofs.TimelineKept.{after_last, without_changes}

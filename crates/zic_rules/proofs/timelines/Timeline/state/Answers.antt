@@ -5,7 +5,7 @@ use Rattle.std.proofs.lemmas.Option.{slice_get_read}
 use Rattle.zic_states.specs.End.{IsEnd}
 use Rattle.zic_base.specs.State.{Shown}
 use Rattle.zic_states.specs.Zone.{Zone, Shows}
-use Rattle.zic_rules.specs.Period.{the_zone}
+use Rattle.zic_rules.specs.code.Period.{the_zone}
 use Rattle.zic_rules.specs.code.Shown.{IsTimeline, shown_by, dated}
 use Rattle.zic_rules.specs.declared.changes.DatedState.{DatedState}
 use Rattle.zic_rules.proofs.TimelineKept.{are_changes, parted_dated, state_first, state_nth}

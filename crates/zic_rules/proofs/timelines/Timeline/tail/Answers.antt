@@ -6,7 +6,7 @@ use Rattle.zic_base.specs.declared.fault.Kind.TheVariants as kind
 use Rattle.zic_lines.specs.declared.zone_line.ZoneLine.{ZoneLine}
 use Rattle.zic_states.specs.End.{IsEnd}
 use Rattle.zic_states.specs.Zone.{Zone, Shows}
-use Rattle.zic_rules.specs.Period.{the_zone}
+use Rattle.zic_rules.specs.code.Period.{the_zone}
 use Rattle.zic_rules.specs.Tail.{IsConstantTail, IsRulesTail}
 use Rattle.zic_rules.specs.Timeline.{IsWholeZone}
 use Rattle.zic_rules.specs.declared.tail.TailRule.{TailRule}

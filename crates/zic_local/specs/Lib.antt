@@ -1,0 +1,4 @@
+pub mod Choice
+pub mod code
+pub mod Laws
+pub mod LocalTime

@@ -1,0 +1,14 @@
+//! Local times to instants: the instants at which the clocks of a TZif file show a local time, none
+//! in a gap and several in a fold, and the instant that is meant by a choice. The rows of
+//! `witness/rows` test it.
+#![tactic(auto)]
+
+mod disambiguation;
+pub mod laws;
+mod local_instants;
+mod lookup;
+mod reading;
+
+pub use disambiguation::{Disambiguation, Unresolved};
+pub use local_instants::{Fold, Gap, LocalInstants};
+pub use lookup::{instant, instants};

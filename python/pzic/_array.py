@@ -1,0 +1,241 @@
+"""Arrays of instants."""
+
+from __future__ import annotations
+
+import array
+import ctypes
+from sys import byteorder
+from typing import TYPE_CHECKING, Any, Dict, List, Mapping, NamedTuple, Tuple
+
+from pzic import _library as c
+from pzic._errors import NoSuchZone
+from pzic._handle import Owned
+
+if TYPE_CHECKING:
+    from pzic._zone import Zone
+
+#: The flag of daylight saving time.
+DAYLIGHT = 1
+#: The flag of an instant at which the file leaves local time open, or that is missing.
+OPEN = 2
+
+#: How the buffer protocol marks the byte order of this machine.
+_MARKS = ("", "@", "=", "<" if byteorder == "little" else ">")
+
+
+class Columns(NamedTuple):
+    """Local time in numpy arrays, one item for each row.
+
+    ``offsets`` are UT offsets in seconds, positive east (``int32``), ``flags`` are 0,
+    :data:`DAYLIGHT` or :data:`OPEN` (``uint8``), ``local`` is the date and time that is shown
+    (``datetime64[s]``), and ``abbreviations`` are texts (``object``). Where the file leaves local
+    time open or the instant is missing, they are 0, :data:`OPEN`, ``NaT`` and an empty text.
+    """
+
+    offsets: Any
+    flags: Any
+    local: Any
+    abbreviations: Any
+
+
+Columns.__module__ = "pzic"
+
+
+def convert_array(owned: Owned, instants: Any, offsets: Any, flags: Any) -> Tuple[Any, Any]:
+    """Convert instants by a zone, as :meth:`Zone.convert_array` tells."""
+    values, missing = _plain(instants)
+    source = _view(values, "ql", 8)
+    count = len(source)
+    if offsets is None:
+        offsets = _room(values, "int32", count)
+    if flags is None:
+        flags = _room(values, "uint8", count)
+    views = [source, _view(offsets, "il", 4), _view(flags, "B", 1)]
+    for view in views[1:]:
+        if view.readonly:
+            raise TypeError("the buffer can't be written to")
+        if len(view) != count:
+            raise ValueError("the arrays differ in length")
+    places = _places(views)
+    c.zone_offsets(owned.lend(), places[0], count, places[1], count, places[2], count)
+    if missing is not None:
+        _write_missing(missing, views)
+    return offsets, flags
+
+
+def _plain(instants: Any) -> Tuple[Any, Any]:
+    """Return instants as integers, and where they are missing, if any is."""
+    kind = getattr(getattr(instants, "dtype", None), "kind", None)
+    if kind is None:
+        return instants, None
+    import numpy
+
+    if kind != "M":
+        return numpy.asarray(instants), None
+    if not isinstance(instants, numpy.ndarray):
+        # pandas gives UT where it is asked for numpy's times.
+        unit = getattr(instants.dtype, "unit", "ns")
+        is_plain = isinstance(instants.dtype, numpy.dtype)
+        instants = instants.to_numpy(instants.dtype if is_plain else f"datetime64[{unit}]")
+    missing = numpy.isnat(instants)
+    seconds = numpy.ascontiguousarray(instants.astype("datetime64[s]")).view("int64")
+    return seconds, missing if missing.any() else None
+
+
+def _room(values: Any, kind: str, count: int) -> Any:
+    """Return room for answers: a numpy array for one, and else what Python itself has."""
+    if hasattr(values, "dtype"):
+        import numpy
+
+        return numpy.empty(count, kind)
+    return array.array("i", bytes(4 * count)) if kind == "int32" else bytearray(count)
+
+
+def _write_missing(missing: Any, views: List[memoryview]) -> None:
+    """Write what is told of instants that are missing."""
+    import numpy
+
+    numpy.asarray(views[1])[missing] = 0
+    numpy.asarray(views[2])[missing] = OPEN
+
+
+def _view(values: Any, codes: str, size: int) -> memoryview:
+    """Return a view of a buffer, once its items are of these."""
+    view = memoryview(values)
+    is_one = view.format in [mark + code for mark in _MARKS for code in codes]
+    if not is_one or view.itemsize != size or view.ndim != 1 or not view.c_contiguous:
+        raise TypeError(f"items of {size} bytes, one after another, are wanted")
+    return view
+
+
+def _places(views: List[memoryview]) -> List[int]:
+    """Return where buffers lie, once they are aligned and lie apart. The views keep them there."""
+    places = [_address(view) for view in views]
+    if any(place % view.itemsize for place, view in zip(places, views)):
+        raise ValueError("the arrays aren't aligned")
+    ends = [place + view.nbytes for place, view in zip(places, views)]
+    extents = sorted((place, end) for place, end in zip(places, ends) if place < end)
+    if any(end > begin for (_, end), (begin, _) in zip(extents, extents[1:])):
+        raise ValueError("the arrays overlap")
+    return places
+
+
+class _PyBuffer(ctypes.Structure):
+    _fields_ = (
+        ("buf", ctypes.c_void_p),
+        ("obj", ctypes.py_object),
+        ("len", ctypes.c_ssize_t),
+        ("itemsize", ctypes.c_ssize_t),
+        ("readonly", ctypes.c_int),
+        ("ndim", ctypes.c_int),
+        ("format", ctypes.c_char_p),
+        ("shape", ctypes.c_void_p),
+        ("strides", ctypes.c_void_p),
+        ("suboffsets", ctypes.c_void_p),
+        ("internal", ctypes.c_void_p),
+    )
+
+
+_get_buffer = ctypes.pythonapi.PyObject_GetBuffer
+_get_buffer.argtypes = (ctypes.py_object, ctypes.POINTER(_PyBuffer), ctypes.c_int)
+_release = ctypes.pythonapi.PyBuffer_Release
+_release.argtypes = (ctypes.POINTER(_PyBuffer),)
+_release.restype = None
+
+#: What an empty buffer's address is, since no pointer may be NULL.
+_SOMEWHERE = ctypes.c_int64()
+
+
+def _address(view: memoryview) -> int:
+    """Return where a buffer lies."""
+    raw = _PyBuffer()
+    _get_buffer(view, raw, 0)
+    at: int = raw.buf if view.nbytes else ctypes.addressof(_SOMEWHERE)
+    _release(raw)
+    return at
+
+
+def convert_columns(zones: Mapping[str, Zone], names: Any, instants: Any) -> Columns:
+    """Convert instants by a zone for each, as :meth:`Tree.convert_columns` tells."""
+    import numpy
+
+    values, missing = _plain(instants)
+    times = numpy.asarray(values)
+    if times.dtype.kind != "i" or times.ndim != 1:
+        raise TypeError("a column of integers or of datetime64 is wanted")
+    times = times.astype("int64", copy=False)
+    codes, found = _numbered(names)
+    if len(codes) != len(times):
+        raise ValueError("the columns differ in length")
+    answers = _Answers(len(times))
+    # Rows of one zone lie together, from starts[i] to starts[i + 1]. Short numbers are sorted by
+    # their digits.
+    codes = codes.astype("uint16" if len(found) <= 1 << 16 else "int64")
+    order = codes.argsort(kind="stable")
+    starts = codes[order].searchsorted(numpy.arange(len(found) + 1))
+    for name, start, end in zip(found, starts, starts[1:]):
+        answers.write(zones[name], times, order[start:end])
+    if missing is not None:
+        answers.numbers[missing] = 0
+    return answers.columns(times)
+
+
+def _numbered(names: Any) -> Tuple[Any, List[str]]:
+    """Return a number for each name, and the names that they stand for."""
+    import numpy
+
+    if hasattr(names, "factorize"):
+        codes, found = names.factorize()
+        if len(codes) and codes.min() < 0:
+            raise NoSuchZone(None)
+    else:
+        found, codes = numpy.unique(numpy.asarray(names), return_inverse=True)
+    if codes.ndim != 1:
+        raise TypeError("a column of names is wanted")
+    return codes, list(found.tolist())
+
+
+class _Answers:
+    """What is told of rows: for each the number of a state, among those that were met."""
+
+    def __init__(self, count: int) -> None:
+        import numpy
+
+        self.numbers = numpy.zeros(count, "int32")
+        #: Offset, flags and abbreviation of each state. The first is none.
+        self._states: Dict[Tuple[int, int, str], int] = {(0, OPEN, ""): 0}
+
+    def write(self, zone: Zone, times: Any, rows: Any) -> None:
+        """Write what a zone tells at the times of some rows."""
+        rows = rows[times[rows].argsort(kind="stable")]
+        rising = times[rows]
+        at = 0
+        while at < len(rising):
+            span = zone.span(int(rising[at]))
+            end = int(rising.searchsorted(span.last, "right"))
+            self.numbers[rows[at:end]] = self._number(span.state)
+            at = end
+
+    def _number(self, state: Any) -> int:
+        """Return the number of a state."""
+        told = (state.offset, DAYLIGHT * state.daylight, state.name) if state else (0, OPEN, "")
+        return self._states.setdefault(told, len(self._states))
+
+    def columns(self, times: Any) -> Columns:
+        """Return the columns of the rows, which have these times."""
+        import numpy
+
+        offsets, flags, names = zip(*self._states)
+        wide = numpy.array(offsets, "int64")[self.numbers]
+        is_open = numpy.array(flags, "uint8")[self.numbers] == OPEN
+        local = numpy.where(is_open, 0, times) + wide
+        if ((local < times) != (wide < 0))[~is_open].any():
+            raise OverflowError("local time has 64 bits with a sign")
+        local = local.view("datetime64[s]")
+        local[is_open] = "NaT"
+        return Columns(
+            wide.astype("int32"),
+            numpy.array(flags, "uint8")[self.numbers],
+            local,
+            numpy.array(names, "object")[self.numbers],
+        )

@@ -1,0 +1,69 @@
+"""What the calls refuse."""
+
+from __future__ import annotations
+
+
+class BadFile(ValueError):
+    """Bytes that are no TZif file. ``reason`` names the first check that they fail, and ``footer``
+    is the text that failed it if that is the one of footers."""
+
+    __module__ = "pzic"
+
+    def __init__(self, reason: str, footer: str = "") -> None:
+        super().__init__(reason, footer)
+        self.reason = reason
+        self.footer = footer
+
+    def __str__(self) -> str:
+        return f"no TZif file: {self.reason}" + (f" {self.footer!r}" if self.footer else "")
+
+
+class NoSuchZone(KeyError):
+    """No file has the name ``key``."""
+
+    __module__ = "pzic"
+
+    def __init__(self, key: object) -> None:
+        super().__init__(key)
+        self.key = key
+
+    def __str__(self) -> str:
+        return f"no zone has the name {self.key!r}"
+
+
+class BadName(NoSuchZone, ValueError):
+    """No file can have the name ``key``, such as ``../Dublin``."""
+
+    __module__ = "pzic"
+
+
+class BadSource(ValueError):
+    """Texts that are no source. ``text`` and ``line`` are the numbers of the text and of its line
+    where the first fault is, both from 1, and ``kind`` the name of the fault's kind."""
+
+    __module__ = "pzic"
+
+    def __init__(self, text: int, line: int, kind: str) -> None:
+        super().__init__(text, line, kind)
+        self.text = text
+        self.line = line
+        self.kind = kind
+
+    def __str__(self) -> str:
+        return f"text {self.text}, line {self.line}: {self.kind}"
+
+
+class BadRow(ValueError):
+    """A column with a row that has a fault. ``row`` is the number of the first, from 1, ``kind`` the
+    name of the fault's kind, and ``rows`` are the rows before it."""
+
+    __module__ = "pzic"
+
+    def __init__(self, row: int, kind: str, rows: bytes) -> None:
+        super().__init__(row, kind, rows)
+        self.row = row
+        self.kind = kind
+        self.rows = rows
+
+    def __str__(self) -> str:
+        return f"row {self.row}: {self.kind}"

@@ -1,0 +1,377 @@
+"""Tests what the objects of the Python package do besides answering: `python_objects.py TREE`.
+
+Copies, pickles in this process and in another, threads, trees with files that are no zones, the manners
+of datetime's zones, and arrays and columns of numpy and pandas where these are.
+"""
+
+import array
+import copy
+import ctypes
+import gc
+import multiprocessing
+import os
+import pickle
+import random
+import subprocess
+import sys
+import tempfile
+import threading
+import zoneinfo
+from datetime import date, datetime, time, timedelta, timezone
+
+import pzic
+from pzic import _library as c
+
+UTC = timezone.utc
+ZERO, HOUR = timedelta(0), timedelta(hours=1)
+INSTANT = 1_720_000_000
+SOURCE = b"Zone Fixed 1:00 - AAA\nZone Zone 0 - -00 2000\n 1:00 - BBB\nLink Fixed Other\n"
+
+
+def check(holds, *what):
+    if not holds:
+        sys.exit(f"library: Python: not so: {what}")
+
+
+def refuses(error, call, *words):
+    """Return the error with which a call refuses these words."""
+    try:
+        call(*words)
+    except error as caught:
+        return caught
+    sys.exit(f"library: Python: {call} doesn't refuse {words}")
+
+
+def copies_of(value):
+    """Return all copies that Python can make of a value."""
+    pickles = [pickle.loads(pickle.dumps(value, number)) for number in range(pickle.HIGHEST_PROTOCOL + 1)]
+    return [copy.copy(value), copy.deepcopy(value), *pickles]
+
+
+# ------------------------------------------------------------------ copies
+
+
+def copy_zones(tree, data):
+    for zone in tree["Europe/Dublin"], pzic.Zone(data), pzic.Compiled(SOURCE)["Fixed"]:
+        offset = zone.utcoffset(INSTANT)
+        for made in copies_of(zone):
+            check(made == zone and made.key == zone.key and made.data == zone.data, "copy", zone)
+            check(made.utcoffset(INSTANT + 1) == offset, "copy", zone)
+        del made
+        gc.collect()
+        # An instant that was never asked for is asked of the library.
+        check(zone.utcoffset(INSTANT + 10**9) is not None and zone.at(-(10**15)), "after the copies", zone)
+        check(list(zone.convert_array(array.array("q", [INSTANT]))[0]) == [offset], "after the copies", zone)
+    refuses(TypeError, copy.copy, zone._owned)
+    refuses(AttributeError, setattr, zone, "key", "Other")
+    check(len({tree["Europe/Dublin"], pzic.Zone(data)}) == 1 and zone != 5, "equality")
+
+
+def copy_trees(tree, path):
+    for made in copies_of(tree):
+        check(made.folder == tree.folder and made["Europe/Dublin"] == tree["Europe/Dublin"], "copy of a tree")
+    before = os.getcwd()
+    os.chdir(path)
+    here = pzic.Tree("Europe")
+    os.chdir(before)
+    check(here["Dublin"] == pickle.loads(pickle.dumps(here))["Dublin"] == tree["Europe/Dublin"], "a path")
+    compiled = pzic.Compiled(SOURCE)
+    for made in copies_of(compiled):
+        check(len(made) == 3 and made.convert(b"Fixed,0\n") == compiled.convert(b"Fixed,0\n") != b"", "compiled")
+    del made
+    gc.collect()
+    check(list(compiled) == ["Fixed", "Zone", "Other"], "after the copies")
+
+
+def copy_time_zones(tree, data):
+    dublin = tree.tzinfo("Europe/Dublin")
+    check(tree.tzinfo("Europe/Dublin") is dublin is tree["Europe/Dublin"].tzinfo(), "one object")
+    check(pzic.Tree(tree.folder).tzinfo("Europe/Dublin") is dublin, "one object for two trees")
+    check(pzic.Zone(data).tzinfo("Other") is not dublin, "another name")
+    for zone in dublin, pzic.Zone(data).tzinfo(), pzic.Compiled(SOURCE).tzinfo("Fixed"):
+        check(all(made is zone for made in copies_of(zone)), "copy", zone)
+        moment = datetime(2024, 10, 27, 1, 30, fold=1, tzinfo=zone)
+        check(all(made == moment and made - moment == ZERO for made in copies_of(moment)), "copy", moment)
+        check(pickle.loads(pickle.dumps(moment)).fold == 1, "copy", moment)
+
+
+def copy_errors(tree):
+    caught = [
+        refuses(pzic.BadFile, pzic.Zone, b""),
+        refuses(pzic.NoSuchZone, pzic.Compiled().__getitem__, "No/Such"),
+        refuses(pzic.BadName, tree.__getitem__, "../Such"),
+        refuses(pzic.BadSource, pzic.Compiled, b"Word\n"),
+        refuses(pzic.BadRow, pzic.Compiled(SOURCE).convert, b"Fixed,0\nFixed,x\n"),
+    ]
+    for error in caught:
+        for made in copies_of(error):
+            check((type(made), str(made), vars(made)) == (type(error), str(error), vars(error)), error)
+
+
+def offset_of(moment):
+    return moment.utcoffset(), moment.tzname(), moment.tzinfo.key
+
+
+def use_processes(tree):
+    """Pickles are read in a process that begins anew, and in those of multiprocessing."""
+    compiled = pzic.Compiled(SOURCE)
+    moments = [datetime(2024, 7, 3, tzinfo=zone) for zone in (tree.tzinfo("Europe/Dublin"), compiled.tzinfo("Fixed"))]
+    want = [offset_of(moment) for moment in moments]
+    program = "import pickle, sys; print([(m.utcoffset(), m.tzname(), m.tzinfo.key) for m in pickle.load(sys.stdin.buffer)])"
+    words = sys.executable, "-c", "import datetime; " + program
+    got = subprocess.run(words, input=pickle.dumps(moments), stdout=subprocess.PIPE, cwd="/tmp", check=True).stdout
+    check(got.decode().strip() == str(want), "another process", got, want)
+    for method in "fork", "spawn":
+        with multiprocessing.get_context(method).Pool(2) as pool:
+            check(pool.map(offset_of, moments) == want, method)
+
+
+# ------------------------------------------------------------------ threads
+
+
+def in_threads(count, work):
+    """Run a piece of work in several threads at the same time."""
+    failed = []
+
+    def run(number):
+        try:
+            work(number)
+        except BaseException as error:
+            failed.append(error)
+
+    threads = [threading.Thread(target=run, args=(number,)) for number in range(count)]
+    for thread in threads:
+        thread.start()
+    for thread in threads:
+        thread.join()
+    check(not failed, "threads", failed)
+
+
+def use_threads(data):
+    """Eight threads ask one zone at once, whatever they ask for."""
+    zone = pzic.Zone(data)
+    compiled = pzic.Compiled(SOURCE)
+    instants = array.array("q", range(0, 4_000_000_000, 20_011))
+    want, want_rows = zone.convert_array(instants), compiled.convert(b"Fixed,0\nOther,1\n")
+    switch = sys.getswitchinterval()
+    sys.setswitchinterval(1e-6)
+
+    def work(number):
+        for turn in range(20):
+            if number % 2:
+                check(zone.convert_array(instants) == want, "array in a thread")
+            for i in range(turn + number, len(instants), 1009):
+                # No span is kept for an instant that far away.
+                check(zone._ask(instants[i]).state.offset == want[0][i], "span in a thread")
+            check(compiled.convert(b"Fixed,0\nOther,1\n") == want_rows and len(compiled) == 3, "rows in a thread")
+            check(pzic.Zone(data).tzinfo("Mine") is pzic.Zone(data).tzinfo("Mine"), "one object in a thread")
+
+    in_threads(8, work)
+    sys.setswitchinterval(switch)
+
+
+# ------------------------------------------------------------------ trees
+
+
+def make_odd_tree(folder, tree):
+    """Make a folder with three zones, and what else may lie there. Return what is listed."""
+    os.makedirs(f"{folder}/Area/Sub")
+    for name in "Area/Sub/Three", "One", "Area/Two":
+        with open(f"{folder}/{name}", "wb") as file:
+            file.write(tree.data("Europe/Dublin"))
+    data = tree.data("Europe/Dublin")
+    odd = {"empty": b"", "+VERSION": b"2024a", "zone.tab": b"# a table\n", "v1": data[:4] + b"\0" + data[5:],
+           "v4": data.replace(b"TZif2", b"TZif4"), "cut": data[:-1], "large": data + bytes(1 << 20),
+           "caf\u00e9": data}
+    for name, content in odd.items():
+        with open(f"{folder}/{name}", "wb") as file:
+            file.write(content)
+    os.mkfifo(f"{folder}/pipe")
+    for name, target in ("broken", "nowhere"), ("loop", "loop"), ("up", "."), ("link", "One"), ("null", "/dev/null"):
+        os.symlink(target, f"{folder}/{name}")
+    return {"Area/Sub/Three", "Area/Two", "One", "link"}, odd
+
+
+def list_trees(tree):
+    with tempfile.TemporaryDirectory() as folder:
+        listed, odd = make_odd_tree(folder, tree)
+        made = pzic.Tree(folder)
+        check(set(made) == listed and len(made) == len(listed) and dict(made).keys() == listed, "listed", set(made))
+        for name in "../One", "/One", "One/", "Area//Two", "./One", "", "a\0b":
+            check(isinstance(refuses(ValueError, made.__getitem__, name), pzic.BadName), name)
+        check(made["up/Area/Two"] == made["One"], "through a link")
+        for name in "pipe", "broken", "loop", "null", "Area", "none", "One/none", "../One", "/One", "One/", "", "a\0b", "x" * 300:
+            check(name not in made and refuses(pzic.NoSuchZone, made.__getitem__, name).key == name, name)
+        check(refuses(pzic.BadFile, made.__getitem__, "v1").reason == "Version", "version 1")
+        check(refuses(pzic.BadFile, made.__getitem__, "v4").reason == "Version", "version 4")
+        check(refuses(pzic.BadFile, made.__getitem__, "large").reason == "TooLarge", "large")
+        check(not any(name in made for name in odd), "odd files")
+    check(5 not in tree and None not in tree and tree.get(5) is None and tree.get("none", 1) == 1, "no names")
+    refuses(KeyError, tree.__getitem__, ["Europe/Dublin"])
+    check(len(pzic.Tree("/no/such/folder")) == 0, "no folder")
+    system = dict(pzic.Tree("/usr/share/zoneinfo"))
+    check("Europe/Dublin" in system and not any(name.startswith("right/") for name in system), "the system's tree")
+
+
+# ------------------------------------------------------------------ manners
+
+
+def keep_manners(tree, data):
+    fixed, dublin = tree.tzinfo("Etc/GMT-5"), tree.tzinfo("Europe/Dublin")
+    check((fixed.utcoffset(None), fixed.tzname(None), fixed.dst(None)) == (5 * HOUR, "+05", ZERO), "fixed")
+    check(time(1, tzinfo=fixed).isoformat() == "01:00:00+05:00", "a time of day")
+    check((dublin.utcoffset(None), dublin.tzname(None), dublin.dst(None)) == (None, None, None), "not fixed")
+    check(str(dublin) == "Europe/Dublin" and repr(dublin) == "pzic.TimeZone(key='Europe/Dublin')", "shown")
+    bare = pzic.Zone(data).tzinfo()
+    check(str(bare) == repr(bare) == f"pzic.TimeZone(<pzic.Zone of {len(data)} bytes>)" and bare.key is None, "shown")
+
+    class Mine(pzic.TimeZone):
+        pass
+
+    mine = Mine(tree["Europe/Dublin"])
+    check("Mine(key='Europe/Dublin')" in repr(mine) and mine is not dublin and type(copy.copy(mine)) is Mine, "subclass")
+    refuses(AttributeError, setattr, dublin, "key", "Other")
+    for value in 5, "2024", None, date(2024, 1, 1), time(1, tzinfo=dublin):
+        refuses(TypeError, dublin.fromutc, value)
+        if value is not None:
+            refuses(TypeError, dublin.utcoffset, value)
+    for value in datetime(2024, 1, 1), datetime(2024, 1, 1, tzinfo=UTC), datetime(2024, 1, 1, tzinfo=fixed):
+        refuses(ValueError, dublin.fromutc, value)
+    check(isinstance(refuses(KeyError, tree.tzinfo, "No/Such"), pzic.NoSuchZone), "KeyError")
+    check(pzic.Compiled(b"Zone A 0 - -00 1999\n 0 2 AAA 2000\n 2 - BBB\n").tzinfo("A").dst(
+        datetime(1999, 6, 1)) == HOUR, "-00 is no standard time")
+
+
+def compare_arithmetic(tree):
+    """Two dates and times of zones are equal, less and apart as those of zoneinfo are."""
+    names = "Europe/Dublin", "Europe/Dublin", "America/New_York", "UTC"
+    moments = [
+        [day.replace(tzinfo=zone(name), fold=fold) for name in names for day in days_of_2024() for fold in (0, 1)]
+        for zone in (tree.tzinfo, zoneinfo.ZoneInfo)
+    ]
+    pairs = [(i, j) for i in range(len(moments[0])) for j in range(0, len(moments[0]), 3)]
+    told = [[(ms[i] == ms[j], ms[i] < ms[j], ms[i] - ms[j], hash(ms[i]) == hash(ms[j])) for i, j in pairs] for ms in moments]
+    check(told[0] == told[1], "arithmetic")
+
+
+def days_of_2024():
+    """Return times around the changes of two zones."""
+    edges = datetime(2024, 3, 31, 1), datetime(2024, 10, 27, 1), datetime(2024, 3, 10, 2), datetime(2024, 11, 3, 1)
+    return [edge + timedelta(minutes=minutes) for edge in edges for minutes in (-1, 0, 30, 60)]
+
+
+def look_at_statuses(zone):
+    """No status of the library goes unseen."""
+    nothing, count, one = c.Handle(), ctypes.c_size_t(), ctypes.create_string_buffer(8)
+    refuses(RuntimeError, c.files_len, nothing, count)
+    refuses(RuntimeError, c.zone_span, nothing, 0, c.CState(), ctypes.c_int64(), ctypes.c_int64())
+    refuses(RuntimeError, c.zone_offsets, zone._owned.lend(), ctypes.addressof(one), 1, ctypes.addressof(one), 0, ctypes.addressof(one), 0)
+    refuses(RuntimeError, c.text_of, c.name_of_fault, 31)
+
+
+# ------------------------------------------------------------------ arrays
+
+
+def refuse_arrays(zone):
+    instants = array.array("q", [0, INSTANT, 1])
+    room = bytearray(64)
+    refuses(TypeError, zone.convert_array, instants, memoryview(bytes(12)).cast("i"))
+    refuses(TypeError, zone.convert_array, memoryview(room)[:48].cast("d"))
+    refuses(TypeError, zone.convert_array, memoryview(instants)[::2])
+    unaligned = memoryview(room)[1:25] if ctypes.addressof(ctypes.c_char.from_buffer(room)) % 8 == 0 else memoryview(room)[:24]
+    refuses(ValueError, zone.convert_array, unaligned.cast("q"))
+    refuses(ValueError, zone.convert_array, instants, memoryview(room)[2:14].cast("i"))
+    same = memoryview(array.array("q", [0, INSTANT]))
+    refuses(ValueError, zone.convert_array, same, same.cast("B")[:8].cast("i"))
+    refuses(ValueError, zone.convert_array, same, None, same.cast("B")[14:])
+    both = memoryview(array.array("i", [0, 0, 0]))
+    refuses(ValueError, zone.convert_array, instants, both, both.cast("B")[9:])
+    offsets, flags = zone.convert_array(memoryview(room)[:0].cast("q"), None, bytearray())
+    check((len(offsets), len(flags)) == (0, 0), "nothing")
+    refuses(OverflowError, zone.at, -(2**63) - 1)
+    refuses(TypeError, zone.at, 1.5)
+
+
+def compare_columns(tree, numpy, pandas):
+    random.seed(2)
+    names = random.sample(sorted(tree), 12)
+    for name in names:
+        check(tree[name].to_zoneinfo().key == name == tree.tzinfo(name).to_zoneinfo().key, "to_zoneinfo")
+    rows = [random.choice(names) for _ in range(20_000)]
+    instants = numpy.random.default_rng(3).integers(-(2**31), 2**32, len(rows))
+    got = tree.convert_columns(rows, instants)
+    for i in range(0, len(rows), 7):
+        want = datetime.fromtimestamp(int(instants[i]), UTC).astimezone(zoneinfo.ZoneInfo(rows[i]))
+        told = timedelta(seconds=int(got.offsets[i])), got.abbreviations[i], got.local[i].item()
+        check(told == (want.utcoffset(), want.tzname(), want.replace(tzinfo=None)), rows[i], instants[i], told)
+        check(got.flags[i] == bool(want.dst()), rows[i], instants[i])
+    times = instants.astype("datetime64[s]")
+    series = pandas.Series(rows)
+    stamps = pandas.Series(times.astype("datetime64[ns]"))
+    for column in rows, numpy.array(rows), numpy.array(rows, "object"), series, series.astype("category"):
+        for moments in times, stamps, stamps.dt.tz_localize("UTC"), pandas.DatetimeIndex(stamps):
+            for one, other in zip(tree.convert_columns(column, moments), got):
+                check((one == other).all() and one.dtype == other.dtype, "columns", type(column), type(moments))
+    check([len(part) for part in tree.convert_columns([], numpy.array([], "int64"))] == [0] * 4, "no rows")
+    refuses(pzic.NoSuchZone, tree.convert_columns, ["UTC", "No/Such"], instants[:2])
+    refuses(pzic.NoSuchZone, tree.convert_columns, pandas.Series(["UTC", None]), instants[:2])
+    refuses(ValueError, tree.convert_columns, ["UTC"], instants[:2])
+    refuses(TypeError, tree.convert_columns, ["UTC"], numpy.array([1.5]))
+    refuses(OverflowError, tree.convert_columns, ["Asia/Tokyo"], numpy.array([pzic.MAX_INSTANT]))
+
+
+def convert_by_pandas(zone, numpy, pandas):
+    times = numpy.array([0, INSTANT, -1], "datetime64[s]")
+    want = [3600, 3600, 3600]
+    stamps = pandas.Series(times.astype("datetime64[ns]"))
+    for instants in times, times.astype("datetime64[ns]"), stamps, stamps.dt.tz_localize("Asia/Tokyo").dt.tz_convert("UTC"), \
+            pandas.DatetimeIndex(stamps), times[::-1], pandas.Series(times.astype("int64")):
+        offsets, flags = zone.convert_array(instants)
+        check((offsets.dtype, flags.dtype) == (numpy.int32, numpy.uint8), "kinds", instants)
+        moved = isinstance(instants, pandas.Series) and str(instants.dtype) == "datetime64[ns, UTC]"
+        check(moved or offsets.tolist() == want, "times", instants, offsets)
+    half = numpy.array([-500_000_000], "datetime64[ns]")
+    check(zone.convert_array(half)[0].tolist() == [3600], "half a second before")
+    missing = numpy.array(["2024-07-03", "NaT"], "datetime64[s]")
+    for instants in missing, pandas.Series(missing.astype("datetime64[ns]")):
+        offsets, flags = zone.convert_array(instants, None, bytearray(2))
+        check(offsets.tolist() == [3600, 0] and list(flags) == [0, pzic.OPEN], "missing", offsets, flags)
+        check(numpy.isnat(pzic.Compiled(SOURCE).convert_columns(["Fixed"] * 2, instants).local).tolist() == [False, True], "NaT")
+    python = zone.tzinfo("Europe/Dublin").to_zoneinfo()
+    shown = stamps.dt.tz_localize("UTC").dt.tz_convert(python)
+    check(shown.map(str).tolist()[1] == "2024-07-03 10:46:40+01:00", "to_zoneinfo", shown)
+    check(pandas.Timestamp(INSTANT, unit="s", tz=python).utcoffset() == HOUR, "to_zoneinfo")
+
+
+def use_pandas(tree):
+    try:
+        import numpy
+        import pandas
+    except ImportError as missing:
+        return str(missing)
+    convert_by_pandas(tree["Europe/Dublin"], numpy, pandas)
+    compare_columns(tree, numpy, pandas)
+    return "numpy and pandas"
+
+
+def main():
+    folder = os.path.abspath(sys.argv[1])
+    zoneinfo.reset_tzpath([folder])
+    tree = pzic.Tree.open(folder)
+    data = tree.data("Europe/Dublin")
+    copy_zones(tree, data)
+    copy_trees(tree, folder)
+    copy_time_zones(tree, data)
+    copy_errors(tree)
+    use_processes(tree)
+    use_threads(data)
+    list_trees(tree)
+    keep_manners(tree, data)
+    compare_arithmetic(tree)
+    look_at_statuses(tree["Europe/Dublin"])
+    refuse_arrays(tree["Europe/Dublin"])
+    print(f"library: Python's objects, {use_pandas(tree)}")
+
+
+if __name__ == "__main__":
+    main()
