@@ -100,7 +100,7 @@ module _ (layout : Layout) (most : ℕ) (law : RecordsAreExchanged) (own_law : T
   within : (column : List ℕ) → known ≡ Some column → inside ≡ Some (exchanged layout.delimiter column)
   within column e = is ∙ ap (option_map (exchanged layout.delimiter)) e
 
-  row_wholes : List ℕ → List Whole
+  abbrev row_wholes : List ℕ → List Whole
   row_wholes column = drop (records_before layout.header) (wholes_in layout.delimiter (strip_bom (exchanged layout.delimiter column)))
 
   -- the rows of a column did not begin

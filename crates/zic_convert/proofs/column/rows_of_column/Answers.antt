@@ -17,3 +17,13 @@ returns-clause-rows c =
     let are = rw (c.without_mark.ensures, c.ready.ensures, c.in_ok-zones.ensures) at found in
     let all = rows_in_memory layout plain files c.args.max_rows column _ are c.column_records_are_read.ensures in
     rw (← c.rows.view_is) at all
+
+pub returns-clause-few : goal.returns-clause-few
+returns-clause-few c =
+    let layout = c.plain-layout.result in
+    let column = c.args.column.now in
+    let found = c.in_ok-rows.ensures in
+    let are = rw (c.without_mark.ensures, c.ready.ensures, c.in_ok-zones.ensures) at found in
+    let few = few_rows layout c.plain-layout.ensures.rows c.args.files.now c.args.max_rows column _ are in
+    let counted = rw (← c.rows.view_is) at few in
+    omega (arith, counted, few_records (strip_bom column), unmarked_shorter column)
