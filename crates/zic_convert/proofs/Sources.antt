@@ -6,6 +6,7 @@ use Rattle.std.specs.List.{concat}
 use Rattle.std.specs.Prelude.{IfOk, IfSome, Result, Ok, Err}
 use Rattle.csv.specs.Reading.{strip_bom}
 use Rattle.csv.proofs.WriteFacts.{appends-none}
+use Rattle.zic_base.specs.declared.row_fault.RowFault.{RowFault}
 use Rattle.zic_base.specs.declared.row_fault.RowKind.{RowKind}
 use Rattle.zic_base.specs.declared.run_stop.RunStop.{RunStop}
 use Rattle.zic_base.specs.declared.run_stop.RunStop.TheVariants as stop
@@ -23,7 +24,8 @@ use Rattle.zic_convert.specs.Convert.{WritesAll, WritesAt, WritesPartOf}
 use Rattle.zic_convert.specs.Laws.{PlainColumnsConvertAlike}
 use Rattle.zic_convert.specs.LayoutRows.{ComeToBy}
 use Rattle.zic_convert.specs.Rows.{ComeTo}
-use Rattle.zic_convert.specs.Run.{ConvertsAllBy, EndsAfterLines, EndsAtNames, EndsBy, EndsByZones, EndsIn, Run}
+use Rattle.zic_convert.specs.Run.{EndsAfterLines, EndsAtNames, EndsBy, EndsByZones, EndsIn, Run, WritesRows}
+use Rattle.zic_convert.specs.code.Progress.{output}
 use Rattle.zic_convert.specs.code.Row.{wholes_in}
 use Rattle.zic_convert.proofs.Bytes.{starts_later}
 use Rattle.zic_convert.proofs.Options.{for_some, if_some}
@@ -48,14 +50,16 @@ module _ (alike : PlainColumnsConvertAlike) (layout : Layout) (plain : HasPlainR
       same_text texts wrote = subst (λ (l : List ℕ). Appends held held' (l ++ concat texts)) (no_header column) wrote
 
   -- all of a column was converted
-  pub source_converts : {R W : Type 0} (run : Run R W) (n : ℕ) → ConvertsAllBy layout most n run files → IfSome run.column (λ column. WritesAll files most column n run.output.held run.output.held')
-  source_converts run n all = if_some run.column _ (λ column e.
-      let (wholes, are, w) = for_some run.column _ column all e in
+  pub source_converts : (known : Option (List ℕ)) (held held' : Option (List ℕ)) (log log' : Option (List RowFault)) (n : ℕ)
+      → IfSome known (λ column. (wholes : List Whole) × AreRowRecords layout column wholes × WritesRows layout files most (header_text layout column) wholes n (output held held' log log'))
+      → IfSome known (λ column. WritesAll files most column n held held')
+  source_converts known held held' log log' n all = if_some known _ (λ column e.
+      let (wholes, are, w) = for_some known _ column all e in
       record {
         texts = w.0.texts;
         converts = converts column wholes are w.0.texts None w.0.converts;
         count = w.0.count;
-        wrote = same_text column wholes are run.output.held run.output.held' w.0.texts w.0.wrote;
+        wrote = same_text column wholes are held held' w.0.texts w.0.wrote;
       })
 
   lines_part : (column : List ℕ) (wholes : List Whole) → AreRowRecords layout column wholes → (why : RunStop) {R W : Type 0} (run : Run R W)
@@ -120,11 +124,10 @@ module _ (alike : PlainColumnsConvertAlike) (layout : Layout) (plain : HasPlainR
         let by = ends.by files (sym same, subst AreSoundFiles (sym same) sound) in
         if_some run.column _ (λ column e. (let (wholes, of, w, names) = for_some run.column _ column by e in ends_in run column wholes of why w))
 
-    -- the conversion came to its end
-    pub source_done : {R W E : Type 0} (run : Run R W) (zones zones' : List File) → zones ≡ files → (result : Result ℕ E) → IfOk result (λ _. zones' ≡ zones)
-        → ((fs : List File) → (fs ≡ zones') × AreSoundFiles zones' → IfOk result (λ n. ConvertsAllBy layout most n run fs))
-        → IfOk result (λ n. IfSome run.column (λ column. WritesAll files most column n run.output.held run.output.held'))
-    source_done run zones zones' are (Err why) grown all = tt
-    source_done run zones zones' are (Ok n) grown all =
+    -- what holds in the end by all files that may be holds by those of the source
+    pub at_files : {E : Type 0} (zones zones' : List File) → zones ≡ files → (result : Result ℕ E) → IfOk result (λ _. zones' ≡ zones) → (P : ℕ → List File → Type 0)
+        → ((fs : List File) → (fs ≡ zones') × AreSoundFiles zones' → IfOk result (λ n. P n fs)) → IfOk result (λ n. P n files)
+    at_files zones zones' are (Err why) grown P all = tt
+    at_files zones zones' are (Ok n) grown P all =
         let same = grown ∙ are in
-        source_converts run n (all files (sym same, subst AreSoundFiles (sym same) sound))
+        all files (sym same, subst AreSoundFiles (sym same) sound)

@@ -1,5 +1,5 @@
-use Rattle.zic_convert.proofs.Joining.{on_err}
-use Rattle.zic_convert.proofs.Sources.{source_done, source_ends, source_refused}
+use Rattle.zic_convert.proofs.Joining.{on_err, on_ok}
+use Rattle.zic_convert.proofs.Sources.{at_files, source_converts, source_ends, source_refused}
 use Rattle.zic_convert.proofs.conversion.convert.Goals as goal
 
 pub returns-in-Err-clause-err : goal.returns-in-Err-clause-err
@@ -10,9 +10,13 @@ returns-in-Err-clause-err g c =
 pub returns-clause-ok : goal.returns-clause-ok
 returns-clause-ok g c =
     let files = c.args.files.now in
-    let zones = c.in-Ok.ensures in
-    source_done c.plain_columns_convert_alike.ensures c.plain-layout.result c.plain-layout.ensures.rows c.plain-layout.ensures.header files c.args.plan.now.max_rows
-    c.files_answer_once.ensures c.len.ensures.sound c.column_records_are_read.ensures _ _ _ zones c.convert_column.result c.convert_column.ensures.grown c.convert_column.ensures.ok
+    let most = c.args.plan.now.max_rows in
+    let plain = c.plain-layout.ensures in
+    on_ok c.convert_column.result _ _
+    (λ n w. source_converts c.plain_columns_convert_alike.ensures c.plain-layout.result plain.rows plain.header files most (g.R.Read.remaining c.args.reader.now.inner)
+    (g.W.Write.contents c.args.writer.now.inner) (g.W.Write.contents c.convert_column.new.writer.inner) _ _ n w)
+    (at_files c.plain_columns_convert_alike.ensures c.plain-layout.result plain.rows plain.header files most c.files_answer_once.ensures c.len.ensures.sound c.column_records_are_read.ensures
+    c.in-Ok.zones c.convert_column.new.zones c.in-Ok.ensures c.convert_column.result c.convert_column.ensures.grown _ c.convert_column.ensures.ok)
 
 pub returns-clause-err : goal.returns-clause-err
 returns-clause-err g c =
