@@ -1,3 +1,4 @@
+use Rattle.std.proofs.Common.{None}
 use Rattle.zic_convert.proofs.Joining.{on_err, on_ok}
 use Rattle.zic_convert.proofs.Sources.{at_files, source_converts, source_ends, source_refused}
 use Rattle.zic_convert.proofs.conversion.convert.Goals as goal
@@ -14,7 +15,7 @@ returns-clause-ok g c =
     let plain = c.plain-layout.ensures in
     on_ok c.convert_column.result _ _
     (λ n w. source_converts c.plain_columns_convert_alike.ensures c.plain-layout.result plain.rows plain.header files most (g.R.Read.remaining c.args.reader.now.inner)
-    (g.W.Write.contents c.args.writer.now.inner) (g.W.Write.contents c.convert_column.new.writer.inner) _ _ n w)
+    (g.W.Write.contents c.args.writer.now.inner) (g.W.Write.contents c.convert_column.new.writer.inner) None None n w)
     (at_files c.plain_columns_convert_alike.ensures c.plain-layout.result plain.rows plain.header files most c.files_answer_once.ensures c.len.ensures.sound c.column_records_are_read.ensures
     c.in-Ok.zones c.convert_column.new.zones c.in-Ok.ensures c.convert_column.result c.convert_column.ensures.grown _ c.convert_column.ensures.ok)
 
