@@ -391,7 +391,13 @@ pub fn convert_column<
     let taken = reader.taken();
     write_names(writer, conversion.layout)?;
     let outcome = convert_rows(conversion, zones, &mut *reader, writer, log);
-    ended(outcome, reader, failures, taken, conversion.plan.max_bytes())
+    ended(
+        outcome,
+        reader,
+        failures,
+        taken,
+        conversion.plan.max_bytes(),
+    )
 }
 
 /// Converts a column of records, each with a zone's name and an instant, to rows of six fields: the

@@ -104,10 +104,7 @@ fn names_of(start: RowStart, header: Header, line: &[u8]) -> &[u8]
 /// # Errors
 ///
 /// `WriteFailed`.
-pub(crate) fn write_names<W: Write>(
-    writer: &mut Counted<W>,
-    layout: &Layout,
-) -> Result<(), RunStop>
+pub(crate) fn write_names<W: Write>(writer: &mut Counted<W>, layout: &Layout) -> Result<(), RunStop>
     ensures ok { OnOk result (Wrote W.contents writer.old writer.new (names_line layout.now)) }
     ensures err { IfErr result (λ stop. (stop ≡ RunStop.WriteFailed)
         × FailsWithin W.contents writer.old writer.new (names_line layout.now)) }
