@@ -1,9 +1,7 @@
-use Rattle.std.proofs.Common.{◌≡◌, ◌∙◌, length, ap, arith, sym, subst, rules}
+use Rattle.std.proofs.Common.{arith}
 use Rattle.csv.specs.Reading.{strip_bom}
 use Rattle.zic_columns.proofs.SomeRecords.{few_records}
 use Rattle.zic_columns.proofs.Taking.{unmarked_shorter}
-use Rattle.zic_columns.specs.Column.{column_records}
-use Rattle.zic_convert.specs.code.Row.{AreRowsOf, wholes_in}
 use Rattle.zic_convert.proofs.InMemory.{few_rows, rows_in_memory}
 use Rattle.zic_convert.proofs.column.rows_of_column.Goals as goal
 

@@ -5,7 +5,7 @@ use Rattle.zic_convert.specs.code.Row.{wholes_of_all}
 use Rattle.zic_convert.proofs.Halts.{as_many, no_more}
 use Rattle.zic_convert.proofs.Joining.{some_records}
 use Rattle.zic_convert.proofs.Progress.{no_piece, round_taken}
-use Rattle.zic_convert.proofs.Rounds.{far_at_start, far_on, flush_fails, grown_on, no_round, round_ends, rounds_done}
+use Rattle.zic_convert.proofs.Rounds.{far_at_start, far_on, flush_fails, no_round, round_ends, rounds_done}
 use Rattle.zic_convert.proofs.conversion.convert_rounds.Goals as goal
 
 pub loop-column-init : goal.loop-column-init

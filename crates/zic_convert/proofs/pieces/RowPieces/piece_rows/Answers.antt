@@ -1,6 +1,5 @@
-use Rattle.std.proofs.Common.{◌≡◌, ◌+◌, ◌*◌, length, arith}
 use Rattle.zic_convert.specs.code.Pieces.{AreRowsOfPiece, Pieces}
-use Rattle.zic_convert.proofs.Joining.{on_ok, rows_of_bytes, small_number}
+use Rattle.zic_convert.proofs.Joining.{on_ok, rows_of_bytes}
 use Rattle.zic_convert.proofs.pieces.RowPieces.piece_rows.Goals as goal
 
 pub returns : goal.returns
