@@ -64,9 +64,9 @@ module _ (layout : Layout) (files : List File) (most : ℕ) (wholes : List Whole
   ends_below stop.NoThread w = lines_below stop.NoThread w
 
 -- one of the two lines of a header has no byte
-one_line : (start : RowStart) (header : Header) (d : ℕ) (own : List ℕ) → (names_of start header d ≡ []) ⊎ (header_of start d own ≡ [])
-one_line starts.Fields header d own = inr refl
-one_line starts.Record header d own = inl refl
+one_line : (start : RowStart) (header : Header) (d : ℕ) (line own : List ℕ) → (names_of start header line ≡ []) ⊎ (header_of start d own ≡ [])
+one_line starts.Fields header d line own = inr refl
+one_line starts.Record header d line own = inl refl
 
 -- ---- below the line of names
 
@@ -104,7 +104,7 @@ module _ (layout : Layout) (files : List File) (most : ℕ) (column : List ℕ) 
 
     lines_after_names : EndsAfterLines layout files most (own_line layout column) wholes why (output mid new log last)
         → EndsAfterLines layout files most (header_text layout column) wholes why (output old new log last)
-    lines_after_names w = elim (one_line layout.start layout.header layout.delimiter _) [
+    lines_after_names w = elim (one_line layout.start layout.header layout.delimiter _ _) [
       | inl none ↦ no_names (names_line layout) (own_line layout column) begun none w
       | inr none ↦ no_own (names_line layout) (own_line layout column) begun none w
     ]

@@ -97,19 +97,6 @@ module _ (layout : Layout) (files : List File) (most : ℕ) where
   faults_more number (x ∷ xs) ys (t ∷ ts) kind come =
       rw come.0 (ap (λ (l : List RowFault). noted number (fault_by layout files most number x.fields) ++ l) (faults_more (number + 1) xs ys ts kind come.2))
 
-  begin_first : (number : ℕ) (x : Whole) (xs ys : List Whole) (end : Option RowKind) → ends_by layout files most number x.fields ≡ end
-      → ((more : List RowFault) × (faults_by layout files most (number + 1) (xs ++ ys) ≡ faults_by layout files most (number + 1) xs ++ more))
-      → (more : List RowFault) × (faults_by layout files most number ((x ∷ xs) ++ ys) ≡ faults_by layout files most number (x ∷ xs) ++ more)
-  begin_first number x xs ys (Some kind) e rest = ([], rw e refl)
-  begin_first number x xs ys None e rest =
-      let here = noted number (fault_by layout files most number x.fields) in
-      (rest.0, rw e (ap (λ (l : List RowFault). here ++ l) rest.1 ∙ sym (append_assoc here (faults_by layout files most (number + 1) xs) rest.0)))
-
-  -- the faults of all records begin with those of the first
-  pub faults_begin : (number : ℕ) (xs ys : List Whole) → (more : List RowFault) × (faults_by layout files most number (xs ++ ys) ≡ faults_by layout files most number xs ++ more)
-  faults_begin number [] ys = (faults_by layout files most number ys, refl)
-  faults_begin number (x ∷ xs) ys = begin_first number x xs ys (ends_by layout files most number x.fields) refl (faults_begin (number + 1) xs ys)
-
   -- no records
   pub no_rows : (number : ℕ) → AreRowsOf layout files most number [] (record { text = []; count = 0; fault = None; faults = [] })
   no_rows number = record { texts = []; come = (refl, refl); text = refl; count = refl; faults = refl }

@@ -1,11 +1,10 @@
 -- How a conversion ends, by the outcome of its column.
-use Rattle.std.proofs.Common.{◌≡◌, ◌∙◌, ◌++◌, ◌-◌, ◌⊎◌, ℕ, suc, List, [], ◌∷◌, length, take, Option, Some, None, inl, inr, refl, sym, ap, subst, arith}
+use Rattle.std.proofs.Common.{◌≡◌, ◌∙◌, ◌++◌, ◌-◌, ℕ, suc, List, ◌∷◌, take, Option, None, inl, inr, refl, sym, ap, subst, arith}
 use Rattle.std.proofs.lemmas.List.{take_all}
 use Rattle.std.proofs.Math.Seq.{take-length}
 use Rattle.std.specs.Io.{StartsWith}
 use Rattle.std.specs.List.{concat}
-use Rattle.std.specs.Prelude.{IfErr, IfOk, IfSome, Result, Ok, Err}
-use Rattle.zic_base.specs.declared.row_fault.RowFault.{RowFault}
+use Rattle.std.specs.Prelude.{IfErr, IfOk, Result, Ok, Err}
 use Rattle.zic_base.specs.declared.run_stop.RunStop.{RunStop}
 use Rattle.zic_base.specs.declared.run_stop.RunStop.TheVariants as stop
 use Rattle.zic_columns.specs.Own.{Whole}
@@ -30,7 +29,7 @@ module _ {R : Type 0} (reader : Counts R) (failures taken most : ℕ) where
   ok_end outcome (Err why) P is p = tt
 
   -- what holds of an early end: where all was converted, what holds where the column can't be read on holds too
-  pub err_end : (outcome : Result ℕ Halt) (result : Result ℕ RunStop) (P : ℕ → Type 0) (Q : Halt → Type 0) (S : RunStop → Type 0) → ((n : ℕ) → P n → Q halt.Unread)
+  err_end : (outcome : Result ℕ Halt) (result : Result ℕ RunStop) (P : ℕ → Type 0) (Q : Halt → Type 0) (S : RunStop → Type 0) → ((n : ℕ) → P n → Q halt.Unread)
       → ((why : RunStop) → IsReadingStop reader failures taken most why → Q halt.Unread → S why) → ((why : RunStop) → Q (halt.Stop why) → S why)
       → IsEnd reader failures taken most outcome result → IfOk outcome P → IfErr outcome Q → IfErr result S
   err_end outcome (Ok count) P Q S all read stops is p q = tt

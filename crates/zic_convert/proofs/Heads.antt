@@ -1,5 +1,5 @@
 -- The header before rows, and the rows of a column after it.
-use Rattle.std.proofs.Common.{◌≡◌, ◌∙◌, ◌++◌, ◌⊎◌, ℕ, true, List, [], Option, Some, drop, map, inl, inr, refl, sym, ap, subst}
+use Rattle.std.proofs.Common.{◌≡◌, ◌∙◌, ◌⊎◌, ℕ, true, List, [], Option, Some, drop, map, inl, inr, refl, sym, ap, subst}
 use Rattle.std.proofs.lemmas.List.{append-nil, drop-map}
 use Rattle.std.specs.Io.{StartsWith}
 use Rattle.std.specs.Io.KnownBytes.{Appends}
@@ -22,7 +22,7 @@ use Rattle.zic_base.specs.declared.row_fault.RowFault.{RowFault}
 use Rattle.zic_base.specs.declared.run_stop.RunStop.{RunStop}
 use Rattle.zic_base.specs.declared.run_stop.RunStop.TheVariants as stop
 use Rattle.zic_convert.specs.Column.{AreRowRecords, header_of, own_header, own_line}
-use Rattle.zic_convert.specs.Run.{EndsAfterLines, EndsIn, Output, WritesRows}
+use Rattle.zic_convert.specs.Run.{EndsAfterLines, EndsIn, WritesRows}
 use Rattle.zic_convert.specs.code.Halt.{IsCauseOfHalt, stop_of}
 use Rattle.zic_convert.specs.code.Progress.{BeginsRows, ConvertsColumn, ConvertsRest, EndsInColumn, EndsInRest, HaltsAtHead, output, own_line_in}
 use Rattle.zic_convert.specs.code.Row.{put_back, wholes_in}
@@ -77,7 +77,7 @@ module _ {W : Type 0} (contents : W → Option (List ℕ)) where
     cause_at_head (halt.Stop stop.NoThread) ends = absurd ends
 
 -- not even a header was written whole
-pub no_line : FilesAnswerOnce → (layout : Layout) (files : List File) (most : ℕ) → AreSoundFiles files → (head : List ℕ) (wholes : List Whole) (why : RunStop) (old new : Option (List ℕ)) (log : Option (List RowFault))
+no_line : FilesAnswerOnce → (layout : Layout) (files : List File) (most : ℕ) → AreSoundFiles files → (head : List ℕ) (wholes : List Whole) (why : RunStop) (old new : Option (List ℕ)) (log : Option (List RowFault))
     (part : List ℕ) → StartsWith head part → Appends old new part → ((part ≡ []) ⊎ (why ≡ stop.WriteFailed)) → EndsAfterLines layout files most head wholes why (output old new log log)
 no_line once layout files most sound head wholes why old new log part starts wrote exact =
     let (texts, fault, come) = all_come layout files most (all_known files sound once) 1 wholes in
@@ -100,7 +100,7 @@ module _ (layout : Layout) (most : ℕ) (law : RecordsAreExchanged) (own_law : T
   within : (column : List ℕ) → known ≡ Some column → inside ≡ Some (exchanged layout.delimiter column)
   within column e = is ∙ ap (option_map (exchanged layout.delimiter)) e
 
-  row_wholes : List ℕ → List Whole
+  abbrev row_wholes : List ℕ → List Whole
   row_wholes column = drop (records_before layout.header) (wholes_in layout.delimiter (strip_bom (exchanged layout.delimiter column)))
 
   -- the rows of a column did not begin

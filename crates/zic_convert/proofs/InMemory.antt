@@ -1,5 +1,5 @@
 -- The rows of a plain column that is in memory as a whole.
-use Rattle.std.proofs.Common.{◌≡◌, ◌≤◌, ℕ, List, length, subst, arith}
+use Rattle.std.proofs.Common.{◌≤◌, ℕ, List, length, subst, arith}
 use Rattle.csv.specs.Reading.{strip_bom}
 use Rattle.zic_columns.specs.Column.{column_records}
 use Rattle.zic_columns.specs.Laws.{ColumnRecordsAreRead}

@@ -1,5 +1,5 @@
 -- A column that is converted round by round, by zones that are made ready before each round.
-use Rattle.std.proofs.Common.{◌≡◌, ◌∙◌, ◌+◌, ◌<◌, ◌++◌, ℕ, true, List, [], length, map, Option, Some, None, get_or, inl, inr, refl, sym, ap, subst, length-append, arith}
+use Rattle.std.proofs.Common.{◌≡◌, ◌+◌, ◌++◌, ℕ, true, List, [], map, Option, Some, inl, inr, refl, subst, length-append, arith}
 use Rattle.std.specs.Prelude.{All, Contains, IfSome}
 use Rattle.std.proofs.lemmas.List.{get_or_append_left}
 use Rattle.zic_columns.specs.Own.{Whole}
@@ -19,8 +19,8 @@ use Rattle.zic_zones.specs.Zones.{Agree, zone_in}
 use Rattle.zic_convert.specs.Run.{EndsByZones}
 use Rattle.zic_convert.specs.code.Halt.{stop_of}
 use Rattle.zic_convert.specs.code.Progress.{ConvertsRest, EndsAtTaking, EndsInRest, IsSoFar, Takes, output}
-use Rattle.zic_convert.specs.code.Row.{AreRowsOf, RowsOf, wholes_in, wholes_of_all}
-use Rattle.zic_convert.specs.code.Written.{EndsInRound, EndsInRows, FailsInRows, WritesRound, Wrote, pieces_by}
+use Rattle.zic_convert.specs.code.Row.{RowsOf, wholes_in, wholes_of_all}
+use Rattle.zic_convert.specs.code.Written.{EndsInRound, EndsInRows, WritesRound, Wrote, pieces_by}
 use Rattle.zic_convert.specs.declared.halt.Halt.{Halt}
 use Rattle.zic_convert.specs.declared.halt.Halt.TheVariants as halt
 use Rattle.zic_convert.proofs.Halts.{ends_at_flush, ends_in_rows, ends_still}

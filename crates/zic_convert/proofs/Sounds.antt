@@ -1,5 +1,5 @@
 -- What the files of a source answer.
-use Rattle.std.proofs.Common.{◌≡◌, ◌<◌, ℤ, List, Option, Some, None, get_or}
+use Rattle.std.proofs.Common.{ℤ, List, Option, Some, None, get_or}
 use Rattle.std.specs.Prelude.{All, IsSomeAnd}
 use Rattle.zic_base.specs.State.{Shown}
 use Rattle.zic_tzif.specs.Answer.{Answers}

@@ -1,5 +1,5 @@
 -- Rows by the files that are known, and by other files that may be.
-use Rattle.std.proofs.Common.{◌≡◌, ◌∙◌, ◌+◌, ◌<◌, ℕ, Bool, true, false, List, [], ◌∷◌, ◌++◌, map, Option, Some, None, ap, refl, sym, subst, arith}
+use Rattle.std.proofs.Common.{◌≡◌, ◌∙◌, ◌+◌, ℕ, Bool, true, false, List, [], ◌∷◌, ◌++◌, map, Option, Some, None, ap, refl, sym, subst, arith}
 use Rattle.std.specs.Prelude.{All, Contains, bytes_eq, is_some, nat_le, option_map, length, if◌then◌else◌}
 use Rattle.std.proofs.lemmas.List.Elements.{All-contains, All-cons, All-head, All-tail}
 use Rattle.std.proofs.lemmas.Slice.Eq.{bytes_eq-Decides}
@@ -11,7 +11,7 @@ use Rattle.zic_columns.specs.Round.{records_of, wholes_of}
 use Rattle.zic_columns.proofs.Exchanges.{twice}
 use Rattle.zic_columns.proofs.Wholes.{pieces_fields}
 use Rattle.zic_files.specs.File.{File}
-use Rattle.zic_files.specs.Sound.{AreSoundFiles, IsSoundFile}
+use Rattle.zic_files.specs.Sound.{IsSoundFile}
 use Rattle.zic_plan.specs.Layout.{has_count}
 use Rattle.zic_plan.specs.Delimiter.{is_delimiter}
 use Rattle.zic_plan.specs.declared.layout.Layout.{Layout}

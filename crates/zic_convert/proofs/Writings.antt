@@ -1,5 +1,5 @@
 -- The rows of pieces, one piece after another.
-use Rattle.std.proofs.Common.{◌≡◌, ◌<◌, ◌+◌, ℕ, suc, List, [], ◌∷◌, ◌++◌, length, get_or, drop, take, Option, Some, None, refl, sym, ap, ◌∙◌, append_assoc, arith, rules}
+use Rattle.std.proofs.Common.{◌≡◌, ◌<◌, ◌≤◌, ◌+◌, ℕ, suc, List, [], ◌∷◌, ◌++◌, length, get_or, drop, take, Option, Some, None, refl, sym, ap, ◌∙◌, append_assoc, arith}
 use Rattle.std.proofs.Math.Seq.{take-suc}
 use Rattle.std.proofs.lemmas.List.{append-nil, take-append-drop}
 use Rattle.zic_base.specs.declared.row_fault.RowFault.{RowFault}
@@ -53,6 +53,17 @@ module _ (pieces : List RowsOf) (i : ℕ) where
   front_more =
       let more = text_more (joined (take i pieces)) (joined (drop i pieces)) (joined (take i pieces)).fault in
       (more.0, ap (λ (r : RowsOf). r.text) all_parts ∙ more.1)
+
+  count_more : (rows others : RowsOf) (fault : Option RowKind) → rows.count ≤ (followed_by rows others fault).count
+  count_more rows others None = omega arith
+  count_more rows others (Some kind) = omega arith
+
+  -- there are no more of the first than of all
+  pub front_few : (joined (take i pieces)).count ≤ (joined pieces).count
+  front_few =
+      let all = ap (λ (r : RowsOf). r.count) all_parts in
+      let more = count_more (joined (take i pieces)) (joined (drop i pieces)) (joined (take i pieces)).fault in
+      omega (arith, all, more)
 
   -- the first are all, where one of them ends the run
   pub front_ends : (kind : RowKind) → (joined (take i pieces)).fault ≡ Some kind → joined pieces ≡ joined (take i pieces)

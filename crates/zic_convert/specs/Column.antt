@@ -42,10 +42,10 @@ pub record ConvertsBy (files : List File) (layout : Layout) (most : ℕ) (column
 abbrev pub row_names : List ℕ
 row_names = codes "zone,instant,local,offset,daylight,abbreviation" ++ 10 ∷ []
 
--- that line, where there is a header and rows begin so
-abbrev pub names_of : RowStart → Header → ℕ → List ℕ
-names_of start.Fields header.First delimiter = exchanged delimiter row_names
-names_of _ _ delimiter = []
+-- a line, where there is a header and rows begin so
+abbrev pub names_of : RowStart → Header → List ℕ → List ℕ
+names_of start.Fields header.First line = line
+names_of _ _ line = []
 
 -- the names of the fields that a row adds to its record: own choice
 abbrev pub added_names : List ℕ
@@ -63,7 +63,7 @@ header_of _ delimiter _ = []
 
 -- what is written before a column is read: the line of names, or nothing
 abbrev pub names_line : Layout → List ℕ
-names_line layout = names_of layout.start layout.header layout.delimiter
+names_line layout = names_of layout.start layout.header (exchanged layout.delimiter row_names)
 
 -- and once its header was read
 abbrev pub own_line : Layout → List ℕ → List ℕ

@@ -1,5 +1,5 @@
 -- Laws of converted columns: each is the contract of a function of the module `laws`.
-use Rattle.std.specs.Prelude.{◌≡◌, ◌↔◌, ℕ, List, Option}
+use Rattle.std.specs.Prelude.{◌≡◌, ℕ, List, Option}
 use Rattle.zic_files.specs.File.{File}
 use Rattle.zic_files.specs.Sound.{AreSoundFiles}
 use Rattle.zic_plan.specs.Layout.{HasPlainRows}

@@ -21,6 +21,7 @@ ghost use Rattle.zic_convert.specs.code.Progress.{EndsAtTaking, TakesNext, own_l
 ghost use Rattle.zic_convert.specs.code.Written.{EndsInRound, WritesRound, pieces_by};
 
 use crate::halt::Halt;
+use crate::laws::plain_columns_convert_alike;
 use crate::output::{flush, write_header, write_names};
 use crate::pieces::RowPieces;
 use crate::round::convert_round;
@@ -29,7 +30,7 @@ use std::io::{Read, Write};
 use std::sync::Wait;
 use std::thread::Threads;
 use zic_base::{FaultLog, RunStop, Unnoted};
-use zic_columns::laws::{records_are_exchanged, texts_are_exchanged};
+use zic_columns::laws::{column_records_are_read, records_are_exchanged, texts_are_exchanged};
 use zic_columns::{Column, Exchanged, Round, Unread};
 use zic_counted::Counted;
 use zic_files::Files;
@@ -390,7 +391,13 @@ pub fn convert_column<
     let taken = reader.taken();
     write_names(writer, conversion.layout)?;
     let outcome = convert_rows(conversion, zones, &mut *reader, writer, log);
-    ended(outcome, reader, failures, taken, conversion.plan.max_bytes())
+    ended(
+        outcome,
+        reader,
+        failures,
+        taken,
+        conversion.plan.max_bytes(),
+    )
 }
 
 /// Converts a column of records, each with a zone's name and an instant, to rows of six fields: the
@@ -446,6 +453,13 @@ pub fn convert<T: Threads + Wait + Sync, R: Read, W: Write, G: Gate + Sync>(
     ensures cause { IfErr result
         (IsCauseOf plan.now.max_bytes reader.old reader.new writer.old writer.new) }
 {
+    // Also a column that isn't read has rows: each file answers every instant.
+    prove!(files.len() <= usize::MAX);
+    files_answer_once();
+    column_records_are_read();
+    // Without a header, plain rows are those of a layout.
+    plain_columns_convert_alike();
+    let layout = Layout::plain(Header::Absent);
     let mut zones = match SourceZones::new(alloc, files) {
         Ok(zones) => zones,
         Err(_) => return Err(RunStop::Memory),
@@ -454,7 +468,7 @@ pub fn convert<T: Threads + Wait + Sync, R: Read, W: Write, G: Gate + Sync>(
         rt,
         alloc,
         plan,
-        layout: &Layout::plain(Header::Absent),
+        layout: &layout,
         gate,
     };
     convert_column(&conversion, &mut zones, reader, writer, &mut Unnoted)

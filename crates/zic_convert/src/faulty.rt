@@ -41,11 +41,7 @@ pub(crate) fn put_back(text: &mut Vec<u8>, start: usize, delimiter: u8)
 }
 
 /// Copies the text of a field, in which the delimiter and commas are put back in their places.
-fn copy_field(
-    alloc: Global,
-    piece: &Piece<'_, '_>,
-    field: Field,
-) -> Result<Vec<u8>, AllocError>
+fn copy_field(alloc: Global, piece: &Piece<'_, '_>, field: Field) -> Result<Vec<u8>, AllocError>
     requires { StandsIn piece.now.bytes.now field }
     ensures { IfOk result (λ copy. copy.items
         ≡ exchanged piece.now.layout.now.delimiter (field_text piece.now.bytes.now field)) }
@@ -57,11 +53,7 @@ fn copy_field(
 }
 
 /// Copies the name of a record's zone, as [`copy_field`] does a field.
-fn copy_zone(
-    alloc: Global,
-    piece: &Piece<'_, '_>,
-    given: &Record,
-) -> Result<Vec<u8>, AllocError>
+fn copy_zone(alloc: Global, piece: &Piece<'_, '_>, given: &Record) -> Result<Vec<u8>, AllocError>
     requires { IsSplit piece.now.bytes.now (wanted_by piece.now.layout.now) given.now }
     ensures { IfOk result (λ copy. copy.items ≡ zone_in piece.now.layout.now.zone
         (put_back piece.now.layout.now.delimiter (record_at piece.now.bytes.now given.now)).fields) }
@@ -91,11 +83,7 @@ fn csv_row(alloc: Global, delimiter: u8, fields: &[&[u8]]) -> Result<Vec<u8>, Al
 }
 
 /// Returns the row of a record by its fields, without local time.
-fn timeless_row(
-    alloc: Global,
-    piece: &Piece<'_, '_>,
-    given: &Record,
-) -> Result<Vec<u8>, AllocError>
+fn timeless_row(alloc: Global, piece: &Piece<'_, '_>, given: &Record) -> Result<Vec<u8>, AllocError>
     requires { IsSplit piece.now.bytes.now (wanted_by piece.now.layout.now) given.now }
     ensures { IfOk result (λ row. row.items ≡ timeless_text start.Fields piece.now.layout.now
         (put_back piece.now.layout.now.delimiter (record_at piece.now.bytes.now given.now))) }

@@ -4,7 +4,7 @@ ghost use Rattle.std.specs.Prelude.{◌≡◌, ◌+◌, ◌^◌, ◌<◌, [], If
 ghost use Rattle.zic_columns.specs.Exchange.{exchanged};
 ghost use Rattle.zic_counted.specs.Written.{FailsWithin};
 ghost use Rattle.zic_plan.specs.declared.layout.RowStart.TheVariants as start;
-ghost use Rattle.zic_convert.specs.Column.{header_of, names_line};
+ghost use Rattle.zic_convert.specs.Column.{header_of, names_line, names_of};
 ghost use Rattle.zic_convert.specs.code.Pieces.{joined};
 ghost use Rattle.zic_convert.specs.code.Written.{EndsAtHead, EndsInPieces, IsStopAt, Wrote, WroteRows};
 
@@ -88,28 +88,30 @@ pub(crate) fn flush<W: Write>(writer: &mut Counted<W>) -> Result<(), RunStop>
     }
 }
 
+/// Returns a line where there is a header and rows begin with names, and else no bytes.
+fn names_of(start: RowStart, header: Header, line: &[u8]) -> &[u8]
+    ensures { result.now ≡ names_of start header line.now }
+{
+    match (start, header) {
+        (RowStart::Fields, Header::First) => line,
+        _ => &[],
+    }
+}
+
 /// Writes the line of names before rows that begin with a name and an instant, where the layout has a
 /// header. Doesn't flush.
 ///
 /// # Errors
 ///
 /// `WriteFailed`.
-pub(crate) fn write_names<W: Write>(
-    writer: &mut Counted<W>,
-    layout: &Layout,
-) -> Result<(), RunStop>
+pub(crate) fn write_names<W: Write>(writer: &mut Counted<W>, layout: &Layout) -> Result<(), RunStop>
     ensures ok { OnOk result (Wrote W.contents writer.old writer.new (names_line layout.now)) }
     ensures err { IfErr result (λ stop. (stop ≡ RunStop.WriteFailed)
         × FailsWithin W.contents writer.old writer.new (names_line layout.now)) }
 {
-    match (layout.start, layout.header) {
-        (RowStart::Fields, Header::First) => {
-            let mut line = *ROW_NAMES;
-            exchange(&mut line, layout.delimiter.byte());
-            write_all(writer, &line)
-        }
-        _ => Ok(()),
-    }
+    let mut line = *ROW_NAMES;
+    exchange(&mut line, layout.delimiter.byte());
+    write_all(writer, names_of(layout.start, layout.header, &line))
 }
 
 /// Writes the column's own header before rows that begin with their records, by the header's own bytes

@@ -1,13 +1,12 @@
 -- How far the rows of a piece have been made.
-use Rattle.std.specs.Prelude.{◌≡◌, ◌<◌, ◌≤◌, ◌+◌, ℕ, List, [], ◌++◌, None, length, map, take, All}
-use Rattle.zic_columns.specs.Own.{Whole, whole_records}
+use Rattle.std.specs.Prelude.{◌≡◌, ◌<◌, ◌≤◌, ℕ, List, [], ◌++◌, None, length, map, take, All}
+use Rattle.zic_columns.specs.Own.{Whole}
 use Rattle.zic_columns.specs.Record.{IsSplit, Splitting}
 use Rattle.zic_columns.specs.declared.splits.TheConstants.{BATCH}
-use Rattle.zic_convert.specs.code.Batch.{IsPen, record_of, records_of, wanted_by}
+use Rattle.zic_convert.specs.code.Batch.{records_of, wanted_by}
 use Rattle.zic_convert.specs.code.Row.{AreRowsOf, RowsOf, put_back, wholes_in}
 use Rattle.zic_convert.specs.declared.batch.Batch.{Batch}
 use Rattle.zic_convert.specs.declared.piece.Piece.{Piece}
-use Rattle.zic_convert.specs.declared.row.RowPen.{RowPen}
 
 -- the rows of the first records of a piece, or of fewer, where one ends the run, whose others are the first of a batch and those that are
 -- left to split

@@ -1,4 +1,4 @@
-use Rattle.std.proofs.Common.{inl, inr, refl, sym}
+use Rattle.std.proofs.Common.{inl, inr, refl}
 use Rattle.std.proofs.lemmas.Result.{err_from_is_err_and}
 use Rattle.zic_convert.specs.Run.{EndsByZones}
 use Rattle.zic_convert.specs.code.Progress.{EndsInColumn, output}

@@ -1,4 +1,4 @@
-use Rattle.std.proofs.Common.{◌≡◌, ◌++◌, ◌+◌, ◌<◌, ℕ, List, [], Option, None, Some, length, take, refl, sym, ap, subst, ◌∙◌, arith, rules}
+use Rattle.std.proofs.Common.{◌≡◌, ◌++◌, ◌+◌, ◌<◌, ℕ, List, [], Option, None, Some, length, take, get_or, refl, sym, ap, subst, ◌∙◌, arith, rules}
 use Rattle.std.proofs.lemmas.List.{append-nil, take_all}
 use Rattle.std.proofs.lemmas.Result.{err_from_is_err_and}
 use Rattle.csv.proofs.WriteFacts.{appends-none}
@@ -12,7 +12,7 @@ use Rattle.zic_convert.specs.code.Written.{Wrote}
 use Rattle.zic_convert.proofs.Bytes.{fails_after, wrote_both}
 use Rattle.zic_convert.proofs.Logs.{notes_more, notes_none}
 use Rattle.zic_convert.proofs.Stops.{stops_at}
-use Rattle.zic_convert.proofs.Writings.{front_ends, front_more, next_count, next_fault, next_faults, next_text}
+use Rattle.zic_convert.proofs.Writings.{front_ends, front_few, front_more, next_count, next_fault, next_faults, next_text}
 use Rattle.zic_convert.proofs.output.write_rows.Goals as goal
 
 -- no fault is there
@@ -122,3 +122,22 @@ loop-rows-preserved g c =
       noted = subst (λ (l : List RowFault). Notes log now l) (sym (next_faults pieces i rows lt c.rows-item.is inv.goes_on))
           (notes_more log (g.L.FaultLog.noted c.loop-rows.log) now front.faults rows.faults inv.noted (subst (λ (l : List RowFault). Notes (g.L.FaultLog.noted c.loop-rows.log) now l) faults c.note_all.ensures));
     }
+
+-- all rows are few enough to count
+few_more : (pieces : List RowsOf) (i count first : ℕ) (rows : RowsOf) → i < length pieces → rows ≡ get_or pieces i rows → (joined (take i pieces)).fault ≡ None → count ≡ (joined (take i pieces)).count
+    → first + (joined pieces).count < 18446744073709551616 → first + (count + rows.count) < 18446744073709551616
+few_more pieces i count first rows lt is goes_on same fits = omega (arith, same, next_count pieces i rows lt is goes_on, front_few pieces (i + 1), fits)
+
+pub overflow_add-count : goal.overflow_add-count
+overflow_add-count g c =
+    let inv = c.loop-rows.invariant in
+    let few = few_more c.args.pieces.now c.loop-rows.rows-index c.loop-rows.count c.args.first c.rows-item.result (omega arith) c.rows-item.is inv.goes_on inv.count c.requires in
+    let fits : c.loop-rows.count + c.rows.inside.count < 18446744073709551616 = omega (arith, few, ap (λ (r : RowsOf). r.count) c.rows.view_is) in
+    search (rules, fits)
+
+pub overflow_add-first : goal.overflow_add-first
+overflow_add-first g c =
+    let inv = c.loop-rows.invariant in
+    let few = few_more c.args.pieces.now c.loop-rows.rows-index c.loop-rows.count c.args.first c.rows-item.result (omega arith) c.rows-item.is inv.goes_on inv.count c.requires in
+    let fits : c.args.first + (c.loop-rows.count + c.rows.inside.count) < 18446744073709551616 = omega (arith, few, ap (λ (r : RowsOf). r.count) c.rows.view_is) in
+    search (rules, fits)

@@ -27,8 +27,7 @@ returns-clause-text c =
     let written = rw (to_z-of_z whole) at c.in_ok-push_counted_rest.ensures.ok in
     let all : c.push_counted_rest.new.text.items ≡ old ++ row =
     written ∙ ap (λ (l : List ℕ). l ++ rest) begun ∙ append_assoc old (comma_start layout.start own name query.count) rest in
-    let put = row_exchanged d c.len-start.result old row c.push_counted_rest.new.text.items at all in
-    (
+    let put = row_exchanged d c.len-start.result old row c.push_counted_rest.new.text.items at all in (
       start_text layout (exchanged d own) name query.count ++ exchanged d rest,
       rw c.byte.ensures.byte at c.put_back.ensures ∙ put ∙ ap (λ (l : List ℕ). old ++ l) (row_put_back layout.start d own name query.count rest),
       text_made piece given query c.args.pen.now.writer c.byte.ensures.sound c.are_sound.ensures c.requires.query c.requires.answers,

@@ -1,0 +1,133 @@
+-- A plain column that is converted by the files of a source.
+use Rattle.std.proofs.Common.{◌≡◌, ◌∙◌, ◌++◌, ◌⊎◌, ℕ, List, [], Option, Some, None, inl, inr, refl, sym, subst}
+use Rattle.std.specs.Io.{StartsWith}
+use Rattle.std.specs.Io.KnownBytes.{Appends}
+use Rattle.std.specs.List.{concat}
+use Rattle.std.specs.Prelude.{IfOk, IfSome, Result, Ok, Err}
+use Rattle.csv.specs.Reading.{strip_bom}
+use Rattle.csv.proofs.WriteFacts.{appends-none}
+use Rattle.zic_base.specs.declared.row_fault.RowFault.{RowFault}
+use Rattle.zic_base.specs.declared.row_fault.RowKind.{RowKind}
+use Rattle.zic_base.specs.declared.run_stop.RunStop.{RunStop}
+use Rattle.zic_base.specs.declared.run_stop.RunStop.TheVariants as stop
+use Rattle.zic_columns.specs.Column.{column_records}
+use Rattle.zic_columns.specs.Laws.{ColumnRecordsAreRead}
+use Rattle.zic_columns.specs.Own.{Whole}
+use Rattle.zic_tzif.specs.Laws.{FilesAnswerOnce}
+use Rattle.zic_files.specs.File.{File}
+use Rattle.zic_files.specs.Sound.{AreSoundFiles}
+use Rattle.zic_plan.specs.Layout.{HasPlainRows}
+use Rattle.zic_plan.specs.declared.layout.Header.TheVariants as header
+use Rattle.zic_plan.specs.declared.layout.Layout.{Layout}
+use Rattle.zic_convert.specs.Column.{AreRowRecords, ConvertsTo, header_text, names_line}
+use Rattle.zic_convert.specs.Convert.{WritesAll, WritesAt, WritesPartOf}
+use Rattle.zic_convert.specs.Laws.{PlainColumnsConvertAlike}
+use Rattle.zic_convert.specs.LayoutRows.{ComeToBy}
+use Rattle.zic_convert.specs.Rows.{ComeTo}
+use Rattle.zic_convert.specs.Run.{EndsAfterLines, EndsAtNames, EndsBy, EndsByZones, EndsIn, Run, WritesRows}
+use Rattle.zic_convert.specs.code.Progress.{output}
+use Rattle.zic_convert.specs.code.Row.{wholes_in}
+use Rattle.zic_convert.proofs.Bytes.{starts_later}
+use Rattle.zic_convert.proofs.Options.{for_some, if_some}
+use Rattle.zic_convert.proofs.Plain.{come_plainly}
+use Rattle.zic_convert.proofs.Sounds.{all_known}
+use Rattle.zic_convert.proofs.Totals.{all_come}
+use Rattle.zic_convert.proofs.Wholes.{comma_fields_in}
+
+module _ (alike : PlainColumnsConvertAlike) (layout : Layout) (plain : HasPlainRows layout) (none : layout.header ≡ header.Absent) (files : List File) (most : ℕ) where
+  no_header : (column : List ℕ) → header_text layout column ≡ []
+  no_header column = rw (plain.start, none) refl
+
+  no_names : names_line layout ≡ []
+  no_names = rw (plain.start, none) refl
+
+  module _ (column : List ℕ) (wholes : List Whole) (are : AreRowRecords layout column wholes) where
+    converts : (texts : List (List ℕ)) (fault : Option RowKind) → ComeToBy layout files most 1 wholes texts fault → ConvertsTo files most column texts fault
+    converts texts fault come = alike files layout most column texts fault plain none (record { wholes = wholes; are = are; rows = come })
+
+    module _ (held held' : Option (List ℕ)) where
+      same_text : (texts : List (List ℕ)) → Appends held held' (header_text layout column ++ concat texts) → Appends held held' (concat texts)
+      same_text texts wrote = subst (λ (l : List ℕ). Appends held held' (l ++ concat texts)) (no_header column) wrote
+
+  -- all of a column was converted
+  pub source_converts : (known : Option (List ℕ)) (held held' : Option (List ℕ)) (log log' : Option (List RowFault)) (n : ℕ)
+      → IfSome known (λ column. (wholes : List Whole) × AreRowRecords layout column wholes × WritesRows layout files most (header_text layout column) wholes n (output held held' log log'))
+      → IfSome known (λ column. WritesAll files most column n held held')
+  source_converts known held held' log log' n all = if_some known _ (λ column e.
+      let (wholes, are, w) = for_some known _ column all e in
+      record {
+        texts = w.0.texts;
+        converts = converts column wholes are w.0.texts None w.0.converts;
+        count = w.0.count;
+        wrote = same_text column wholes are held held' w.0.texts w.0.wrote;
+      })
+
+  lines_part : (column : List ℕ) (wholes : List Whole) → AreRowRecords layout column wholes → (why : RunStop) {R W : Type 0} (run : Run R W)
+      → EndsAfterLines layout files most (header_text layout column) wholes why run.output → WritesPartOf [] (ConvertsTo files most column) run.output.held run.output.held'
+  lines_part column wholes are why run w = record {
+    texts = w.texts;
+    fault = w.fault;
+    converts = converts column wholes are w.texts w.fault w.come;
+    part = w.part;
+    starts = subst (λ (l : List ℕ). StartsWith (l ++ concat w.texts) w.part) (no_header column) w.starts;
+    wrote = w.wrote;
+  }
+
+  ends_in : {R W : Type 0} (run : Run R W) (column : List ℕ) (wholes : List Whole) → AreRowRecords layout column wholes → (why : RunStop)
+      → EndsIn layout files most (header_text layout column) wholes why run.output → WritesAt files most column why run.output.held run.output.held'
+  ends_in run column wholes are (stop.Row row kind) w = record {
+    texts = w.0.texts;
+    converts = converts column wholes are w.0.texts (Some kind) w.0.converts;
+    number = w.0.number;
+    wrote = same_text column wholes are run.output.held run.output.held' w.0.texts w.0.wrote;
+  }
+  ends_in run column wholes are (stop.Source fault) w = absurd w
+  ends_in run column wholes are stop.ReadFailed w = lines_part column wholes are stop.ReadFailed run w
+  ends_in run column wholes are stop.WriteFailed w = lines_part column wholes are stop.WriteFailed run w
+  ends_in run column wholes are stop.ColumnTooLong w = lines_part column wholes are stop.ColumnTooLong run w
+  ends_in run column wholes are stop.Memory w = lines_part column wholes are stop.Memory run w
+  ends_in run column wholes are stop.NoThread w = lines_part column wholes are stop.NoThread run w
+
+  -- nothing was written
+  module _ (once : FilesAnswerOnce) (sound : AreSoundFiles files) (read : ColumnRecordsAreRead) where
+    pub no_part : (column : List ℕ) (held held' : Option (List ℕ)) (part : List ℕ) → StartsWith [] part → Appends held held' part → WritesPartOf [] (ConvertsTo files most column) held held'
+    no_part column held held' part starts wrote =
+        let bytes = strip_bom column in
+        let wholes = wholes_in layout.delimiter bytes in
+        let (texts, fault, come) = all_come layout files most (all_known files sound once) 1 wholes in
+        record {
+          texts = texts;
+          fault = fault;
+          converts = record {
+            records = column_records bytes;
+            are = read bytes;
+            rows = subst (λ (l : List (List (List ℕ))). ComeTo files most 1 l texts fault) (comma_fields_in layout.delimiter plain.delimiter bytes) (come_plainly layout plain files most 1 wholes texts fault come);
+          };
+          part = part;
+          starts = starts_later [] [] part (concat texts) starts;
+          wrote = wrote;
+        }
+
+    -- the files of a source are not there
+    pub source_refused : (known held : Option (List ℕ)) → IfSome known (λ column. WritesAt files most column stop.Memory held held)
+    source_refused known held = if_some known _ (λ column e. no_part column held held [] refl (appends-none held))
+
+    -- the conversion ended early
+    pub source_ends : {R W : Type 0} (run : Run R W) (why : RunStop) (zones zones' : List File) → zones ≡ files
+        → EndsAtNames layout why run zones zones'
+        ⊎ EndsByZones (λ (a b : List File). b ≡ a) (λ (a b : List File). b ≡ a) (λ (z fs : List File). (fs ≡ z) × AreSoundFiles z) zones zones' why (EndsBy layout most why run)
+        → IfSome run.column (λ column. WritesAt files most column why run.output.held run.output.held')
+    source_ends run why zones zones' are (inl ends) = rw ends.is (if_some run.column _ (λ column e.
+        no_part column run.output.held run.output.held' ends.part (subst (λ (l : List ℕ). StartsWith l ends.part) no_names ends.starts) ends.wrote))
+    source_ends run why zones zones' are (inr ends) =
+        let same = ends.grown ∙ are in
+        let by = ends.by files (sym same, subst AreSoundFiles (sym same) sound) in
+        if_some run.column _ (λ column e. (let (wholes, of, w, names) = for_some run.column _ column by e in ends_in run column wholes of why w))
+
+    -- what holds in the end by all files that may be holds by those of the source
+    pub at_files : {E : Type 0} (zones zones' : List File) → zones ≡ files → (result : Result ℕ E) → IfOk result (λ _. zones' ≡ zones) → (P : ℕ → List File → Type 0)
+        → ((fs : List File) → (fs ≡ zones') × AreSoundFiles zones' → IfOk result (λ n. P n fs)) → IfOk result (λ n. P n files)
+    at_files zones zones' are (Err why) grown P all = tt
+    at_files zones zones' are (Ok n) grown P all =
+        let same = grown ∙ are in
+        all files (sym same, subst AreSoundFiles (sym same) sound)

@@ -1,0 +1,18 @@
+use Rattle.std.proofs.Common.{◌≡◌, ◌≤◌, ◌+◌, ◌-◌, List}
+use Rattle.zic_columns.specs.Round.{unread}
+use Rattle.zic_files.specs.File.{File}
+use Rattle.zic_convert.proofs.Rounds.{IsFarBy}
+use Rattle.zic_convert.proofs.conversion.convert_rounds.Given as goal
+
+abbrev pub invariant-loop-column : goal.invariant-loop-column
+invariant-loop-column g l = record {
+  within : l.count ≤ l.fn.conversion.plan.now.max_rows;
+  failures : l.writer.failures ≡ l.fn.writer.failures;
+  grown : g.Z.Zones.grown l.fn.zones l.zones;
+  far : (files : List File) → g.Z.Zones.may_be l.zones files
+      → IsFarBy l.fn.conversion.layout.now l.fn.conversion.plan.now.max_rows (unread g.R.Read.remaining l.fn.column) (unread g.R.Read.remaining l.column) l.count (g.W.Write.contents l.fn.writer.inner)
+      (g.W.Write.contents l.writer.inner) (g.L.FaultLog.noted l.fn.log) (g.L.FaultLog.noted l.log) files;
+}
+
+abbrev pub decreases-loop-column : goal.decreases-loop-column
+decreases-loop-column g l = l.fn.conversion.plan.now.max_rows + 1 - l.count
