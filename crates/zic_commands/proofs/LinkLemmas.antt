@@ -19,9 +19,9 @@ use Rattle.zic_source.proofs.faults.Order.{not_before_itself}
 use Rattle.zic_source.proofs.reading.Once.{read_once}
 use Rattle.zic_files.specs.File.{File}
 use Rattle.zic_files.specs.Sound.{AreSoundFiles}
-use Rattle.zic_bulk.specs.Build.{AreFilesOfTexts}
-use Rattle.zic_bulk.specs.Files.{AreFilesOf, IsFileAt}
-use Rattle.zic_bulk.proofs.SoundFiles.{files_are_sound}
+use Rattle.zic_compile.specs.Build.{AreFilesOfTexts}
+use Rattle.zic_compile.specs.Files.{AreFilesOf, IsFileAt}
+use Rattle.zic_compile.proofs.SoundFiles.{files_are_sound}
 use Rattle.zic_io.proofs.ListLemmas.{taken, parts}
 use Rattle.zic_commands.proofs.TreeLemmas.{file_more, file_stop, gains_and_none, gains_both, gains_none}
 use Rattle.zic_commands.specs.Failing.{IsFailureOfFolder, IsUnplaced}

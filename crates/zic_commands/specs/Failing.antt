@@ -1,6 +1,6 @@
 -- Why commands give up.
 use Rattle.std.specs.Prelude.{◌≡◌, ◌⊎◌, ℕ, List, [], ◌∷◌, ◌++◌, length, map, Option}
-use Rattle.zic_bulk.specs.Build.{AreFilesOfTexts, IsStopOfBuild}
+use Rattle.zic_compile.specs.Build.{AreFilesOfTexts, IsStopOfBuild}
 use Rattle.zic_files.specs.File.{File}
 use Rattle.zic_base.specs.declared.run_stop.RunStop.{RunStop}
 use Rattle.zic_counted.specs.Counts.{Counts}

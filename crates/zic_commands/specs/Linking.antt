@@ -7,7 +7,7 @@ use Rattle.zic_source.specs.Grammar.{IsSource}
 use Rattle.zic_source.specs.Links.{EndsAt}
 use Rattle.zic_source.specs.Source.{SourceLines, ZoneLines, zone_at}
 use Rattle.zic_files.specs.File.{File}
-use Rattle.zic_bulk.specs.Files.{AreFilesOf}
+use Rattle.zic_compile.specs.Files.{AreFilesOf}
 use Rattle.zic_io.specs.declared.failure.Failure.{Failure}
 use Rattle.zic_io.specs.declared.failure.Failure.TheVariants as failures
 use Rattle.zic_io.specs.declared.link_kind.LinkKind.{LinkKind}

@@ -7,7 +7,7 @@ use Rattle.zic_base.specs.State.{Shown}
 use Rattle.zic_tzif.specs.Content.{Content}
 use Rattle.zic_tzif.specs.Answer.{Answers}
 use Rattle.zic_tzif.specs.Reading.{IsFile}
-use Rattle.zic_bulk.specs.Build.{AreFilesOfTexts}
+use Rattle.zic_compile.specs.Build.{AreFilesOfTexts}
 use Rattle.zic_files.specs.File.{File}
 
 -- a file's name, its number of bytes and its footer, between spaces, and a newline

@@ -1,6 +1,6 @@
 -- The files of a source in a tree.
 use Rattle.std.specs.Prelude.{◌≢◌, ℕ, List, [], ◌∷◌, ◌++◌, map, Option}
-use Rattle.zic_bulk.specs.Build.{AreFilesOfTexts}
+use Rattle.zic_compile.specs.Build.{AreFilesOfTexts}
 use Rattle.zic_files.specs.File.{File}
 use Rattle.zic_io.specs.Tree.{Gains, Placed}
 

@@ -6,7 +6,7 @@ ghost use Rattle.std.specs.List.{AllZip};
 ghost use Rattle.zic_words.specs.Name.{is_name};
 ghost use Rattle.zic_source.specs.Source.{zone_at};
 ghost use Rattle.zic_source.specs.Texts.{texts_of};
-ghost use Rattle.zic_bulk.specs.Files.{AreFilesOf};
+ghost use Rattle.zic_compile.specs.Files.{AreFilesOf};
 ghost use Rattle.zic_files.specs.File.{File};
 ghost use Rattle.zic_commands.specs.Failing.{IsFailureOfFolder, IsFailureOfTexts};
 ghost use Rattle.zic_commands.specs.Linking.{target_of, way_up, AreBuiltLinked, IsFailureOfLinked, IsFailureOfLinks, IsFileNamed, IsLinkOf, IsUnlinked};

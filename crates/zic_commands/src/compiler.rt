@@ -3,7 +3,7 @@
 ghost use Rattle.std.specs.Prelude.{IfOk, IfErr};
 ghost use Rattle.zic_source.specs.Grammar.{IsSource};
 ghost use Rattle.zic_source.specs.Texts.{texts_of};
-ghost use Rattle.zic_bulk.specs.Build.{AreFilesOfTexts};
+ghost use Rattle.zic_compile.specs.Build.{AreFilesOfTexts};
 ghost use Rattle.zic_commands.specs.Failing.{IsFailureOfTexts};
 
 use std::alloc::Global;

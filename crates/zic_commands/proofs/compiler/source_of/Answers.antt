@@ -1,7 +1,7 @@
 use Rattle.std.proofs.Common.{◌∙◌, ap, sym}
 use Rattle.std.proofs.lemmas.List.{length-map}
 use Rattle.zic_source.specs.Texts.{texts_of}
-use Rattle.zic_bulk.proofs.Stops.{reading_stop}
+use Rattle.zic_compile.proofs.Stops.{reading_stop}
 use Rattle.zic_io.specs.Failing.{run_failure}
 use Rattle.zic_commands.proofs.compiler.source_of.Goals as goal
 
