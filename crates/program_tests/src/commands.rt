@@ -9,10 +9,10 @@ use std::alloc::Global;
 use std::io::ErrorKind;
 use std::process::Abort;
 use std::slice;
-use zic_bulk::Plan;
 use zic_commands::*;
 use zic_counted::Counted;
 use zic_dump::Years;
+use zic_plan::Plan;
 
 /// Returns a plan with a number of workers and pieces of one, for 9 rows and 100 bytes.
 fn plan(rt: &impl Abort, workers: u64) -> Plan {

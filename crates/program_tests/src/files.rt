@@ -8,8 +8,11 @@ use std::slice;
 use std::sync::Wait;
 use std::sync::atomic::{AtomicU64, Ordering};
 use std::thread::Threads;
-use zic_bulk::*;
+use zic_base::RunStop;
+use zic_compile::build;
+use zic_files::Files;
 use zic_pieces::{Gate, Open};
+use zic_plan::Plan;
 
 /// Builds with a number of workers and pieces of one zone.
 pub fn built<R: Threads + Wait + Sync + Abort, G: Gate + Sync>(

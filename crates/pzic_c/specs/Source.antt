@@ -4,7 +4,7 @@ use Rattle.std.specs.List.{sum}
 use Rattle.zic_base.specs.Fault.{kind_number}
 use Rattle.zic_base.specs.declared.fault.Fault.{Fault}
 use Rattle.zic_files.specs.File.{File}
-use Rattle.zic_bulk.specs.Build.{AreFilesOfTexts, IsFaultOfTexts}
+use Rattle.zic_compile.specs.Build.{AreFilesOfTexts, IsFaultOfTexts}
 use Rattle.pzic_c.specs.declared.compiling.SourceFault.{SourceFault}
 use Rattle.pzic_c.specs.declared.status.TheConstants.{OK, NO_MEMORY, BAD_SOURCE, LENGTHS}
 

@@ -4,7 +4,7 @@ ghost use Rattle.std.specs.Prelude.{◌≡◌, ◌↔◌, IfOk, IsTrue, length};
 ghost use Rattle.std.specs.List.{sum};
 ghost use Rattle.zic_base.specs.Fault.{fault_of};
 ghost use Rattle.zic_base.specs.Memory.{IfRefusal};
-ghost use Rattle.zic_bulk.specs.Build.{AreFilesOfTexts, IsFaultOfTexts};
+ghost use Rattle.zic_compile.specs.Build.{AreFilesOfTexts, IsFaultOfTexts};
 ghost use Rattle.zic_source.specs.Texts.{texts_of};
 ghost use Rattle.pzic_c.specs.Source.{AreCompiled, IsFaultTold, texts_in};
 ghost use Rattle.pzic_c.specs.Handle.{IsHandle, files_in};
@@ -14,7 +14,8 @@ use crate::held::hold_files;
 use crate::status::{BAD_SOURCE, LENGTHS, NO_MEMORY, OK};
 use std::alloc::{AllocError, Global};
 use zic_base::Stop;
-use zic_bulk::{Files, compile};
+use zic_compile::compile;
+use zic_files::Files;
 use zic_source::read_source;
 
 /// The first fault of a source.

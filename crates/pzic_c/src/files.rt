@@ -11,7 +11,7 @@ use crate::held::{Held, hold_member};
 use crate::status::{NO_HANDLE, NO_MEMORY, NO_SUCH, OK};
 use std::alloc::Global;
 use std::sync::Arc;
-use zic_bulk::Files;
+use zic_files::Files;
 
 /// Tells how many files there are.
 #[unsafe(no_mangle)]

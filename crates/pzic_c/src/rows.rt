@@ -11,8 +11,10 @@ use crate::handle::Handle;
 use crate::held::hold_text;
 use crate::status::{BAD_ROW, NO_HANDLE, NO_MEMORY, OK};
 use std::alloc::Global;
-use zic_bulk::{Files, MAX_ROWS, RowKind};
+use zic_base::RowKind;
 use zic_convert::rows_of_column;
+use zic_files::Files;
+use zic_plan::MAX_ROWS;
 
 /// The first row that has a fault.
 #[repr(C)]

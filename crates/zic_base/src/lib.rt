@@ -1,6 +1,6 @@
 //! Types and texts that all crates share: places of lines, faults of sources, zones and rows, why a
-//! run ends early, short texts, the bytes of abbreviations, digits, states, and limits. The rows of
-//! `witness/rows` test it.
+//! run ends early, short texts, the bytes of abbreviations, digits, states, limits, and the word for
+//! standard input. The rows of `witness/rows` test it.
 #![tactic(auto)]
 
 mod byte;
@@ -14,6 +14,7 @@ mod row_fault;
 mod run_stop;
 mod short_text;
 mod state;
+mod word;
 mod zone_stop;
 
 pub use byte::{are_abbreviation_bytes, is_abbreviation_byte};
@@ -27,4 +28,5 @@ pub use row_fault::{RowFault, RowKind};
 pub use run_stop::RunStop;
 pub use short_text::ShortText;
 pub use state::State;
+pub use word::STANDARD_INPUT;
 pub use zone_stop::ZoneStop;

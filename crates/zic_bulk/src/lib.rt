@@ -1,19 +1,9 @@
-//! The files of a source: one for each Zone and each Link line, in the order of the texts and
-//! their lines. The tests stand in `program_tests`.
+//! The library's door for whole sources and columns: the files of texts, and the rows of a column by
+//! files. The crates that these names come from have their contracts.
 #![tactic(auto)]
 
-mod builder;
-mod compiler;
-mod entry;
-mod image;
-mod images;
-pub mod laws;
-mod pieces;
-
-pub use builder::build;
-pub use compiler::compile;
-pub use image::image_of;
 pub use zic_base::{RowKind, RunStop};
+pub use zic_compile::build;
 pub use zic_convert::convert;
 pub use zic_counted::Counted;
 pub use zic_files::Files;

@@ -9,9 +9,9 @@ use clap::{ArgMatches, Error};
 use std::alloc::Global;
 use std::rt::Env;
 use std::{env, io};
+use zic_base::STANDARD_INPUT;
 use zic_dump::Years;
 use zic_explain::{Unexplained, entries, explanation, index};
-use zic_io::STANDARD_INPUT;
 use zic_plan::{Layout, Plan};
 
 /// What the names of Link lines are made as.

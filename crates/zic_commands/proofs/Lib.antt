@@ -1,9 +1,4 @@
 pub mod ConvertingLemmas
-pub mod LinkLemmas
-pub mod ListingLemmas
-pub mod NameLemmas
-pub mod OutputLemmas
 pub mod ReadingLemmas
-pub mod TreeLemmas
 pub mod TreeZoneLemmas
 pub mod TreeRunLemmas

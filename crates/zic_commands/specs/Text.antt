@@ -1,26 +1,10 @@
--- The text that `check` and `show` print.
-use Rattle.std.specs.Prelude.{◌≡◌, ℕ, ℤ, if◌then◌else◌, codes, List, [], ◌∷◌, ◌++◌, length, Option, Some, None}
-use Rattle.std.specs.Fmt.{decimal}
-use Rattle.std.specs.List.{flat_map}
+-- The text that `show` prints.
+use Rattle.std.specs.Prelude.{◌≡◌, ℕ, ℤ, if◌then◌else◌, codes, List, [], ◌∷◌, ◌++◌, Option, Some, None}
 use Rattle.zic_base.specs.Digits.{offset_text}
 use Rattle.zic_base.specs.State.{Shown}
 use Rattle.zic_tzif.specs.Content.{Content}
 use Rattle.zic_tzif.specs.Answer.{Answers}
 use Rattle.zic_tzif.specs.Reading.{IsFile}
-use Rattle.zic_bulk.specs.Build.{AreFilesOfTexts}
-use Rattle.zic_files.specs.File.{File}
-
--- a file's name, its number of bytes and its footer, between spaces, and a newline
-abbrev pub check_line : File → List ℕ
-check_line file =
-    file.name ++ 32 ∷ (decimal
-    (length file.image.octets) ++ 32 ∷ (file.image.content.text ++ 10 ∷ []))
-
--- the lines for the files of texts
-pub record IsListing (texts : List (List ℕ)) (lines : List ℕ) : Type 0 where
-  pub files : List File
-  pub are_files : AreFilesOfTexts texts files
-  pub are_lines : lines ≡ flat_map check_line files
 
 -- a state's offset, flag and abbreviation between spaces, and a newline
 abbrev pub state_line : Shown → List ℕ

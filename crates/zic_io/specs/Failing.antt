@@ -3,7 +3,7 @@ use Rattle.std.specs.Prelude.{◌≡◌, ◌≢◌, ◌==◌, ◌⊎◌, ℕ, Li
 use Rattle.zic_base.specs.declared.fault.Fault.{Fault}
 use Rattle.zic_base.specs.declared.run_stop.RunStop.{RunStop}
 use Rattle.zic_base.specs.declared.run_stop.RunStop.TheVariants as stops
-use Rattle.zic_io.specs.declared.sources.TheConstants.{STANDARD_INPUT}
+use Rattle.zic_base.specs.declared.word.TheConstants.{STANDARD_INPUT}
 use Rattle.zic_counted.specs.Counts.{Counts, HasFailedSince, HasTakenAbove}
 use Rattle.zic_counted.specs.Written.{FailsWithin}
 use Rattle.zic_tzif.specs.declared.reason.ReadStop.{ReadStop}

@@ -20,6 +20,6 @@ pub use input::{MAX_SOURCE, read_file_bytes, read_source_text};
 pub use link_kind::{LinkKind, LinkedFolder};
 pub use output::write_output;
 pub use progress::{Progress, Told};
-pub use sources::{STANDARD_INPUT, read_file, read_sources};
+pub use sources::{read_file, read_sources};
 pub use tree::{Disk, Tree, Unplaced};
 pub use zone_folder::ZoneFolder;

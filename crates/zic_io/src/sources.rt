@@ -6,17 +6,15 @@ ghost use Rattle.zic_io.specs.Failing.{IsFailureOfPath, IsFailureOfSources};
 ghost use Rattle.zic_io.specs.code.Word.{IsFailureOfWord};
 ghost use Rattle.zic_io.specs.Sources.{known_of, AreTextsOf};
 ghost use Rattle.zic_io.specs.declared.input.TheConstants.{MAX_SOURCE};
-ghost use Rattle.zic_io.specs.declared.sources.TheConstants.{STANDARD_INPUT};
+ghost use Rattle.zic_base.specs.declared.word.TheConstants.{STANDARD_INPUT};
 
 use crate::failure::{Failure, cannot_read};
 use crate::input::{read_file_bytes, read_source_text};
 use std::alloc::{AllocError, Global};
 use std::fs::{File, Files as FileSystem};
 use std::io::Read;
+use zic_base::STANDARD_INPUT;
 use zic_counted::Counted;
-
-/// The word for standard input.
-pub const STANDARD_INPUT: &str = "-";
 
 /// Returns the texts that the words name, which are read from left to right: `-` is standard
 /// input, and any other word a path. Standard input is read only where a word is `-`. Each file is

@@ -3,7 +3,7 @@ use Rattle.std.proofs.lemmas.Result.{err_from_is_err_and, on_ok_weaker}
 use Rattle.zic_counted.specs.Written.{Writes}
 use Rattle.zic_dump.specs.Text.{IsDump}
 use Rattle.zic_commands.specs.Failing.{IsFailureOfFile}
-use Rattle.zic_commands.proofs.OutputLemmas.{unwritten}
+use Rattle.zic_io.proofs.OutputLemmas.{unwritten}
 use Rattle.zic_commands.proofs.ReadingLemmas.{read_stop}
 use Rattle.zic_commands.proofs.dump_command.dump.Goals as goal
 

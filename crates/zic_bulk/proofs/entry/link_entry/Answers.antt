@@ -1,5 +1,0 @@
-use Rattle.std.proofs.Common.{rules}
-use Rattle.zic_bulk.proofs.entry.link_entry.Goals as goal
-
-pub returns : goal.returns
-returns c = search rules

@@ -1,5 +1,0 @@
-use Rattle.zic_bulk.proofs.zone_images.OneFault.{one_fault}
-use Rattle.zic_bulk.proofs.laws.a_zone_has_one_fault.Goals as goal
-
-pub returns : goal.returns
-returns c = one_fault

@@ -1,5 +1,0 @@
-use Rattle.zic_bulk.proofs.zone_images.OneImage.{one_image}
-use Rattle.zic_bulk.proofs.laws.a_zone_has_one_image.Goals as goal
-
-pub returns : goal.returns
-returns c = one_image

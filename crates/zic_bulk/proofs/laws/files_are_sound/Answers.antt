@@ -1,5 +1,0 @@
-use Rattle.zic_bulk.proofs.SoundFiles.{files_are_sound}
-use Rattle.zic_bulk.proofs.laws.files_are_sound.Goals as goal
-
-pub returns : goal.returns
-returns c = files_are_sound

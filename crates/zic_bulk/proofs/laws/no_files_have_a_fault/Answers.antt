@@ -1,5 +1,0 @@
-use Rattle.zic_bulk.proofs.OneFiles.{no_fault_of_texts}
-use Rattle.zic_bulk.proofs.laws.no_files_have_a_fault.Goals as goal
-
-pub returns : goal.returns
-returns c = no_fault_of_texts

@@ -1,0 +1,12 @@
+pub mod code
+pub mod Image
+pub mod Files
+pub mod Build
+pub mod Laws
+pub use Rattle.zic_source.specs.Source
+pub use Rattle.zic_source.specs.Grammar
+pub use Rattle.zic_source.specs.FirstFault
+pub use Rattle.zic_files.specs.File
+pub use Rattle.zic_files.specs.Sound
+pub use Rattle.zic_plan.specs.Plan
+pub use Rattle.zic_base.specs.RunStop

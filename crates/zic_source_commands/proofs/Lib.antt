@@ -1,0 +1,4 @@
+pub mod LinkLemmas
+pub mod ListingLemmas
+pub mod NameLemmas
+pub mod TreeLemmas

@@ -1,0 +1,10 @@
+use Rattle.std.proofs.Common.{◌≢◌, ◌<◌, [], map, take}
+use Rattle.zic_io.specs.Tree.{Gains}
+use Rattle.zic_source_commands.specs.Tree.{in_folder}
+use Rattle.zic_source_commands.proofs.build_command.place_files.Given as goal
+
+abbrev pub invariant-loop-file : goal.invariant-loop-file
+invariant-loop-file g l = record {
+  gained : Gains (g.D.Tree.placed l.fn.tree) (g.D.Tree.placed l.tree) (map (in_folder l.folder) (take l.file l.files));
+  named : 0 < l.file → l.folder ≢ [];
+}

@@ -1,0 +1,4 @@
+pub mod Text
+pub mod Tree
+pub mod Linking
+pub mod Failing
