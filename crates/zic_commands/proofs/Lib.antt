@@ -1,4 +1,1 @@
-pub mod ConvertingLemmas
-pub mod ReadingLemmas
-pub mod TreeZoneLemmas
-pub mod TreeRunLemmas
+pub mod SourceLemmas

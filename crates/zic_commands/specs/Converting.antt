@@ -1,126 +1,55 @@
--- The output of `convert`, and why it gives up.
-use Rattle.std.specs.Prelude.{◌≡◌, ◌⊎◌, ℕ, codes, List, [], ◌∷◌, ◌++◌, length, Option, IfSome}
-use Rattle.std.specs.Io.{StartsWith}
-use Rattle.std.specs.Io.KnownBytes.{Appends}
-use Rattle.zic_bulk.specs.Build.{AreFilesOfTexts}
-use Rattle.zic_files.specs.File.{File}
-use Rattle.zic_plan.specs.Plan.{Limits}
+-- The output of `convert` by texts, and why it gives up.
+use Rattle.std.specs.Prelude.{◌≡◌, ◌⊎◌, ℕ, List}
 use Rattle.zic_base.specs.declared.run_stop.RunStop.{RunStop}
-use Rattle.zic_convert.specs.Column.{ConvertsBodyTo}
-use Rattle.zic_convert.specs.Convert.{IsCauseOf, WritesAll, WritesAllOf, WritesAt, WritesAtOf}
-use Rattle.zic_counted.specs.Counts.{Counts, HasFailedSince}
+use Rattle.zic_base.specs.declared.run_stop.RunStop.TheVariants as stop
+use Rattle.zic_compile.specs.Build.{AreFilesOfTexts}
+use Rattle.zic_convert.specs.Convert.{IsCauseOf}
+use Rattle.zic_convert.specs.Run.{EndsAtNames, EndsBy, Run}
+use Rattle.zic_file_commands.specs.Converting.{Converts, HasZone, IsFailureOfZone, IsUntouched}
+use Rattle.zic_files.specs.File.{File}
 use Rattle.zic_io.specs.Failing.{run_failure}
-use Rattle.zic_commands.specs.Failing.{IsFailureOfTexts}
 use Rattle.zic_io.specs.declared.failure.Failure.{Failure}
 use Rattle.zic_io.specs.declared.failure.Failure.TheVariants as failures
+use Rattle.zic_plan.specs.Plan.{Limits}
+use Rattle.zic_plan.specs.declared.layout.Layout.{Layout}
+use Rattle.zic_source_commands.specs.Failing.{IsFailureOfTexts}
 
--- The reader and the writer of a conversion, before it and after it, the column that the reader
--- had left, and what the writer held and holds, where these are known.
-pub record Conversion (R W : Type 0) : Type 0 where
-  pub reader : Counts R
-  pub reader' : Counts R
-  pub writer : Counts W
-  pub writer' : Counts W
-  pub column : Option (List ℕ)
-  pub held : Option (List ℕ)
-  pub held' : Option (List ℕ)
-
-abbrev pub conversion : {R W : Type 0} → (R → Option (List ℕ)) → (W → Option (List ℕ))
-    → Counts R → Counts R → Counts W → Counts W → Conversion R W
-conversion remaining contents reader reader' writer writer' = record {
-  reader = reader;
-  reader' = reader';
-  writer = writer;
-  writer' = writer';
-  column = remaining reader.inner;
-  held = contents writer.inner;
-  held' = contents writer'.inner;
-}
-
--- The writer's bytes grew by the text of all rows of the column, made by the files of the
--- texts, and there are n.
-pub record ConvertsAll {R W : Type 0} (texts : List (List ℕ)) (plan : Limits) (n : ℕ)
-    (run : Conversion R W) : Type 0 where
+-- the texts have files, and all rows of the column are written by them
+pub record ConvertsBySource {R W : Type 0} (texts : List (List ℕ)) (layout : Layout) (most n : ℕ) (run : Run R W) : Type 0 where
   pub files : List File
   pub are_files : AreFilesOfTexts texts files
-  pub writes : IfSome run.column
-      (λ column. WritesAll files plan.max_rows column n run.held run.held')
+  pub converts : Converts layout most n run files
 
--- the texts have no files, nothing is read of the column, and nothing is written
-pub record IsFailureBefore {R W : Type 0} (texts : List (List ℕ)) (run : Conversion R W)
-    (failure : Failure) : Type 0 where
-  pub of_texts : IsFailureOfTexts texts failure
-  pub unread : run.reader' ≡ run.reader
-  pub unwritten : run.writer' ≡ run.writer
-
--- the texts have files, and the conversion of the column by them ends early
-pub record IsFailureOfColumn {R W : Type 0} (texts : List (List ℕ)) (plan : Limits)
-    (run : Conversion R W) (failure : Failure) : Type 0 where
-  pub files : List File
-  pub are_files : AreFilesOfTexts texts files
+-- the conversion of the column by these files ended early
+pub record IsFailureOfRowsBy {R W : Type 0} (plan : Limits) (layout : Layout) (run : Run R W) (files : List File) (failure : Failure) : Type 0 where
+  pub has_zone : HasZone files layout.zone
   pub stop : RunStop
-  pub is : failure ≡ run_failure stop (length texts)
+  pub is : failure ≡ run_failure stop 1
   pub cause : IsCauseOf plan.max_bytes run.reader run.reader' run.writer run.writer' stop
-  pub writes : IfSome run.column
-      (λ column. WritesAt files plan.max_rows column stop run.held run.held')
+  pub ends : EndsBy layout plan.max_rows stop run files
 
--- why texts don't convert a column: they have no files, or the conversion by them ends early
-abbrev pub IsFailureOfConvert : {R W : Type 0} → List (List ℕ) → Limits → Conversion R W → Failure
-    → Type 0
-IsFailureOfConvert texts plan run failure =
-    IsFailureBefore texts run failure ⊎ IsFailureOfColumn texts plan run failure
-
--- the line before the rows of a column that has a header: own choice
-abbrev pub header_line : List ℕ
-header_line = codes "zone,instant,local,offset,daylight,abbreviation" ++ 10 ∷ []
-
--- what the writer held grew by the whole header line, and then as `Writes` says
-pub record WritesBelowHeader (Writes : Option (List ℕ) → Option (List ℕ) → Type 0)
-    (held held' : Option (List ℕ)) : Type 0 where
-  pub begun : Option (List ℕ)
-  pub header : Appends held begun header_line
-  pub rows : Writes begun held'
-
--- What the writer holds grew by the header line and by the text of all rows of the column after its
--- first record, made by the files of the texts, and there are n rows.
-pub record ConvertsBody {R W : Type 0} (texts : List (List ℕ)) (plan : Limits) (n : ℕ)
-    (run : Conversion R W) : Type 0 where
-  pub files : List File
-  pub are_files : AreFilesOfTexts texts files
-  pub writes : WritesBelowHeader (λ begun held'. IfSome run.column
-      (λ column. WritesAllOf [] (ConvertsBodyTo files plan.max_rows column) n begun held'))
-      run.held run.held'
-
--- the texts have files, nothing is read of the column, and a beginning of the header line is
--- written, perhaps all of it
-pub record IsFailureOfHeader {R W : Type 0} (texts : List (List ℕ)) (run : Conversion R W)
-    (failure : Failure) : Type 0 where
-  pub files : List File
-  pub are_files : AreFilesOfTexts texts files
+-- the files have the zone for all rows, if there is to be one, and the line of names can't be written
+pub record IsFailureOfNamesBy {R W : Type 0} (layout : Layout) (run : Run R W) (files : List File) (failure : Failure) : Type 0 where
+  pub has_zone : HasZone files layout.zone
   pub is : failure ≡ failures.CannotWriteRows
-  pub unread : run.reader' ≡ run.reader
-  pub part : List ℕ
-  pub starts : StartsWith header_line part
-  pub wrote : Appends run.held run.held' part
-  pub failed : HasFailedSince run.writer' run.writer.failures
+  pub ends : EndsAtNames layout stop.WriteFailed run files files
 
--- the texts have files, and after the header line the conversion of the column after its first
--- record ends early
-pub record IsFailureOfBody {R W : Type 0} (texts : List (List ℕ)) (plan : Limits)
-    (run : Conversion R W) (failure : Failure) : Type 0 where
+-- why these files don't convert a column by a layout: memory ran out or they lack the zone for all rows, and nothing is touched, or the
+-- line of names can't be written, or the conversion ends early
+abbrev pub IsFailureByFiles : {R W : Type 0} → Limits → Layout → Run R W → List File → Failure → Type 0
+IsFailureByFiles plan layout run files failure =
+    (IsUntouched run × ((failure ≡ failures.Memory) ⊎ IsFailureOfZone files layout.zone failure))
+    ⊎ IsFailureOfNamesBy layout run files failure
+    ⊎ IsFailureOfRowsBy plan layout run files failure
+
+-- the texts have files, and these don't convert the column
+pub record IsFailureAfterTexts {R W : Type 0} (texts : List (List ℕ)) (plan : Limits) (layout : Layout) (run : Run R W) (failure : Failure) : Type 0 where
   pub files : List File
   pub are_files : AreFilesOfTexts texts files
-  pub stop : RunStop
-  pub is : failure ≡ run_failure stop (length texts)
-  pub cause : IsCauseOf plan.max_bytes run.reader run.reader' run.writer run.writer' stop
-  pub writes : WritesBelowHeader (λ begun held'. IfSome run.column
-      (λ column. WritesAtOf [] (ConvertsBodyTo files plan.max_rows column) stop begun held'))
-      run.held run.held'
+  pub by_files : IsFailureByFiles plan layout run files failure
 
--- why texts don't convert a column that has a header
-abbrev pub IsFailureOfConvertBody : {R W : Type 0} → List (List ℕ) → Limits → Conversion R W
-    → Failure → Type 0
-IsFailureOfConvertBody texts plan run failure =
-    IsFailureBefore texts run failure
-    ⊎ IsFailureOfHeader texts run failure
-    ⊎ IsFailureOfBody texts plan run failure
+-- why texts don't convert a column by a layout: they have no files, and nothing is touched, or their files don't convert it
+abbrev pub IsFailureOfConvertSource : {R W : Type 0} → List (List ℕ) → Limits → Layout → Run R W → Failure → Type 0
+IsFailureOfConvertSource texts plan layout run failure =
+    (IsUntouched run × IsFailureOfTexts texts failure)
+    ⊎ IsFailureAfterTexts texts plan layout run failure

@@ -1,6 +1,1 @@
-pub mod code
-pub mod Text
-pub mod Failing
 pub mod Converting
-pub mod ConvertingBy
-pub mod ConvertingTree

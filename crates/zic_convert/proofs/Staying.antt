@@ -50,7 +50,7 @@ one_named files name e =
     (file, has, (bytes_eq-Decides file.name name).0 passes)
 
 module _ (known files : List File) (still : (file : File) → Contains known file → Contains files file) where
-  named_same : (name : List ℕ) → IsKnownName known files name → is_named known name ≡ is_named files name
+  pub named_same : (name : List ℕ) → IsKnownName known files name → is_named known name ≡ is_named files name
   named_same name only = both_or_none (is_named known name) (is_named files name)
       (λ e. (let (file, has, is) = one_named known name e in named_by files name file (still file has) is))
       (λ e. (let (file, has, is) = one_named files name e in named_by known name file (only file has is) is))

@@ -2,7 +2,7 @@
 
 ghost use Rattle.std.specs.Prelude.{OnOk, IfErr};
 ghost use Rattle.zic_dump.specs.Text.{IsDump};
-ghost use Rattle.zic_commands.specs.Failing.{IsFailureOfTelling};
+ghost use Rattle.zic_file_commands.specs.Failing.{IsFailureOfTelling};
 ghost use Rattle.zic_io.specs.Output.{WritesOutput};
 
 use std::alloc::Global;

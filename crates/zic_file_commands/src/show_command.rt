@@ -5,9 +5,9 @@ ghost use Rattle.zic_base.specs.State.{shown};
 ghost use Rattle.zic_base.specs.declared.limit.TheConstants.{FARTHEST_FILE_OFFSET};
 ghost use Rattle.zic_dump.specs.Changes.{told};
 ghost use Rattle.zic_tzif.specs.Answer.{answered};
-ghost use Rattle.zic_commands.specs.Failing.{IsFailureOfFile, IsFailureOfTelling};
+ghost use Rattle.zic_file_commands.specs.Failing.{IsFailureOfFile, IsFailureOfTelling};
 ghost use Rattle.zic_io.specs.Output.{WritesOutput};
-ghost use Rattle.zic_commands.specs.Text.{answer_line, state_line, IsShowing};
+ghost use Rattle.zic_file_commands.specs.Text.{answer_line, state_line, IsShowing};
 
 use std::alloc::{AllocError, Global};
 use std::io::Write;

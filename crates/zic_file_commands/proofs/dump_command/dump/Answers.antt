@@ -2,10 +2,10 @@ use Rattle.std.proofs.Common.{◌≡◌, List, ℕ, inl, refl, subst}
 use Rattle.std.proofs.lemmas.Result.{err_from_is_err_and, on_ok_weaker}
 use Rattle.zic_counted.specs.Written.{Writes}
 use Rattle.zic_dump.specs.Text.{IsDump}
-use Rattle.zic_commands.specs.Failing.{IsFailureOfFile}
+use Rattle.zic_file_commands.specs.Failing.{IsFailureOfFile}
 use Rattle.zic_io.proofs.OutputLemmas.{unwritten}
-use Rattle.zic_commands.proofs.ReadingLemmas.{read_stop}
-use Rattle.zic_commands.proofs.dump_command.dump.Goals as goal
+use Rattle.zic_file_commands.proofs.ReadingLemmas.{read_stop}
+use Rattle.zic_file_commands.proofs.dump_command.dump.Goals as goal
 
 pub returns-in_err-text-clause-err : goal.returns-in_err-text-clause-err
 returns-in_err-text-clause-err g c =

@@ -3,8 +3,8 @@ use Rattle.std.proofs.lemmas.Int.{to_z-of_z}
 use Rattle.std.proofs.lemmas.Result.{err_from_is_err_and}
 use Rattle.zic_tzif.specs.Answer.{answered}
 use Rattle.zic_dump.proofs.OffsetLemmas.{have_offsets}
-use Rattle.zic_commands.proofs.ReadingLemmas.{read_stop}
-use Rattle.zic_commands.proofs.show_command.line_of.Goals as goal
+use Rattle.zic_file_commands.proofs.ReadingLemmas.{read_stop}
+use Rattle.zic_file_commands.proofs.show_command.line_of.Goals as goal
 
 pub answer_line-requires : goal.answer_line-requires
 answer_line-requires c = have_offsets c.args.bytes.now c.in_ok-zone.zone c.in_ok-zone.ensures.ok _ (answered c.at-answer.result) c.at-answer.ensures

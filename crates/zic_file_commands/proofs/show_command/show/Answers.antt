@@ -2,10 +2,10 @@ use Rattle.std.proofs.Common.{◌≡◌, List, ℕ, inl, refl, subst, FitsSigned
 use Rattle.std.proofs.lemmas.Int.{to_z-of_z}
 use Rattle.std.proofs.lemmas.Result.{err_from_is_err_and, on_ok_weaker}
 use Rattle.zic_counted.specs.Written.{Writes}
-use Rattle.zic_commands.specs.Failing.{IsFailureOfFile}
-use Rattle.zic_commands.specs.Text.{IsShowing}
+use Rattle.zic_file_commands.specs.Failing.{IsFailureOfFile}
+use Rattle.zic_file_commands.specs.Text.{IsShowing}
 use Rattle.zic_io.proofs.OutputLemmas.{unwritten}
-use Rattle.zic_commands.proofs.show_command.show.Goals as goal
+use Rattle.zic_file_commands.proofs.show_command.show.Goals as goal
 
 pub returns-in_err-line-clause-err : goal.returns-in_err-line-clause-err
 returns-in_err-line-clause-err g c =

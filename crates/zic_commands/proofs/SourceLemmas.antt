@@ -1,0 +1,48 @@
+-- A conversion by the zones of the files of a source.
+use Rattle.std.proofs.Common.{◌≡◌, ◌∙◌, ◌⊎◌, ℕ, List, Result, Ok, Err, inl, inr, refl, sym, subst}
+use Rattle.std.specs.Prelude.{IfOk, IfErr}
+use Rattle.zic_compile.specs.Build.{AreFilesOfTexts}
+use Rattle.zic_convert.specs.Run.{EndsAtNames, EndsBy, Run}
+use Rattle.zic_files.specs.File.{File}
+use Rattle.zic_files.specs.Sound.{AreSoundFiles}
+use Rattle.zic_io.specs.declared.failure.Failure.{Failure}
+use Rattle.zic_plan.specs.Plan.{Limits}
+use Rattle.zic_plan.specs.declared.layout.Layout.{Layout}
+use Rattle.zic_commands.specs.Converting.{ConvertsBySource, IsFailureAfterTexts, IsFailureByFiles}
+use Rattle.zic_file_commands.specs.Converting.{Converts, IsFailureOfConvert}
+
+-- the files of a source stay
+abbrev Stays : List File → List File → Type 0
+Stays old new = new ≡ old
+
+-- and rows may be made by no others
+abbrev Only : List File → List File → Type 0
+Only zones files = (files ≡ zones) × AreSoundFiles zones
+
+module _ (files : List File) (sound : AreSoundFiles files) where
+  only : (zones : List File) → zones ≡ files → Only zones files
+  only zones same = (sym same, subst AreSoundFiles (sym same) sound)
+
+  module _ {R W : Type 0} (plan : Limits) (layout : Layout) (run : Run R W) (zones zones' : List File) (are : zones ≡ files) where
+    pub by_files : (failure : Failure) → IsFailureOfConvert Stays Stays Only plan layout run zones zones' failure → IsFailureByFiles plan layout run files failure
+    by_files failure (inl (untouched, inl memory)) = inl (untouched, inl memory.0)
+    by_files failure (inl (untouched, inr none)) = inl (untouched, inr (none.1 files (only zones' (none.0 ∙ are))))
+    by_files failure (inr (inl names)) = inr (inl (record {
+      has_zone = names.has_zone files (only zones' (names.grown ∙ are));
+      is = names.is;
+      ends = record { is = refl; unread = names.ends.unread; unasked = refl; unnoted = names.ends.unnoted; part = names.ends.part; starts = names.ends.starts; wrote = names.ends.wrote };
+    }))
+    by_files failure (inr (inr rows)) =
+        let by = rows.ends.by files (only rows.ends.then (rows.ends.grown ∙ are)) in
+        inr (inr (record { has_zone = by.0; stop = rows.stop; is = rows.is; cause = rows.cause; ends = by.1 }))
+
+    pub all_by_source : (texts : List (List ℕ)) → AreFilesOfTexts texts files → (result : Result ℕ Failure) → IfOk result (λ _. Stays zones zones')
+        → ((fs : List File) → Only zones' fs → IfOk result (λ n. Converts layout plan.max_rows n run fs)) → IfOk result (λ n. ConvertsBySource texts layout plan.max_rows n run)
+    all_by_source texts of (Ok n) stays all = record { files = files; are_files = of; converts = all files (only zones' (stays ∙ are)) }
+    all_by_source texts of (Err e) stays all = tt
+
+    pub fails_after_texts : (texts : List (List ℕ)) → AreFilesOfTexts texts files → (result : Result ℕ Failure)
+        → IfErr result (IsFailureOfConvert Stays Stays Only plan layout run zones zones')
+        → IfErr result (λ failure. (IsFailureAfterTexts texts plan layout run failure))
+    fails_after_texts texts of (Ok n) fails = tt
+    fails_after_texts texts of (Err e) fails = record { files = files; are_files = of; by_files = by_files e fails }

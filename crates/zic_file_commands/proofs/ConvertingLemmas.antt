@@ -1,0 +1,38 @@
+-- A conversion by zones, after they were asked for the one that all rows are to be in.
+use Rattle.std.proofs.Common.{◌≡◌, ◌∙◌, ℕ, List, ap, refl, sym, subst}
+use Rattle.zic_base.specs.declared.run_stop.RunStop.{RunStop}
+use Rattle.zic_convert.specs.Convert.{IsCauseOf}
+use Rattle.zic_convert.specs.Run.{EndsAtNames, EndsBy, EndsByZones, Run}
+use Rattle.zic_files.specs.File.{File}
+use Rattle.zic_io.specs.Failing.{run_failure}
+use Rattle.zic_io.specs.declared.failure.Failure.{Failure}
+use Rattle.zic_plan.specs.Plan.{Limits}
+use Rattle.zic_plan.specs.declared.layout.Layout.{Layout}
+use Rattle.zic_file_commands.specs.Converting.{HasZone, IsFailureOfNames, IsFailureOfRows}
+
+module _ {Z : Type 0} (grown broken : Z → Z → Type 0) (may_be : Z → List File → Type 0) (joins : (a b c : Z) → grown a b → grown b c → grown a c)
+    (narrows : (a b : Z) (files : List File) → grown a b → may_be b files → may_be a files) (zones mid new : Z) (grew : grown zones mid) (layout : Layout)
+    (has : (files : List File) → may_be mid files → HasZone files layout.zone) {R W : Type 0} (run : Run R W) (why : RunStop) (failure : Failure) (is : failure ≡ run_failure why 1) where
+  -- the line of names can't be written
+  pub names_fail : EndsAtNames layout why run mid new → IsFailureOfNames grown may_be layout run zones new failure
+  names_fail names = record {
+    is = is ∙ ap (λ (stop : RunStop). run_failure stop 1) names.is;
+    grown = subst (grown zones) (sym names.unasked) grew;
+    has_zone = λ files may. has files (subst (λ (z : Z). may_be z files) names.unasked may);
+    ends = record { is = refl; unread = names.unread; unasked = refl; unnoted = names.unnoted; part = names.part; starts = names.starts; wrote = names.wrote };
+  }
+
+  -- the conversion ends early
+  pub rows_fail : (plan : Limits) → IsCauseOf plan.max_bytes run.reader run.reader' run.writer run.writer' why
+      → EndsByZones grown broken may_be mid new why (EndsBy layout plan.max_rows why run) → IsFailureOfRows grown broken may_be plan layout run zones new failure
+  rows_fail plan cause rows = record {
+    stop = why;
+    is = is;
+    cause = cause;
+    ends = record {
+      then = rows.then;
+      grown = joins zones mid rows.then grew rows.grown;
+      ends = rows.ends;
+      by = λ files may. (has files (narrows mid rows.then files rows.grown may), rows.by files may);
+    };
+  }

@@ -1,0 +1,34 @@
+use Rattle.std.proofs.Common.{inl, inr, refl, rules}
+use Rattle.std.proofs.lemmas.Result.{err_from_is_err_and}
+use Rattle.zic_convert.specs.Run.{run_of}
+use Rattle.zic_file_commands.proofs.ConvertingLemmas.{names_fail, rows_fail}
+use Rattle.zic_file_commands.proofs.convert_command.convert.Goals as goal
+
+pub returns-in_err-find_zone-clause-err : goal.returns-in_err-find_zone-clause-err
+returns-in_err-find_zone-clause-err g c =
+    let p = err_from_is_err_and c.from_residual.result c.from_residual.ensures.1 in
+    rw (p.1, p.2) (inl (record { unread = refl; unwritten = refl; unnoted = refl }, c.in_err-find_zone.ensures.err))
+
+pub returns-in-Ok-clause-grown : goal.returns-in-Ok-clause-grown
+returns-in-Ok-clause-grown g c = g.met.Z.Zones.then c.args.zones.now c.find_zone.new.zones c.convert_column.new.zones c.in_ok-find_zone.ensures.grown c.in-Ok.ensures.grown
+
+pub returns-in-Ok-clause-ok : goal.returns-in-Ok-clause-ok
+returns-in-Ok-clause-ok g c = λ files may. record {
+  has_zone = c.in_ok-find_zone.ensures.ok files (g.met.Z.Zones.narrows c.find_zone.new.zones c.convert_column.new.zones files c.in-Ok.ensures.grown may);
+  rows = c.in-Ok.ensures.ok files may;
+}
+
+pub returns-in-Err-clause-err : goal.returns-in-Err-clause-err
+returns-in-Err-clause-err g c =
+    let layout = c.args.conversion.now.layout.now in
+    let zones = c.args.zones.now in
+    let mid = c.find_zone.new.zones in
+    let new = c.convert_column.new.zones in
+    let run = run_of g.R.Read.remaining g.W.Write.contents g.L.FaultLog.noted c.args.reader.now c.convert_column.new.reader c.args.writer.now c.convert_column.new.writer c.args.log.now
+        c.convert_column.new.log in
+    elim c.in-Err.ensures.err [
+      | inl names ↦ inr (inl (names_fail g.Z.Zones.grown g.Z.Zones.broken g.Z.Zones.may_be g.met.Z.Zones.then g.met.Z.Zones.narrows zones mid new c.in_ok-find_zone.ensures.grown layout
+      c.in_ok-find_zone.ensures.ok run c.in-Err.stop c.run_failure.result c.run_failure.ensures names))
+      | inr rows ↦ inr (inr (rows_fail g.Z.Zones.grown g.Z.Zones.broken g.Z.Zones.may_be g.met.Z.Zones.then g.met.Z.Zones.narrows zones mid new c.in_ok-find_zone.ensures.grown layout
+      c.in_ok-find_zone.ensures.ok run c.in-Err.stop c.run_failure.result c.run_failure.ensures c.args.conversion.now.plan.now c.in-Err.ensures.cause rows))
+    ]

@@ -1,0 +1,43 @@
+use Rattle.std.proofs.Common.{◌≡◌, ◌∙◌, ◌⊎◌, ℕ, List, inl, inr, refl, true, false, sym, subst}
+use Rattle.std.proofs.lemmas.Result.{err_from_is_err_and}
+use Rattle.zic_zones.specs.Zones.{is_named}
+use Rattle.zic_io.specs.Failing.{IsUnknownZone}
+use Rattle.zic_io.specs.declared.failure.Failure.TheVariants as failures
+use Rattle.zic_file_commands.proofs.ZoneLemmas.{still_named, still_unnamed}
+use Rattle.zic_file_commands.proofs.convert_command.find_zone.Goals as goal
+
+pub returns-in_default-clause-grown : goal.returns-in_default-clause-grown
+returns-in_default-clause-grown g c = g.met.Z.Zones.same c.args.zones.now
+
+pub returns-in_default-clause-ok : goal.returns-in_default-clause-ok
+returns-in_default-clause-ok g c = λ files may. rw c.in_default.is tt
+
+pub returns-in-Some-clause-ok : goal.returns-in-Some-clause-ok
+returns-in-Some-clause-ok g c = λ files may.
+    let zones = c.learn.new.self in
+    let name = c.as_bytes-bytes.result.now in
+    let settled = c.in_ok-learn.ensures.settled in
+    let found = sym (rw c.ready.ensures at c.find.ensures) ∙ c.in-Some.is in
+    let named = still_named (g.Z.Zones.settled zones) (g.Z.Zones.known zones) files (g.met.Z.Zones.agrees zones files may) name settled c.in-Some.field-0 found in
+    rw c.in-Name.is (subst (λ (n : List ℕ). is_named files n ≡ true) c.as_bytes-bytes.ensures.value named)
+
+pub returns-in_err-learn-clause-err : goal.returns-in_err-learn-clause-err
+returns-in_err-learn-clause-err g c =
+    let p = err_from_is_err_and c.from_residual.result c.from_residual.ensures.1 in
+    rw (p.1, p.2) (inl (refl, c.in_err-learn.ensures.broken))
+
+pub returns-in-None-clause-err : goal.returns-in-None-clause-err
+returns-in-None-clause-err g c =
+    let zones = c.learn.new.self in
+    let name = c.as_bytes-bytes.result.now in
+    let failure = c.unknown_zone.result in
+    let settled = c.in_ok-learn.ensures.settled in
+    let missing = sym (rw c.ready.ensures at c.find.ensures) ∙ c.in-None.is in
+    rw c.in-Name.is (inr (
+      c.in_ok-learn.ensures.grown,
+      λ files may. (
+        subst (λ (n : List ℕ). is_named files n ≡ false) c.as_bytes-bytes.ensures.value
+            (still_unnamed (g.Z.Zones.settled zones) (g.Z.Zones.known zones) files (g.met.Z.Zones.agrees zones files may) name settled missing),
+        subst (λ (n : List ℕ). (failure ≡ failures.Memory) ⊎ IsUnknownZone n failure) c.as_str.ensures.value c.unknown_zone.ensures,
+      ),
+    ))

@@ -1,0 +1,82 @@
+//! `convert`: converts a column by zones.
+
+ghost use Rattle.std.specs.Prelude.{◌≤◌, ◌+◌, ◌≡◌, List, IfOk, IfErr, OnOk};
+ghost use Rattle.zic_convert.specs.Run.{run_of};
+ghost use Rattle.zic_counted.specs.Counts.{HasFailedSince};
+ghost use Rattle.zic_file_commands.specs.Converting.{Converts, HasZone};
+ghost use Rattle.zic_file_commands.specs.Converting.{IsFailureOfConvert, IsFailureOfZones};
+ghost use Rattle.zic_files.specs.File.{File};
+
+use std::alloc::Global;
+use std::io::{Read, Write};
+use std::sync::Wait;
+use std::thread::Threads;
+use zic_base::FaultLog;
+use zic_convert::{Conversion, convert_column};
+use zic_counted::Counted;
+use zic_io::{Failure, run_failure, unknown_zone};
+use zic_pieces::Gate;
+use zic_plan::ZoneFrom;
+use zic_zones::Zones;
+
+/// Converts a column by a layout and zones. Before anything else, the zones are asked for the one that
+/// all rows are to be in, if there is one. Returns the number of rows, without the header.
+///
+/// # Errors
+///
+/// - `UnknownZone` where all rows are to be in a zone that there is none of. Nothing is read of the
+///   column then, and nothing is written.
+/// - `CannotWriteRows` before the column is read where the line of names can't be written.
+/// - The first fault of a row that ends the run, a column that can't be read or is too long, rows that
+///   can't be written, or want of memory. All rows before one that has a fault are written.
+pub fn convert<T: Threads + Wait + Sync, G: Gate + Sync, Z: Zones, R: Read, W: Write, L: FaultLog>(
+    conversion: &Conversion<'_, T, G>,
+    zones: &mut Z,
+    reader: &mut Counted<R>,
+    writer: &mut Counted<W>,
+    log: &mut L,
+) -> Result<u64, Failure>
+    ensures grown { IfOk result (λ _. Z.grown zones.old zones.new) }
+    ensures ok { (files : List File) → Z.may_be zones.new files → IfOk result (λ rows.
+        Converts conversion.now.layout.now conversion.now.plan.now.max_rows rows
+        (run_of R.remaining W.contents L.noted reader.old reader.new writer.old writer.new
+        log.old log.new) files) }
+    ensures within { IfOk result
+        (λ _. reader.new.taken ≤ reader.old.taken + conversion.now.plan.now.max_bytes) }
+    ensures unfailed { IfOk result (λ _. HasFailedSince reader.new reader.old.failures → ⊥) }
+    ensures flushed { IfOk result (λ _. writer.new.failures ≡ writer.old.failures) }
+    ensures err { IfErr result (IsFailureOfConvert Z.grown Z.broken Z.may_be
+        conversion.now.plan.now conversion.now.layout.now
+        (run_of R.remaining W.contents L.noted reader.old reader.new writer.old writer.new
+        log.old log.new) zones.old zones.new) }
+{
+    find_zone(conversion.alloc, zones, &conversion.layout.zone)?;
+    match convert_column(conversion, zones, reader, writer, log) {
+        Ok(rows) => Ok(rows),
+        // Only a fault of a source would need the number of its texts.
+        Err(stop) => Err(run_failure(stop, 1)),
+    }
+}
+
+/// Tells whether there is the zone that all rows are to be in, if they are to be in one.
+///
+/// # Errors
+///
+/// `UnknownZone` where there is none, or memory ran out.
+fn find_zone<Z: Zones>(alloc: Global, zones: &mut Z, zone: &ZoneFrom) -> Result<(), Failure>
+    ensures grown { OnOk result (Z.grown zones.old zones.new) }
+    ensures ok { (files : List File) → Z.may_be zones.new files
+        → OnOk result (HasZone files zone.now) }
+    ensures err { IfErr result
+        (IsFailureOfZones Z.grown Z.broken Z.may_be zones.old zones.new zone.now) }
+{
+    let ZoneFrom::Name(name) = zone else {
+        return Ok(());
+    };
+    let bytes = name.as_bytes();
+    zones.learn(alloc, bytes)?;
+    match zones.ready().find(bytes) {
+        Some(_) => Ok(()),
+        None => Err(unknown_zone(alloc, name.as_str())),
+    }
+}
