@@ -20,12 +20,11 @@ use std::thread::Threads;
 use std::time::Clock;
 use zic_base::FaultLog;
 use zic_command_line::{Conversion, Links, Request, Zones};
-use zic_commands::{
-    ColumnJob, ColumnSetting, Disk, Failure, LinkKind, LinkedFolder, Progress, Told,
-};
+use zic_commands::{Disk, Failure, LinkKind, LinkedFolder, Progress, Told, TreeZones};
 use zic_counted::{Counted, flush, write_all};
 use zic_dump::Years;
 use zic_io::{FaultList, ZoneFolder};
+use zic_pieces::Open;
 use zic_plan::{Header, Plan};
 
 fn main(rt: HostRuntime) -> ExitCode {
@@ -150,7 +149,7 @@ fn tell<R: Print>(rt: &R, text: &str) -> Result<(), Failure> {
     Ok(())
 }
 
-/// Returns where the rows are told of, if that is asked for.
+/// Returns where to report progress, if requested.
 fn told<E: IsTerminal + Drop>(progress: bool, errors: E) -> Told<E> {
     if !progress {
         Told::Never
@@ -258,44 +257,21 @@ fn convert_column<R: Files + AllocGlobal + Threads + Wait + Sync, I: Read, W: Wr
     output: &mut Counted<W>,
     faults: &mut L,
 ) -> Result<u64, Failure> {
-    let (plan, layout) = (&order.plan, &order.layout);
+    let conversion = zic_commands::Conversion {
+        rt,
+        alloc: rt.alloc(),
+        plan: &order.plan,
+        layout: &order.layout,
+        gate: &Open,
+    };
     match &order.zones {
         Zones::Source(_) => {
-            let job = ColumnJob {
-                texts,
-                plan,
-                layout,
-            };
-            convert_by_source(rt, &job, input, output, faults)
+            zic_commands::convert_source(&conversion, texts, input, output, faults)
         }
         Zones::Tree(folder) => {
-            let setting = ColumnSetting {
-                rt,
-                alloc: rt.alloc(),
-                plan,
-                layout,
-            };
-            let mut tree = ZoneFolder::new(rt, folder.as_str());
-            zic_commands::convert_tree(&setting, &mut tree, input, output, faults)
+            let folder = ZoneFolder::new(rt, folder.as_str());
+            let mut zones = TreeZones::new(rt.alloc(), folder);
+            zic_commands::convert(&conversion, &mut zones, input, output, faults)
         }
-    }
-}
-
-/// Converts a column by the files of the texts. Returns the number of rows.
-fn convert_by_source<R: AllocGlobal + Threads + Wait + Sync, I: Read, W: Write, L: FaultLog>(
-    rt: &R,
-    job: &ColumnJob<'_>,
-    input: &mut Counted<I>,
-    output: &mut Counted<W>,
-    faults: &mut L,
-) -> Result<u64, Failure> {
-    let alloc = rt.alloc();
-    if !job.layout.has_plain_rows() {
-        return zic_commands::convert_by(rt, alloc, job, input, output, faults);
-    }
-    let (plan, texts) = (job.plan, job.texts);
-    match job.layout.header {
-        Header::Absent => zic_commands::convert(rt, alloc, plan, texts, input, output),
-        Header::First => zic_commands::convert_with_header(rt, alloc, plan, texts, input, output),
     }
 }

@@ -10,8 +10,11 @@ use std::slice;
 use std::sync::Wait;
 use std::thread::Threads;
 use std::time::{Clock, Duration};
+use zic_base::Unnoted;
 use zic_commands::*;
 use zic_counted::Counted;
+use zic_pieces::Open;
+use zic_plan::{Header, Layout};
 
 const UTC: &[u8] = b"Zone Etc/UTC 0 - UTC";
 
@@ -19,26 +22,28 @@ const UTC: &[u8] = b"Zone Etc/UTC 0 - UTC";
 fn converted<T: Threads + Wait + Sync + Abort>(
     rt: &T,
     alloc: Global,
-    (source, header): (&[u8], bool),
+    (source, header): (&[u8], Header),
     column: &[u8],
     writer: &mut Counted<Sink>,
 ) -> Result<u64, Failure> {
     let source = must(rt, Vec::from_slice(alloc, source));
-    let texts = slice::from_ref(&source);
-    let plan = plan(rt, 2);
+    let conversion = Conversion {
+        rt,
+        alloc,
+        plan: &plan(rt, 2),
+        layout: &Layout::plain(header),
+        gate: &Open,
+    };
     let mut column = Counted::new(column);
-    if header {
-        convert_with_header(rt, alloc, &plan, texts, &mut column, writer)
-    } else {
-        convert(rt, alloc, &plan, texts, &mut column, writer)
-    }
+    let texts = slice::from_ref(&source);
+    convert_source(&conversion, texts, &mut column, writer, &mut Unnoted)
 }
 
 /// Columns, the way in which a writer fails, and whether there is a header.
-static UNWRITTEN: [(&[u8], Defect, bool); 3] = [
-    (b"Etc/UTC,0", Defect::Full(0), false),
-    (b"", Defect::Unflushed, false),
-    (b"", Defect::Unflushed, true),
+static UNWRITTEN: [(&[u8], Defect, Header); 3] = [
+    (b"Etc/UTC,0", Defect::Full(0), Header::Absent),
+    (b"", Defect::Unflushed, Header::Absent),
+    (b"", Defect::Unflushed, Header::First),
 ];
 
 #[test]
