@@ -27,8 +27,8 @@ use zic_zones::Zones;
 /// - `UnknownZone` where all rows are to be in a zone that there is none of. Nothing is read of the
 ///   column then, and nothing is written.
 /// - `CannotWriteRows` before the column is read where the line of names can't be written.
-/// - The first fault of a row that ends the run, a column that can't be read or is too long, rows that
-///   can't be written, or want of memory. All rows before one that has a fault are written.
+/// - The first fault of a row that ends the run; a column that can't be read or is too long; rows that
+///   can't be written; or memory ran out. All rows before one that has a fault are written.
 pub fn convert<T: Threads + Wait + Sync, G: Gate + Sync, Z: Zones, R: Read, W: Write, L: FaultLog>(
     conversion: &Conversion<'_, T, G>,
     zones: &mut Z,

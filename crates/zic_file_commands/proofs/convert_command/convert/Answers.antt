@@ -25,10 +25,10 @@ returns-in-Err-clause-err g c =
     let mid = c.find_zone.new.zones in
     let new = c.convert_column.new.zones in
     let run = run_of g.R.Read.remaining g.W.Write.contents g.L.FaultLog.noted c.args.reader.now c.convert_column.new.reader c.args.writer.now c.convert_column.new.writer c.args.log.now
-        c.convert_column.new.log in
+    c.convert_column.new.log in
     elim c.in-Err.ensures.err [
       | inl names ↦ inr (inl (names_fail g.Z.Zones.grown g.Z.Zones.broken g.Z.Zones.may_be g.met.Z.Zones.then g.met.Z.Zones.narrows zones mid new c.in_ok-find_zone.ensures.grown layout
-      c.in_ok-find_zone.ensures.ok run c.in-Err.stop c.run_failure.result c.run_failure.ensures names))
+          c.in_ok-find_zone.ensures.ok run c.in-Err.stop c.run_failure.result c.run_failure.ensures names))
       | inr rows ↦ inr (inr (rows_fail g.Z.Zones.grown g.Z.Zones.broken g.Z.Zones.may_be g.met.Z.Zones.then g.met.Z.Zones.narrows zones mid new c.in_ok-find_zone.ensures.grown layout
-      c.in_ok-find_zone.ensures.ok run c.in-Err.stop c.run_failure.result c.run_failure.ensures c.args.conversion.now.plan.now c.in-Err.ensures.cause rows))
+          c.in_ok-find_zone.ensures.ok run c.in-Err.stop c.run_failure.result c.run_failure.ensures c.args.conversion.now.plan.now c.in-Err.ensures.cause rows))
     ]
