@@ -31,6 +31,7 @@ module _ (files : List File) (sound : AreSoundFiles files) where
       has_zone = names.has_zone files (only zones' (names.grown ∙ are));
       is = names.is;
       ends = record { is = refl; unread = names.ends.unread; unasked = refl; unnoted = names.ends.unnoted; part = names.ends.part; starts = names.ends.starts; wrote = names.ends.wrote };
+      failed = names.failed;
     }))
     by_files failure (inr (inr rows)) =
         let by = rows.ends.by files (only rows.ends.then (rows.ends.grown ∙ are)) in

@@ -4,6 +4,7 @@ use Rattle.zic_base.specs.declared.run_stop.RunStop.{RunStop}
 use Rattle.zic_base.specs.declared.run_stop.RunStop.TheVariants as stop
 use Rattle.zic_convert.specs.Convert.{IsCauseOf}
 use Rattle.zic_convert.specs.Run.{ConvertsAllBy, EndsAtNames, EndsBy, EndsByZones, Run}
+use Rattle.zic_counted.specs.Counts.{HasFailedSince}
 use Rattle.zic_files.specs.File.{File}
 use Rattle.zic_io.specs.Failing.{IsUnknownZone, run_failure}
 use Rattle.zic_io.specs.declared.failure.Failure.{Failure}
@@ -44,13 +45,14 @@ IsFailureOfZones Grows Breaks MayBe old new from failure =
     ((failure ≡ failures.Memory) × Breaks old new)
     ⊎ (Grows old new × ((files : List File) → MayBe new files → IsFailureOfZone files from failure))
 
--- the zones have one for all rows, if there is to be one, and the line of names can't be written
+-- the zones have one for all rows, if there is to be one, and the writer failed at the line of names
 pub record IsFailureOfNames {R W Z : Type 0} (Grows : Z → Z → Type 0) (MayBe : Z → List File → Type 0) (layout : Layout) (run : Run R W) (old new : Z)
     (failure : Failure) : Type 0 where
   pub is : failure ≡ failures.CannotWriteRows
   pub grown : Grows old new
   pub has_zone : (files : List File) → MayBe new files → HasZone files layout.zone
   pub ends : EndsAtNames layout stop.WriteFailed run new new
+  pub failed : HasFailedSince run.writer' run.writer.failures
 
 -- The conversion of the column ended early. It never ends for a fault of a source, so it doesn't matter how many texts are told.
 pub record IsFailureOfRows {R W Z : Type 0} (Grows Breaks : Z → Z → Type 0) (MayBe : Z → List File → Type 0) (plan : Limits) (layout : Layout) (run : Run R W)
