@@ -37,8 +37,8 @@ const fn masks() -> [[u64; 4]; KEY_SIZE] {
 }
 
 impl Key {
-    /// Returns the key of a name at the start of a block. There is no such name with the length 32 or
-    /// more, but it takes no branch to return something.
+    /// Returns the key of a name at the start of a block. With a length of 32 or more it is a key that
+    /// no name has, so no branch is needed.
     #[inline(always)]
     pub fn new(block: &[u8; KEY_SIZE], len: u8) -> Key {
         let mask = &MASKS[usize::from(len) % KEY_SIZE];
@@ -49,11 +49,12 @@ impl Key {
 
     /// Returns the key of a name, if it has one.
     pub fn of(name: &[u8]) -> Option<Key> {
+        if name.len() >= KEY_SIZE {
+            return None;
+        }
         let mut block = [0; KEY_SIZE];
-        (name.len() < KEY_SIZE).then(|| {
-            block[..name.len()].copy_from_slice(name);
-            Key::new(&block, name.len() as u8)
-        })
+        block[..name.len()].copy_from_slice(name);
+        Some(Key::new(&block, name.len() as u8))
     }
 
     #[inline(always)]
@@ -83,7 +84,7 @@ pub struct Names {
     words: Box<[[u64; 4]; PLACES]>,
     lens: [u8; PLACES],
     zones: [u16; PLACES],
-    /// Names that are too long for a key, or for which there was no shift.
+    /// Names that are too long for a key.
     others: QuickMap<Vec<u8>, u16>,
     /// Stands for names that aren't found.
     nothing: u16,
@@ -106,7 +107,9 @@ impl Names {
         for (name, zone) in names {
             match Key::of(&name) {
                 Some(key) => buckets[key.bucket()].push((key, zone)),
-                None => drop(made.others.insert(name, zone)),
+                None => {
+                    made.others.insert(name, zone);
+                }
             }
         }
         // The largest first, while there are many free places.

@@ -4,6 +4,7 @@ use crate::calendar::Calendar;
 use crate::local_time_types::{TypeNumber, UNKNOWN};
 use crate::quick_hash::QuickMap;
 use crate::zone::{Transition, Zone};
+use std::ops::RangeInclusive;
 
 /// The binary logarithm of the seconds of a slot.
 const SHIFT: u32 = 23;
@@ -19,7 +20,7 @@ const START: i64 = (1 << 24) - (1 << 31);
 pub const END: i64 = START + ((SLOTS as i64 - 1) << SHIFT);
 
 /// The years of `START` and `END`.
-const YEARS: std::ops::RangeInclusive<usize> = 1902..=2038;
+const YEARS: RangeInclusive<usize> = 1902..=2038;
 
 /// The slots of all zones. Each different slot is kept once, so they fit into the second cache.
 #[derive(Default)]
@@ -85,8 +86,11 @@ impl Slots {
     /// of a slot and it tells one.
     pub fn type_at_all(&self, zone: u16, instants: &[i64]) -> Option<TypeNumber> {
         let first = *instants.first()?;
-        let slot = self.slot(zone, index(first));
         let number = self.type_at(zone, first);
+        if number == UNKNOWN {
+            return None;
+        }
+        let slot = self.slot(zone, index(first));
         let start = START + ((index(first) as i64) << SHIFT);
         let end = start + (1 << SHIFT);
         let change = START + i64::from(slot.change());
@@ -94,7 +98,7 @@ impl Slots {
             if first >= change { [change.max(start), end] } else { [start, change.min(end)] };
         let is_same = |t: i64| (t.wrapping_sub(from) as u64) < (to - from) as u64;
         let are_same = instants.iter().fold(true, |are_same, t| are_same & is_same(*t));
-        (are_same && number != UNKNOWN).then_some(number)
+        are_same.then_some(number)
     }
 }
 
