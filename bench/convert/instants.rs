@@ -56,8 +56,8 @@ pub fn read_instants(lines: Lines<'_>, start: u32, batch: &mut Batch) -> usize {
         let marks = vectors::marks(octets);
         let number = Number::new(octets, marks);
         let name_len = (end - at + number.before as u32).wrapping_sub(16);
-        let is_after_comma = marks.no_digits ^ marks.commas < marks.commas;
-        let is_odd = !number.is_plain | !is_after_comma | (name_len >= KEY_SIZE as u32);
+        let is_after_other = marks.no_digits ^ marks.commas >= marks.commas;
+        let is_odd = !number.is_plain | is_after_other | (name_len >= KEY_SIZE as u32);
         batch.instants[i] = if is_odd { ODD } else { number.value as i64 };
         batch.name_lens[i] = name_len as u8;
         is_any_odd |= is_odd;

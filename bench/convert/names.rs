@@ -11,24 +11,29 @@ const BUCKETS: usize = 512;
 /// The number of places for keys.
 const PLACES: usize = 1024;
 
-/// A name of at most 31 bytes: itself and zeros after it, in words, and its length. Without the
-/// length a name with a zero at its end would be the shorter one.
+/// As many bytes in words. They are never in two lines of the cache.
+#[derive(Clone, Copy, PartialEq, Eq)]
+#[repr(align(32))]
+struct Words([u64; 4]);
+
+/// A name of at most 31 bytes: itself and zeros after it, and its length. Without the length a name
+/// with a zero at its end would be the shorter one.
 #[derive(Clone, Copy, PartialEq, Eq)]
 pub struct Key {
-    words: [u64; 4],
+    words: Words,
     len: u8,
 }
 
 /// By length, the mask of so many bytes.
-static MASKS: [[u64; 4]; KEY_SIZE] = masks();
+static MASKS: [Words; KEY_SIZE] = masks();
 
-const fn masks() -> [[u64; 4]; KEY_SIZE] {
-    let mut masks = [[0; 4]; KEY_SIZE];
+const fn masks() -> [Words; KEY_SIZE] {
+    let mut masks = [Words([0; 4]); KEY_SIZE];
     let mut len = 0;
     while len < KEY_SIZE {
         let mut octet = 0;
         while octet < len {
-            masks[len][octet / 8] |= 0xff << (8 * (octet % 8));
+            masks[len].0[octet / 8] |= 0xff << (8 * (octet % 8));
             octet += 1;
         }
         len += 1;
@@ -41,10 +46,10 @@ impl Key {
     /// no name has, so no branch is needed.
     #[inline(always)]
     pub fn new(block: &[u8; KEY_SIZE], len: u8) -> Key {
-        let mask = &MASKS[usize::from(len) % KEY_SIZE];
+        let Words(mask) = &MASKS[usize::from(len) % KEY_SIZE];
         let word =
             |k: usize| u64::from_le_bytes(block[8 * k..8 * k + 8].try_into().unwrap()) & mask[k];
-        Key { words: [word(0), word(1), word(2), word(3)], len }
+        Key { words: Words([word(0), word(1), word(2), word(3)]), len }
     }
 
     /// Returns the key of a name, if it has one.
@@ -59,7 +64,7 @@ impl Key {
 
     #[inline(always)]
     fn hash(&self) -> u64 {
-        let [a, b, c, d] = self.words;
+        let Words([a, b, c, d]) = self.words;
         let odd = a.wrapping_add(c).wrapping_mul(0x9e37_79b9_7f4a_7c15);
         let even = b.wrapping_add(d).wrapping_mul(0xc2b2_ae3d_27d4_eb4f);
         odd ^ even
@@ -81,7 +86,7 @@ impl Key {
 /// no two keys have the same place.
 pub struct Names {
     shifts: [u16; BUCKETS],
-    words: Box<[[u64; 4]; PLACES]>,
+    words: Box<[Words; PLACES]>,
     lens: [u8; PLACES],
     zones: [u16; PLACES],
     /// Names that are too long for a key.
@@ -97,7 +102,7 @@ impl Names {
     pub fn new(names: Vec<(Vec<u8>, u16)>, nothing: u16) -> Names {
         let mut made = Names {
             shifts: [0; BUCKETS],
-            words: Box::new([[0; 4]; PLACES]),
+            words: Box::new([Words([0; 4]); PLACES]),
             lens: [0; PLACES],
             zones: [nothing; PLACES],
             others: QuickMap::default(),

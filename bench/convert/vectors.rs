@@ -3,14 +3,13 @@
 use std::arch::x86_64::*;
 
 /// By the index of the last byte that is no digit: the mask of the bytes after it.
-static AFTER: [[u64; 2]; 16] = masks_after();
+static AFTER: [u128; 16] = masks_after();
 
-const fn masks_after() -> [[u64; 2]; 16] {
-    let mut masks = [[0; 2]; 16];
+const fn masks_after() -> [u128; 16] {
+    let mut masks = [0; 16];
     let mut place = 0;
     while place < 16 {
-        let mask = !0u128 << (8 * place) << 8;
-        masks[place] = [mask as u64, (mask >> 64) as u64];
+        masks[place] = !0 << (8 * place) << 8;
         place += 1;
     }
     masks
@@ -56,12 +55,12 @@ pub fn marks(block: &[u8; 16]) -> Marks {
 /// are combined to pairs and to groups of four in vectors, and the groups in words.
 #[inline(always)]
 pub fn number_after(block: &[u8; 16], index: usize) -> u64 {
-    let mask = &AFTER[index % 16];
+    let mask = &raw const AFTER[index % 16];
     // SAFETY: the loads are the block and the mask.
     unsafe {
         let values =
             _mm_sub_epi8(_mm_loadu_si128(block.as_ptr().cast()), _mm_set1_epi8(b'0' as i8));
-        let digits = _mm_and_si128(values, _mm_loadu_si128(mask.as_ptr().cast()));
+        let digits = _mm_and_si128(values, _mm_loadu_si128(mask.cast()));
         let tens = _mm_mullo_epi16(_mm_and_si128(digits, _mm_set1_epi16(0xff)), _mm_set1_epi16(10));
         let pairs = _mm_add_epi16(tens, _mm_srli_epi16(digits, 8));
         let hundreds = _mm_mullo_epi16(pairs, _mm_set1_epi16(100));
