@@ -47,11 +47,12 @@ impl LocalTimes<'_> {
 #[inline(never)]
 pub fn write_rows(tables: &Tables, lines: Lines<'_>, start: u32, batch: &Batch, text: &mut Text) {
     let count = batch.len();
-    let room = |at: u32| (batch.end() - at) as usize + count * ROOM_FOR_ROW + ROOM_FOR_LAST;
+    let room =
+        |at: u32, rows: usize| (batch.end() - at) as usize + rows * ROOM_FOR_ROW + ROOM_FOR_LAST;
     let mut local_times =
         LocalTimes { calendar: &tables.calendar, day: u32::MAX, date: Date::default() };
     let mut at = start;
-    let mut out = text.room(room(at));
+    let mut out = text.room(room(at, count));
     let mut written = 0;
     for i in 0..count {
         let end = batch.line_ends[i];
@@ -65,7 +66,7 @@ pub fn write_rows(tables: &Tables, lines: Lines<'_>, start: u32, batch: &Batch, 
         } else {
             text.advance(written);
             general::write_line(tables, lines.part(at, end), text);
-            out = text.room(room(end));
+            out = text.room(room(end, count - i));
             written = 0;
         }
         at = end + 1;
