@@ -5,8 +5,8 @@
 //!
 //! Records go in batches of some 200 through five short loops, each over one column of the batch:
 //! line ends, instants, zones, local time types, text. In a short loop the processor works on many
-//! records at a time, and no loop has a branch on what usually differs between records. The few
-//! records that are out of the common are done one by one (`general.rs`).
+//! records at a time, and no loop has a branch on what usually differs between records. Unusual
+//! records are done one by one (`general.rs`), or made plain first if there are many (`plain.rs`).
 //!
 //! usage: convert TREE WORKERS
 

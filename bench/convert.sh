@@ -35,8 +35,8 @@
 # With the word `stream`, only pzic runs. It converts a column of ROWS rows through pipes, by
 # default 100,000,000 rows, which are just under 4 GiB.
 #
-# The variable PZIC names the program, if it shouldn't be built. Needs `rt`, `rustc`, `g++`, GNU
-# time, the release, and the C++ library and Go or apt-get to install them.
+# The variable PZIC names the program, if it shouldn't be built. Needs `rt`, `rustc`, `g++`, the
+# release, and GNU time, the C++ library and Go or apt-get to install them.
 set -eu
 . "$(dirname "$0")/common.sh"
 mode=table
@@ -49,6 +49,7 @@ esac
 runs=${RUNS:-7}
 program=${PZIC:-crates/zic_main/out/zic_main}
 [ "${PZIC:-}" ] || build zic_main check -
+has /usr/bin/time time
 plain column
 "$program" build "$work/tree" "$release"
 # The C++ library leaves out Factory.

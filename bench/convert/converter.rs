@@ -27,8 +27,8 @@ impl<'a> Converter<'a> {
         }
     }
 
-    /// Appends the rows of lines to a text. If many records of a batch are out of the common, its
-    /// lines are first made plain.
+    /// Appends the rows of lines to a text. If many instants of a batch are unusual, its lines
+    /// are made plain first.
     pub fn convert(&mut self, lines: Lines<'_>, text: &mut Text) {
         let Converter { tables, batch, plain, last_name } = self;
         let (mut at, mut searched) = (0, 0);

@@ -1,10 +1,11 @@
 //! What a zone shows in years that only its footer tells, by the kind of the year.
 
 use crate::calendar::{Calendar, DAY, DayAndSecond, FIRST_LEAP_KIND, KINDS};
-use crate::footer::Edges;
+use crate::footer::{Daylight, Edges, Footer};
 use crate::local_time_types::TypeNumber;
 use crate::slots;
 use crate::zone::Zone;
+use std::array;
 
 /// The two parts of each year in UT: an inside part between the edges, and the outside part before
 /// and after it.
@@ -30,13 +31,18 @@ impl Part {
     }
 }
 
+/// Returns whether daylight saving time starts before it stops, as in the north.
+fn starts_first(edges: &Edges) -> bool {
+    edges.start < edges.stop
+}
+
 /// Returns whether the edges of each kind of year are within the year, in the same order.
 fn are_regular(edges: &[Edges; KINDS]) -> bool {
-    let is_north = edges[0].start < edges[0].stop;
-    edges.iter().enumerate().all(|(kind, Edges { start, stop })| {
+    edges.iter().enumerate().all(|(kind, of_kind)| {
         let year = if kind < FIRST_LEAP_KIND { 0..365 * DAY } else { 0..366 * DAY };
-        let is_in_order = if is_north { start < stop } else { stop < start };
-        is_in_order && year.contains(start) && year.contains(stop)
+        let Edges { start, stop } = of_kind;
+        let is_same_order = starts_first(of_kind) == starts_first(&edges[0]);
+        is_same_order && start != stop && year.contains(start) && year.contains(stop)
     })
 }
 
@@ -50,26 +56,17 @@ impl FooterYears {
         if zone.last_transition().is_some_and(|transition| transition.at >= begin) {
             return None;
         }
-        let Some(daylight) = zone.footer.as_ref().and_then(|footer| footer.daylight.as_ref())
-        else {
-            return Some(FooterYears {
-                inside: [Part::default(); 16],
-                inside_type: last,
-                outside_type: last,
-            });
+        let Some(Footer { standard, daylight: Some(daylight) }) = &zone.footer else {
+            let inside = [Part::default(); 16];
+            return Some(FooterYears { inside, inside_type: last, outside_type: last });
         };
-        if !are_regular(&daylight.edges) {
+        let Daylight { number, edges } = daylight;
+        if !are_regular(edges) {
             return None;
         }
-        let mut inside = [Part::default(); 16];
-        inside
-            .iter_mut()
-            .zip(&daylight.edges)
-            .for_each(|(part, edges)| *part = Part::between(edges));
-        let standard = zone.footer.as_ref()?.standard;
-        let is_north = daylight.edges[0].start < daylight.edges[0].stop;
+        let inside = array::from_fn(|kind| edges.get(kind).map_or(Part::default(), Part::between));
         let [inside_type, outside_type] =
-            if is_north { [daylight.number, standard] } else { [standard, daylight.number] };
+            if starts_first(&edges[0]) { [*number, *standard] } else { [*standard, *number] };
         Some(FooterYears { inside, inside_type, outside_type })
     }
 

@@ -4,7 +4,7 @@ use crate::batch::{Batch, Lines};
 use crate::names::KEY_SIZE;
 use crate::vectors::{self, Marks};
 
-/// Stands in place of the instant of a record that is out of the common.
+/// Stands in place of the instant of an unusual record.
 pub const ODD: i64 = i64::MIN;
 
 /// The greatest number of digits of an instant.
