@@ -1,6 +1,6 @@
 //! Files that are ready for rows.
 
-ghost use Rattle.std.specs.Prelude.{◌≡◌, ◌<◌, ℤ, length, IfSome, slice_get};
+ghost use Rattle.std.specs.Prelude.{◌≡◌, ◌<◌, ◌≤◌, ℤ, length, IfSome, slice_get, slice_range};
 ghost use Rattle.zic_files.specs.Sound.{AreSoundFiles};
 ghost use Rattle.zic_posix.specs.Instants.{Includes};
 ghost use Rattle.zic_rows.specs.Row.{IsRowState};
@@ -55,6 +55,17 @@ impl<'a> RowZones<'a> {
     {
         self.are_sound();
         self.files.find(name)
+    }
+
+    /// Returns the number of the file that a part of some bytes names, or `None` where no file has
+    /// that name.
+    #[inline(always)]
+    pub fn find_at(&self, bytes: &[u8], start: usize, end: usize) -> Option<usize>
+        requires order { start ≤ end }
+        requires within { end ≤ length bytes.now }
+        ensures { result ≡ number_of self.now (slice_range bytes.now start end) }
+    {
+        self.find(&bytes[start..end])
     }
 
     /// Returns the name of a file, by its number.
