@@ -4,3 +4,4 @@ pub mod LocalTime
 pub mod PlainInstants
 pub mod RowTexts
 pub mod Counts
+pub mod PlainTimes

@@ -18,7 +18,7 @@ pub(crate) fn write_date(rest: &mut [u8; REST_ROOM], day: u32)
 }
 
 /// Returns a comma, the date of a day counted from 0001-01-01, and a `T`.
-fn date_text(day: u32) -> [u8; 12]
+pub(crate) fn date_text(day: u32) -> [u8; 12]
     requires { day < DAYS }
     ensures { result ≡ kept_date day }
 {

@@ -14,10 +14,10 @@ pub fn parse_instant(field: &[u8]) -> Option<i64>
     ensures { result ≡ instant_of field.now }
 {
     if let [b'-', digits @ ..] = field {
-        let seconds = number(digits)?;
+        let seconds = short_number(digits)?;
         return Some(-(seconds as i64));
     }
-    let seconds = number(field)?;
+    let seconds = short_number(field)?;
     Some(seconds as i64)
 }
 
@@ -38,7 +38,7 @@ pub fn is_plain(field: &[u8]) -> bool
 /// Returns the number that the text spells in decimal digits: at least one, and at most
 /// `MAX_DIGITS`.
 #[tactic(auto, unfolding(crate::specs::Instant::number))]
-fn number(text: &[u8]) -> Option<u64>
+pub(crate) fn short_number(text: &[u8]) -> Option<u64>
     ensures value { result ≡ number MAX_DIGITS text.now }
     ensures fits { IfSome result (λ n. n < 10 ^ 18) }
 {

@@ -11,10 +11,14 @@ mod limit;
 mod rest;
 mod row;
 mod row_state;
+mod row_text;
+mod row_time;
 mod state_text;
 
 pub use count::{Moment, moment_of, parse_count};
 pub use instant::{is_plain, parse_instant};
 pub use limit::{FARTHEST_OFFSET, FIRST_INSTANT, LAST_INSTANT, MAX_DIGITS};
 pub use row::{RowWriter, push_row};
+pub use row_text::RowText;
+pub use row_time::{RowTime, quick_time};
 pub use state_text::StateText;

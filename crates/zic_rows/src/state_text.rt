@@ -54,6 +54,23 @@ impl StateText {
         self.state.copy()
     }
 
+    /// Returns the UT offset in seconds, positive east.
+    #[inline(always)]
+    pub(crate) fn offset(&self) -> i32
+        ensures value { result ≡ self.now.offset }
+        ensures may { IsRowOffset result }
+    {
+        self.state.offset()
+    }
+
+    /// Returns the text.
+    #[inline(always)]
+    pub(crate) fn bytes(&self) -> &[u8]
+        ensures { result.now ≡ state_text self.now }
+    {
+        &self.octets[..self.len]
+    }
+
     /// Copies the text into the rest of a row, from byte 20 on, and returns its length, at most 32.
     /// All of the room is copied at once, since that is quicker.
     #[inline(always)]
