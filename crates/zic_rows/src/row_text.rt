@@ -1,7 +1,8 @@
 //! The text of rows.
 
-ghost use Rattle.std.specs.Prelude.{◌≡◌, ◌<◌, ◌≤◌, ◌++◌, [], length, slice_range, IfOk, OnOk};
+ghost use Rattle.std.specs.Prelude.{◌≡◌, ◌<◌, ◌≤◌, ◌++◌, [], drop, length, map, slice_range, take, IfOk, OnOk};
 ghost use Rattle.zic_rows.specs.Instant.{IsRowInstant};
+ghost use Rattle.zic_rows.specs.Row.{for_comma};
 ghost use Rattle.zic_rows.specs.Count.{timed_rest_text, units_of_second};
 
 use crate::count::push_fraction;
@@ -95,5 +96,37 @@ impl RowText {
         push_fraction(&mut self.bytes, time.unit, time.fraction)?;
         self.bytes.extend_from_slice(state.bytes())?;
         Ok(())
+    }
+
+    /// Puts a byte in the place of commas, and commas in the place of the byte, from a place of the
+    /// text on.
+    pub fn exchange(&mut self, from: usize, byte: u8)
+        requires { from ≤ length self.old }
+        ensures { self.new ≡ take from self.old ++ map (for_comma byte) (drop from self.old) }
+    {
+        exchange(&mut self.bytes[from..], byte);
+    }
+}
+
+/// Puts a byte in the place of commas, and commas in the place of the byte.
+fn exchange(bytes: &mut [u8], other: u8)
+    ensures { bytes.new ≡ map (for_comma other) bytes.old }
+{
+    for byte in bytes.iter_mut() {
+        *byte = for_comma(*byte, other);
+    }
+}
+
+/// Returns another byte for a comma, a comma for that byte, and any other as it is.
+#[inline(always)]
+fn for_comma(byte: u8, other: u8) -> u8
+    ensures { result ≡ for_comma other byte }
+{
+    if byte == b',' {
+        other
+    } else if byte == other {
+        b','
+    } else {
+        byte
     }
 }
