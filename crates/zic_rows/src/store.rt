@@ -31,13 +31,14 @@ pub(crate) fn put_32(text: &mut [u8], at: usize, part: &[u8; 32], len: usize)
 
 /// Writes 16 bytes, of which the first `len` count.
 #[inline(always)]
-pub(crate) fn put_16(text: &mut [u8], at: usize, part: &[u8; 16], len: usize)
+pub(crate) fn put_16(text: &mut [u8], at: usize, part: u8x16, len: usize)
     requires room { at + 16 ≤ length text.old }
+    requires whole { length part ≡ 16 }
     requires short { len ≤ 16 }
     ensures kept { length text.new ≡ length text.old }
-    ensures written { take (at + len) text.new ≡ take at text.old ++ take len part.now }
+    ensures written { take (at + len) text.new ≡ take at text.old ++ take len part }
 {
-    u8x16::from_slice(part).copy_to_slice(&mut text[at..]);
+    part.copy_to_slice(&mut text[at..]);
 }
 
 /// Writes 8 bytes.

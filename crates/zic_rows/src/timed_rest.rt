@@ -13,6 +13,7 @@ use crate::limit::DAY;
 use crate::row_time::RowTime;
 use crate::state_text::StateText;
 use crate::store::{put_8, put_16};
+use std::simd::prelude::*;
 use zic_plan::Unit;
 
 /// The room that is wanted after the instant, in bytes.
@@ -58,14 +59,14 @@ fn put_fraction(text: &mut [u8], at: usize, unit: Unit, n: u32) -> usize
         Unit::Millisecond => {
             let [a, b, c] = three_digits(n);
             let octets = [b'.', a, b, c, 0, 0, 0, 0, 0, 0, 0, 0, 0, 0, 0, 0];
-            put_16(text, at, &octets, 4);
+            put_16(text, at, u8x16::from_array(octets), 4);
             at + 4
         }
         Unit::Microsecond => {
             let [a, b, c] = three_digits(n / 1_000);
             let [d, e, f] = three_digits(n % 1_000);
             let octets = [b'.', a, b, c, d, e, f, 0, 0, 0, 0, 0, 0, 0, 0, 0];
-            put_16(text, at, &octets, 7);
+            put_16(text, at, u8x16::from_array(octets), 7);
             at + 7
         }
         Unit::Nanosecond => {
@@ -73,7 +74,7 @@ fn put_fraction(text: &mut [u8], at: usize, unit: Unit, n: u32) -> usize
             let [d, e, f] = three_digits(n / 1_000 % 1_000);
             let [g, h, i] = three_digits(n % 1_000);
             let octets = [b'.', a, b, c, d, e, f, g, h, i, 0, 0, 0, 0, 0, 0];
-            put_16(text, at, &octets, 10);
+            put_16(text, at, u8x16::from_array(octets), 10);
             at + 10
         }
     }
