@@ -113,7 +113,7 @@ pub fn moment_of(count: i128, unit: Unit) -> Moment
 }
 
 /// Returns the three decimal digits of a number below 1,000.
-fn three_digits(n: u32) -> [u8; 3]
+pub(crate) fn three_digits(n: u32) -> [u8; 3]
     requires { n < 1000 }
     ensures { result ≡ three_digits n }
 {

@@ -6,6 +6,7 @@ mod count;
 mod date;
 mod digits;
 mod instant;
+mod kept_date;
 pub mod laws;
 mod limit;
 mod rest;
@@ -14,6 +15,8 @@ mod row_state;
 mod row_text;
 mod row_time;
 mod state_text;
+mod store;
+mod timed_rest;
 
 pub use count::{Moment, moment_of, parse_count};
 pub use instant::{is_plain, parse_instant};

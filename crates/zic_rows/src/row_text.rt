@@ -1,32 +1,43 @@
 //! The text of rows.
 
-ghost use Rattle.std.specs.Prelude.{◌≡◌, ◌<◌, ◌≤◌, ◌++◌, [], drop, length, map, slice_range, take, IfOk, OnOk};
+ghost use Rattle.std.specs.Prelude.{◌≡◌, ◌+◌, ◌<◌, ◌≤◌, ◌++◌, [], drop, length, map, slice_range, take, IfOk, OnOk};
 ghost use Rattle.zic_rows.specs.Instant.{IsRowInstant};
 ghost use Rattle.zic_rows.specs.Row.{for_comma};
 ghost use Rattle.zic_rows.specs.Count.{timed_rest_text, units_of_second};
 
-use crate::count::push_fraction;
-use crate::date::date_text;
-use crate::digits::time_text;
-use crate::limit::DAY;
+use crate::kept_date::KeptDate;
+use crate::limit::{DAY, DAYS_TO_1970};
 use crate::row::local_seconds;
 use crate::row_time::RowTime;
 use crate::state_text::StateText;
+use crate::store::put_64;
+use crate::timed_rest::{TIMED_ROOM, put_rest};
 use std::alloc::{AllocError, Global};
 use std::marker::Model;
 
-/// The text of rows. Clauses see the text.
+/// The room that the start of a row has, in bytes: where it is no longer, it is written at once.
+const START_ROOM: usize = 64;
+
+/// The text of rows, with room after it, so that stores of a fixed size need no test. Clauses see the
+/// text.
 #[derive(Drop)]
 pub struct RowText {
+    /// The text and the room after it.
     bytes: Vec<u8>,
+    /// The length of the text in bytes.
+    len: usize,
+    /// The date of the last row.
+    date: KeptDate,
 }
 
 impl Model for RowText {
-    ghost use Rattle.std.specs.Prelude.{ℕ, List};
+    ghost use Rattle.std.specs.Prelude.{ℕ, ◌≤◌, List, length, take};
 
     ghost Value = { List ℕ };
 
-    ghost view = { λ t. t.bytes.items };
+    ghost view = { λ t. take t.len t.bytes.items };
+
+    ghost invariant = { λ t. t.len ≤ length t.bytes.items };
 }
 
 impl RowText {
@@ -36,6 +47,8 @@ impl RowText {
     {
         RowText {
             bytes: Vec::new(alloc),
+            len: 0,
+            date: KeptDate::new(DAYS_TO_1970),
         }
     }
 
@@ -43,8 +56,12 @@ impl RowText {
     pub fn with_capacity(alloc: Global, room: usize) -> Result<RowText, AllocError>
         ensures { IfOk result (λ t. t ≡ []) }
     {
+        let mut bytes = Vec::new(alloc);
+        bytes.resize(room, 0)?;
         Ok(RowText {
-            bytes: Vec::with_capacity(alloc, room)?,
+            bytes,
+            len: 0,
+            date: KeptDate::new(DAYS_TO_1970),
         })
     }
 
@@ -52,21 +69,32 @@ impl RowText {
     pub fn bytes(&self) -> &[u8]
         ensures { result.now ≡ self.now }
     {
-        &self.bytes
+        &self.bytes[..self.len]
     }
 
     /// Returns the length of the text in bytes.
     pub fn len(&self) -> usize
         ensures { result ≡ length self.now }
     {
-        self.bytes.len()
+        self.len
     }
 
-    /// Appends some bytes. Where memory runs out, a part may be there.
+    /// Removes the text, and keeps its room.
+    pub fn clear(&mut self)
+        ensures { self.new ≡ [] }
+    {
+        self.len = 0;
+    }
+
+    /// Appends some bytes. Where memory runs out, the text stays.
     pub fn push(&mut self, bytes: &[u8]) -> Result<(), AllocError>
         ensures { OnOk result (self.new ≡ self.old ++ bytes.now) }
     {
-        self.bytes.extend_from_slice(bytes)
+        make_room(&mut self.bytes, self.len, bytes.len())?;
+        let end = self.len + bytes.len();
+        self.bytes[self.len..end].copy_from_slice(bytes);
+        self.len = end;
+        Ok(())
     }
 
     /// Appends a part of some bytes, `start..end`, and what follows it in a row: the local time and
@@ -87,14 +115,39 @@ impl RowText {
         ensures { OnOk result (self.new ≡ self.old ++ (slice_range bytes.now start end
             ++ timed_rest_text time.unit time.second time.fraction state.now)) }
     {
+        let len = end - start;
+        let room = self.bytes.len() - self.len;
+        if len > START_ROOM || bytes.len() - start < START_ROOM || room < START_ROOM + TIMED_ROOM {
+            return self.push_parts(&bytes[start..end], time, state);
+        }
         let seconds = local_seconds(time.second, state.offset());
         let second = (seconds % DAY as u64) as u32;
-        self.bytes.extend_from_slice(&bytes[start..end])?;
-        self.bytes
-            .extend_from_slice(&date_text((seconds / DAY as u64) as u32))?;
-        self.bytes.extend_from_slice(&time_text(second))?;
-        push_fraction(&mut self.bytes, time.unit, time.fraction)?;
-        self.bytes.extend_from_slice(state.bytes())?;
+        self.date.turn_to((seconds / DAY as u64) as u32);
+        let text: &mut [u8] = &mut self.bytes;
+        put_64(text, self.len, bytes, start, len);
+        self.len = put_rest(text, self.len + len, &self.date, second, time, state);
+        Ok(())
+    }
+
+    /// Appends the start of a row of any length, and what follows it. It makes room for rows to come.
+    #[inline(never)]
+    fn push_parts(
+        &mut self,
+        start: &[u8],
+        time: RowTime,
+        state: &StateText,
+    ) -> Result<(), AllocError>
+        requires second { IsRowInstant time.second }
+        requires fraction { time.fraction < units_of_second time.unit }
+        ensures { OnOk result (self.new ≡ self.old ++ (start.now
+            ++ timed_rest_text time.unit time.second time.fraction state.now)) }
+    {
+        self.push(start)?;
+        make_room(&mut self.bytes, self.len, START_ROOM + TIMED_ROOM)?;
+        let seconds = local_seconds(time.second, state.offset());
+        let second = (seconds % DAY as u64) as u32;
+        self.date.turn_to((seconds / DAY as u64) as u32);
+        self.len = put_rest(&mut self.bytes, self.len, &self.date, second, time, state);
         Ok(())
     }
 
@@ -104,7 +157,7 @@ impl RowText {
         requires { from ≤ length self.old }
         ensures { self.new ≡ take from self.old ++ map (for_comma byte) (drop from self.old) }
     {
-        exchange(&mut self.bytes[from..], byte);
+        exchange(&mut self.bytes[from..self.len], byte);
     }
 }
 
@@ -129,4 +182,22 @@ fn for_comma(byte: u8, other: u8) -> u8
     } else {
         byte
     }
+}
+
+/// Makes room after the text of this length, by zeros.
+#[inline(never)]
+fn make_room(bytes: &mut Vec<u8>, len: usize, room: usize) -> Result<(), AllocError>
+    requires { len ≤ length bytes.old.items }
+    ensures within { len ≤ length bytes.new.items }
+    ensures text { take len bytes.new.items ≡ take len bytes.old.items }
+    ensures room { OnOk result (len + room ≤ length bytes.new.items) }
+{
+    let Some(least) = len.checked_add(room) else {
+        return Err(AllocError);
+    };
+    if bytes.len() < least {
+        let doubled = bytes.len().saturating_mul(2);
+        bytes.resize(least.max(doubled), 0)?;
+    }
+    Ok(())
 }
