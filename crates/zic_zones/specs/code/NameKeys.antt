@@ -1,0 +1,16 @@
+-- Names as keys of 32 bytes.
+use Rattle.std.specs.Prelude.{◌≡◌, ◌-◌, ◌<◌, ◌++◌, ℕ, List, length, take, replicate, Some, slice_get}
+use Rattle.zic_zones.specs.declared.name_keys.NameKey.{NameKey}
+
+-- a name of at most 32 bytes, and zeros after it
+abbrev pub padded : List ℕ → List ℕ
+padded name = name ++ replicate (32 - length name) 0
+
+-- the bytes that a key holds of its name
+abbrev pub held_by : NameKey → List ℕ
+held_by key = take key.len key.bytes
+
+-- These are all bytes of the name of this number.
+pub record IsShortName (names : List (List ℕ)) (name : List ℕ) (number : ℕ) : Type 0 where
+  pub short : length name < 32
+  pub held : slice_get names number ≡ Some name

@@ -1,0 +1,200 @@
+//! Files by their names, for names that fit a vector.
+
+ghost use Rattle.std.specs.Prelude.{◌≡◌, ◌+◌, ◌-◌, ◌<◌, ◌≤◌, ◌++◌, ◌∷◌, [], length, replicate, slice_get, slice_range, take, Some, IfSome, IsTrue, OnOk, OnErr};
+ghost use Rattle.zic_zones.specs.code.NameKeys.{IsShortName, held_by, padded};
+
+use std::alloc::{AllocError, Global};
+use std::marker::Model;
+use std::simd::prelude::*;
+
+/// The number of bytes that a key has room for. A name of as many may go on.
+const ROOM: usize = 32;
+
+/// The number of places at which the number of a file may stand.
+const TRIES: usize = 4;
+
+/// The least number of places as a power of two.
+const LEAST: u32 = 11;
+
+/// No number of a file.
+const VACANT: u32 = u32::MAX;
+
+/// 32 bytes that keep, and 32 that clear.
+static MASKS: [u8; 64] = [
+    255, 255, 255, 255, 255, 255, 255, 255, 255, 255, 255, 255, 255, 255, 255, 255, 255, 255, 255,
+    255, 255, 255, 255, 255, 255, 255, 255, 255, 255, 255, 255, 255, 0, 0, 0, 0, 0, 0, 0, 0, 0, 0,
+    0, 0, 0, 0, 0, 0, 0, 0, 0, 0, 0, 0, 0, 0, 0, 0, 0, 0, 0, 0, 0, 0,
+];
+
+/// The first 32 bytes of a name, with zeros after those of a shorter one, and how many they are.
+#[derive(Clone, Copy, Drop)]
+struct NameKey {
+    bytes: [u8; 32],
+    len: usize,
+}
+
+impl NameKey {
+    /// Returns the key of a name.
+    fn of(name: &[u8]) -> NameKey
+        ensures { held_by result ≡ take 32 name.now }
+    {
+        let len = name.len().min(ROOM);
+        let mut bytes = [0; 32];
+        bytes[..len].copy_from_slice(&name[..len]);
+        NameKey { bytes, len }
+    }
+}
+
+/// The names of files, each as far as its first 32 bytes go, with a table that finds most of them by
+/// one comparison of vectors. Clauses see these bytes, by the number of the file.
+#[derive(Drop)]
+pub(crate) struct NameKeys {
+    /// The keys of the names, by the number of the file.
+    keys: Vec<NameKey>,
+    /// Numbers of files, or [`VACANT`]: each at the place that its key gives, or soon after it.
+    places: Vec<u32>,
+    /// How many bits of a hash are left out so that the rest is a place.
+    shift: u32,
+}
+
+impl Model for NameKeys {
+    ghost use Rattle.std.specs.Prelude.{List, ℕ, map};
+    ghost use Rattle.zic_zones.specs.code.NameKeys.{held_by};
+
+    ghost Value = { List (List ℕ) };
+
+    ghost view = { λ n. map held_by n.keys.items };
+}
+
+impl NameKeys {
+    /// Returns the names of no file.
+    pub(crate) fn new(alloc: Global) -> NameKeys
+        ensures { result ≡ [] }
+    {
+        NameKeys {
+            keys: Vec::new(alloc),
+            places: Vec::new(alloc),
+            shift: u64::BITS - LEAST,
+        }
+    }
+
+    /// Adds the name of the next file. The names stay as they are where memory is refused.
+    pub(crate) fn add(&mut self, alloc: Global, name: &[u8]) -> Result<(), AllocError>
+        ensures ok { OnOk result (self.new ≡ self.old ++ take 32 name.now ∷ []) }
+        ensures err { OnErr result (self.new ≡ self.old) }
+    {
+        if self.places.len() / 4 <= self.keys.len() {
+            self.grow(alloc)?;
+        }
+        let number = self.keys.len();
+        let key = NameKey::of(name);
+        self.keys.push(key)?;
+        settle(&mut self.places, self.shift, &key, number);
+        Ok(())
+    }
+
+    /// Doubles the places.
+    fn grow(&mut self, alloc: Global) -> Result<(), AllocError>
+        ensures { self.new ≡ self.old }
+    {
+        let shift = if self.places.is_empty() {
+            self.shift
+        } else {
+            self.shift.saturating_sub(1)
+        };
+        let last = u64::MAX.wrapping_shr(shift) as usize;
+        let mut places = vec![in alloc; VACANT; last.saturating_add(TRIES)]?;
+        for (number, key) in self.keys.iter().enumerate() {
+            settle(&mut places, shift, key, number);
+        }
+        self.places = places;
+        self.shift = shift;
+        Ok(())
+    }
+
+    /// Returns the number of the file that a part of some bytes names, if it is at hand. `None` says
+    /// nothing.
+    #[inline(always)]
+    pub(crate) fn quick(&self, bytes: &[u8], start: usize, end: usize) -> Option<usize>
+        requires order { start ≤ end }
+        requires within { end ≤ length bytes.now }
+        ensures { IfSome result (IsShortName self.now (slice_range bytes.now start end)) }
+    {
+        let len = end - start;
+        if len >= ROOM || bytes.len() - start < ROOM {
+            return None;
+        }
+        let key = key_at(bytes, start, len);
+        let first = place_of(key, self.shift);
+        for place in first..first.saturating_add(TRIES) {
+            let number = *self.places.get(place)? as usize;
+            if number >= self.keys.len() {
+                return None;
+            }
+            let found = &self.keys[number];
+            if found.len == len && is_same(&found.bytes, key) {
+                return Some(number);
+            }
+        }
+        None
+    }
+}
+
+/// Writes the number of a file to a place of its key, if it has one.
+fn settle(places: &mut [u32], shift: u32, key: &NameKey, number: usize) {
+    let Ok(number) = u32::try_from(number) else {
+        return;
+    };
+    if key.len == ROOM {
+        return;
+    }
+    let first = place_of(u8x32::from_slice(&key.bytes), shift);
+    for place in first..first.saturating_add(TRIES) {
+        let Some(held) = places.get_mut(place) else {
+            return;
+        };
+        if *held == VACANT {
+            *held = number;
+            return;
+        }
+    }
+}
+
+/// Returns the first of the places of a key: the upper bits of a hash of all its bytes.
+#[inline(always)]
+fn place_of(key: u8x32, shift: u32) -> usize {
+    let words = u64x4::from_le_bytes(key).to_array();
+    let hash = words[0].wrapping_mul(0x9e37_79b9_7f4a_7c15)
+        ^ words[1].wrapping_mul(0xc2b2_ae3d_27d4_eb4f)
+        ^ words[2].wrapping_mul(0x1656_67b1_9e37_79f9)
+        ^ words[3].wrapping_mul(0x27d4_eb2f_1656_67c5);
+    hash.wrapping_shr(shift) as usize
+}
+
+/// Returns the key of a name of up to 32 bytes, from which on there are 32 bytes.
+#[inline(always)]
+fn key_at(bytes: &[u8], start: usize, len: usize) -> u8x32
+    requires room { start + 32 ≤ length bytes.now }
+    requires short { len ≤ 32 }
+    ensures { result ≡ padded (slice_range bytes.now start (start + len)) }
+{
+    u8x32::from_slice(&bytes[start..]) & mask_of(len)
+}
+
+/// Returns bytes that keep as many, and clear the rest.
+#[inline(always)]
+fn mask_of(len: usize) -> u8x32
+    requires { len ≤ 32 }
+    ensures { result ≡ replicate len 255 ++ replicate (32 - len) 0 }
+{
+    u8x32::from_slice(&MASKS[32 - len..])
+}
+
+/// Returns `true` only where two keys have the same bytes.
+#[inline(always)]
+fn is_same(a: &[u8; 32], b: u8x32) -> bool
+    requires { length b ≡ 32 }
+    ensures { IsTrue result → a.now ≡ b }
+{
+    u8x32::from_slice(a).simd_eq(b).all()
+}
