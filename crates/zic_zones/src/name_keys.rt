@@ -1,4 +1,4 @@
-//! Files by their names, for names that fit a vector.
+//! Numbers of files by the keys of their names: 32 bytes, compared as a vector.
 
 ghost use Rattle.std.specs.Prelude.{◌≡◌, ◌+◌, ◌-◌, ◌<◌, ◌≤◌, ◌++◌, ◌∷◌, [], length, replicate, slice_get, slice_range, take, Some, IfSome, IsTrue, OnOk, OnErr};
 ghost use Rattle.zic_zones.specs.code.NameKeys.{IsShortName, held_by, padded};
@@ -7,19 +7,21 @@ use std::alloc::{AllocError, Global};
 use std::marker::Model;
 use std::simd::prelude::*;
 
-/// The number of bytes that a key has room for. A name of as many may go on.
+/// The bytes that a key has room for. The key of a longer name has no more of it, so only names of
+/// fewer bytes are found.
 const ROOM: usize = 32;
 
-/// The number of places at which the number of a file may stand.
+/// The number of places, one after another, that a name may have.
 const TRIES: usize = 4;
 
-/// The least number of places as a power of two.
-const LEAST: u32 = 11;
+/// The number of bits that number the first places. A few in a hundred names of the tz database then
+/// share one.
+const LEAST_BITS: u32 = 13;
 
-/// No number of a file.
+/// Stands at a place that no name has.
 const VACANT: u32 = u32::MAX;
 
-/// 32 bytes that keep, and 32 that clear.
+/// The masks of all lengths: that of a length keeps as many bytes and clears the rest.
 static MASKS: [u8; 64] = [
     255, 255, 255, 255, 255, 255, 255, 255, 255, 255, 255, 255, 255, 255, 255, 255, 255, 255, 255,
     255, 255, 255, 255, 255, 255, 255, 255, 255, 255, 255, 255, 255, 0, 0, 0, 0, 0, 0, 0, 0, 0, 0,
@@ -45,15 +47,15 @@ impl NameKey {
     }
 }
 
-/// The names of files, each as far as its first 32 bytes go, with a table that finds most of them by
-/// one comparison of vectors. Clauses see these bytes, by the number of the file.
+/// The keys of the names of files, and a table of places by hash, which need not find each of them.
+/// Clauses see the first 32 bytes of each name, by the number of the file.
 #[derive(Drop)]
 pub(crate) struct NameKeys {
-    /// The keys of the names, by the number of the file.
+    /// The keys, by the number of the file.
     keys: Vec<NameKey>,
-    /// Numbers of files, or [`VACANT`]: each at the place that its key gives, or soon after it.
+    /// The numbers of files, each at one of the places of its name, and [`VACANT`] elsewhere.
     places: Vec<u32>,
-    /// How many bits of a hash are left out so that the rest is a place.
+    /// How many lower bits of a hash are no part of the number of a place.
     shift: u32,
 }
 
@@ -74,7 +76,7 @@ impl NameKeys {
         NameKeys {
             keys: Vec::new(alloc),
             places: Vec::new(alloc),
-            shift: u64::BITS - LEAST,
+            shift: u64::BITS - LEAST_BITS,
         }
     }
 
@@ -83,6 +85,7 @@ impl NameKeys {
         ensures ok { OnOk result (self.new ≡ self.old ++ take 32 name.now ∷ []) }
         ensures err { OnErr result (self.new ≡ self.old) }
     {
+        // At most a quarter of the places are taken.
         if self.places.len() / 4 <= self.keys.len() {
             self.grow(alloc)?;
         }
@@ -93,7 +96,7 @@ impl NameKeys {
         Ok(())
     }
 
-    /// Doubles the places.
+    /// Makes the first places, or twice as many, and gives each name one of them.
     fn grow(&mut self, alloc: Global) -> Result<(), AllocError>
         ensures { self.new ≡ self.old }
     {
@@ -126,7 +129,7 @@ impl NameKeys {
         }
         let key = key_at(bytes, start, len);
         let first = place_of(key, self.shift);
-        for place in first..first.saturating_add(TRIES) {
+        for place in first..first.wrapping_add(TRIES) {
             let number = *self.places.get(place)? as usize;
             if number >= self.keys.len() {
                 return None;
@@ -140,7 +143,8 @@ impl NameKeys {
     }
 }
 
-/// Writes the number of a file to a place of its key, if it has one.
+/// Writes the number of a file at the first place of its name that is vacant. A name whose places are
+/// taken, or that a key has no room for, gets none.
 fn settle(places: &mut [u32], shift: u32, key: &NameKey, number: usize) {
     let Ok(number) = u32::try_from(number) else {
         return;
@@ -149,7 +153,7 @@ fn settle(places: &mut [u32], shift: u32, key: &NameKey, number: usize) {
         return;
     }
     let first = place_of(u8x32::from_slice(&key.bytes), shift);
-    for place in first..first.saturating_add(TRIES) {
+    for place in first..first.wrapping_add(TRIES) {
         let Some(held) = places.get_mut(place) else {
             return;
         };
@@ -160,18 +164,18 @@ fn settle(places: &mut [u32], shift: u32, key: &NameKey, number: usize) {
     }
 }
 
-/// Returns the first of the places of a key: the upper bits of a hash of all its bytes.
+/// Returns the first place of a name by its key: the upper bits of a hash of all bytes.
 #[inline(always)]
 fn place_of(key: u8x32, shift: u32) -> usize {
-    let words = u64x4::from_le_bytes(key).to_array();
-    let hash = words[0].wrapping_mul(0x9e37_79b9_7f4a_7c15)
-        ^ words[1].wrapping_mul(0xc2b2_ae3d_27d4_eb4f)
-        ^ words[2].wrapping_mul(0x1656_67b1_9e37_79f9)
-        ^ words[3].wrapping_mul(0x27d4_eb2f_1656_67c5);
+    let halves = key.extract::<0, 16>() ^ key.extract::<16, 16>();
+    let words = u64x2::from_le_bytes(halves).to_array();
+    let hash = words[0]
+        .wrapping_mul(0x9e37_79b9_7f4a_7c15)
+        .wrapping_add(words[1].wrapping_mul(0xc2b2_ae3d_27d4_eb4f));
     hash.wrapping_shr(shift) as usize
 }
 
-/// Returns the key of a name of up to 32 bytes, from which on there are 32 bytes.
+/// Returns the bytes of a key of a name that starts at an index of some bytes, where 32 follow.
 #[inline(always)]
 fn key_at(bytes: &[u8], start: usize, len: usize) -> u8x32
     requires room { start + 32 ≤ length bytes.now }
@@ -181,7 +185,7 @@ fn key_at(bytes: &[u8], start: usize, len: usize) -> u8x32
     u8x32::from_slice(&bytes[start..]) & mask_of(len)
 }
 
-/// Returns bytes that keep as many, and clear the rest.
+/// Returns the mask of a length.
 #[inline(always)]
 fn mask_of(len: usize) -> u8x32
     requires { len ≤ 32 }
