@@ -1,11 +1,12 @@
 //! Numbers of files by the keys of their names: 32 bytes, compared as a vector.
 
 ghost use Rattle.std.specs.Prelude.{◌≡◌, ◌+◌, ◌-◌, ◌<◌, ◌≤◌, ◌++◌, ◌∷◌, [], length, replicate, slice_get, slice_range, take, Some, IfSome, IsTrue, OnOk, OnErr};
-ghost use Rattle.zic_zones.specs.code.NameKeys.{IsShortName, held_by, padded};
+ghost use Rattle.zic_zones.specs.code.NameKeys.{AreNamesOf, IsShortName, held_by, padded};
 
 use std::alloc::{AllocError, Global};
 use std::marker::Model;
 use std::simd::prelude::*;
+use zic_files::Files;
 
 /// The bytes that a key has room for. The key of a longer name has no more of it, so only names of
 /// fewer bytes are found.
@@ -81,7 +82,7 @@ impl NameKeys {
     }
 
     /// Adds the name of the next file. The names stay as they are where memory is refused.
-    pub(crate) fn add(&mut self, alloc: Global, name: &[u8]) -> Result<(), AllocError>
+    fn add(&mut self, alloc: Global, name: &[u8]) -> Result<(), AllocError>
         ensures ok { OnOk result (self.new ≡ self.old ++ take 32 name.now ∷ []) }
         ensures err { OnErr result (self.new ≡ self.old) }
     {
@@ -93,6 +94,17 @@ impl NameKeys {
         let key = NameKey::of(name);
         self.keys.push(key)?;
         settle(&mut self.places, self.shift, &key, number);
+        Ok(())
+    }
+
+    /// Adds the names of the files after those that are here.
+    pub(crate) fn extend(&mut self, alloc: Global, files: &Files) -> Result<(), AllocError>
+        requires { AreNamesOf files.now self.old }
+        ensures { AreNamesOf files.now self.new }
+    {
+        for file in self.keys.len()..files.len() {
+            self.add(alloc, files.name(file))?;
+        }
         Ok(())
     }
 
