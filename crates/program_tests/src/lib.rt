@@ -18,6 +18,8 @@ mod explaining;
 #[cfg(test)]
 mod files;
 #[cfg(test)]
+mod names;
+#[cfg(test)]
 mod pieces;
 #[cfg(test)]
 mod samples;

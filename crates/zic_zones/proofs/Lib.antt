@@ -4,3 +4,5 @@ pub mod Shows
 pub mod Learning
 pub mod Records
 pub mod Pieces
+pub mod Keys
+pub mod Held

@@ -3,6 +3,7 @@
 #![tactic(auto)]
 
 pub mod laws;
+mod name_keys;
 mod ready;
 mod row_zones;
 mod source_zones;
