@@ -14,7 +14,7 @@ use zic_base::two_digits;
 use zic_plan::Unit;
 
 /// Returns how many digits a fraction of a second has.
-fn fraction_digits(unit: Unit) -> usize
+pub(crate) fn fraction_digits(unit: Unit) -> usize
     ensures { result ≡ fraction_digits unit }
 {
     match unit {
@@ -26,7 +26,7 @@ fn fraction_digits(unit: Unit) -> usize
 }
 
 /// Returns how many units make up a second.
-fn units_of_second(unit: Unit) -> u32
+pub(crate) fn units_of_second(unit: Unit) -> u32
     ensures { result ≡ units_of_second unit }
 {
     match unit {
@@ -62,7 +62,7 @@ fn number(text: &[u8], most: usize) -> Option<u128>
     ensures fits { IfSome result (λ n. n < 10 ^ 27) }
 {
     if text.len() <= MAX_DIGITS {
-        let n = short_number(text)?;
+        let n = short_number(text, MAX_DIGITS)?;
         return Some(n as u128);
     }
     if text.len() > most {

@@ -56,13 +56,9 @@ impl RowText {
     pub fn with_capacity(alloc: Global, room: usize) -> Result<RowText, AllocError>
         ensures { IfOk result (λ t. t ≡ []) }
     {
-        let mut bytes = Vec::new(alloc);
-        bytes.resize(room, 0)?;
-        Ok(RowText {
-            bytes,
-            len: 0,
-            date: KeptDate::new(DAYS_TO_1970),
-        })
+        let mut text = RowText::new(alloc);
+        text.bytes.resize(room, 0)?;
+        Ok(text)
     }
 
     /// Returns the text.
@@ -76,7 +72,7 @@ impl RowText {
     pub fn len(&self) -> usize
         ensures { result ≡ length self.now }
     {
-        self.len
+        self.bytes().len()
     }
 
     /// Removes the text, and keeps its room.
