@@ -13,3 +13,9 @@ pub const SLOTS: u32 = 512;
 
 /// The last instant from which a table of slots can be made, so that all its instants fit 64 bits.
 pub const LAST_BASE: i64 = MAX_INSTANT - (1 << 32);
+
+/// The first instant of the first era, 1901-12-13 20:45:52 UT.
+pub const FIRST_BASE: i64 = -(1 << 31);
+
+/// The number of eras, one after another, each with the seconds of a table: the last one ends in 2446.
+pub const ERAS: usize = 4;
