@@ -6,6 +6,8 @@ pub mod laws;
 mod ready;
 mod row_zones;
 mod source_zones;
+mod tables;
+mod texts;
 mod tree_zones;
 mod zones;
 
