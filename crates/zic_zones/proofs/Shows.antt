@@ -1,6 +1,6 @@
 -- What a file shows.
-use Rattle.std.proofs.Common.{◌≡◌, ℕ, ℤ, Bool, true, false, List, length, Option, Some, None, refl, subst}
-use Rattle.std.specs.Prelude.{IfSome, nat_le, slice_get, ◌&&◌}
+use Rattle.std.proofs.Common.{◌≡◌, ℕ, ℤ, Bool, true, false, List, length, Some, refl, subst}
+use Rattle.std.specs.Prelude.{nat_le, slice_get, ◌&&◌}
 use Rattle.std.specs.List.{list_all}
 use Rattle.std.proofs.lemmas.Bool.{leb-true}
 use Rattle.zic_base.proofs.Elements.{all_got}
@@ -23,11 +23,6 @@ second : (a b c : Bool) → (a && b && c) ≡ true → b ≡ true
 second true true c h = refl
 second true false c h = absurd (cc h)
 second false b c h = absurd (cc h)
-
--- what follows for each value follows for whatever is there
-pub if_some_then : {X : Type 0} (o : Option X) {P Q : X → Type 0} → IfSome o P → ((x : X) → P x → Q x) → IfSome o Q
-if_some_then None holds then = tt
-if_some_then (Some x) holds then = then x holds
 
 -- a state within the limits of source text is one that a row may have
 pub row_state : (state : Shown) → IsWithinLimits state → IsRowState state

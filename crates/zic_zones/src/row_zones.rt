@@ -101,8 +101,7 @@ impl<'a> RowZones<'a> {
         requires { file < length self.now }
         ensures { IfSome result (λ text. AnswersAt self.now file instant text.now) }
     {
-        let span = self.span(file, instant);
-        self.ready.text(file, span.number)
+        self.ready.quick_text(file, instant)
     }
 
     /// Sets the state of the rows to come to that of a file with this number, which the file shows
