@@ -1,5 +1,7 @@
 pub mod Named
-pub mod Texts
+pub mod Numbered
+pub mod Slotted
+pub mod Readying
 pub mod Shows
 pub mod Learning
 pub mod Records

@@ -7,6 +7,8 @@ mod name_keys;
 mod ready;
 mod row_zones;
 mod source_zones;
+mod tables;
+mod texts;
 mod tree_zones;
 mod zones;
 

@@ -9,7 +9,7 @@ ghost use Rattle.zic_zones.specs.Zones.{AnswersAt, IsShownAt, ShowsThroughout, n
 use crate::ready::Ready;
 use std::marker::Model;
 use zic_files::Files;
-use zic_rows::RowWriter;
+use zic_rows::{RowWriter, StateText};
 use zic_tzif::{Answer, Instants};
 
 /// Some instants, and the number of the state that a zone shows at each of them.
@@ -92,6 +92,16 @@ impl<'a> RowZones<'a> {
             },
             Answer::Unspecified => unreachable!(),
         }
+    }
+
+    /// Returns the text of the state that a file shows at an instant, if it is at hand. `None` says
+    /// nothing.
+    #[inline(always)]
+    pub fn quick_text(&self, file: usize, instant: i64) -> Option<&'a StateText>
+        requires { file < length self.now }
+        ensures { IfSome result (λ text. AnswersAt self.now file instant text.now) }
+    {
+        self.ready.quick_text(file, instant)
     }
 
     /// Sets the state of the rows to come to that of a file with this number, which the file shows
