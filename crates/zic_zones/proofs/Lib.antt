@@ -1,4 +1,6 @@
 pub mod Named
+pub mod Keys
+pub mod Held
 pub mod Numbered
 pub mod Slotted
 pub mod Readying
@@ -6,5 +8,3 @@ pub mod Shows
 pub mod Learning
 pub mod Records
 pub mod Pieces
-pub mod Keys
-pub mod Held

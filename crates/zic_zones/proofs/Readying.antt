@@ -11,9 +11,11 @@ use Rattle.zic_slots.specs.Slots.{number_at}
 use Rattle.zic_slots.specs.declared.place.Place.{Place}
 use Rattle.zic_slots.specs.declared.slot.Slot.{Slot}
 use Rattle.zic_tzif.specs.Content.{Content}
+use Rattle.zic_zones.proofs.Held.{names_still, no_names}
 use Rattle.zic_zones.proofs.Slotted.{table_still}
 use Rattle.zic_zones.proofs.Numbered.{numbers_still}
 use Rattle.zic_zones.specs.code.Ready.{AnswersState, AreReady, IsReadyZone, IsTextOf}
+use Rattle.zic_zones.specs.code.NameKeys.{AreNamesOf}
 use Rattle.zic_zones.specs.code.Tables.{HasTexts}
 use Rattle.zic_zones.specs.Zones.{AnswersAt}
 use Rattle.zic_tzif.specs.States.{IsStateOfNumber}
@@ -47,8 +49,9 @@ zone_still content texts texts' slots slots' zone keeps keeps' is = record {
   tables = λ era start at. table_still texts texts' slots slots' (AnswersState content) (base_of era) start keeps keeps' (is.tables era start at);
 }
 
-pub none_ready : (ready : Ready) → ready.zones.items ≡ [] → (files : List File) → AreReady files ready
-none_ready ready none files = record {
+pub none_ready : (ready : Ready) → ready.names ≡ [] → ready.zones.items ≡ [] → (files : List File) → AreReady files ready
+none_ready ready unnamed none files = record {
+  names = subst (λ (l : List (List ℕ)). AreNamesOf files l) (sym unnamed) (no_names files);
   few = rw none (omega arith);
   each = λ i file zone at ready_at.
       let at_none : slice_get {X = ReadyZone} [] i ≡ Some zone = ap (λ (l : List ReadyZone). slice_get l i) (sym none) ∙ ready_at in
@@ -58,6 +61,7 @@ none_ready ready none files = record {
 -- files that follow aren't ready
 pub files_added : (files more : List File) (ready : Ready) → AreReady files ready → AreReady (files ++ more) ready
 files_added files more ready are = record {
+  names = names_still files ready.names are.names more;
   few = let few = are.few in omega (arith, few, length-append files more);
   each = λ i file zone at ready_at.
       let few = are.few in
@@ -67,9 +71,10 @@ files_added files more ready are = record {
 }
 
 -- the files stay ready as texts and tables are added
-pub ready_as_more : (files : List File) (old new : Ready) → new.zones.items ≡ old.zones.items → Keeps old.texts new.texts → Keeps old.tables new.tables
+pub ready_as_more : (files : List File) (old new : Ready) → new.names ≡ old.names → new.zones.items ≡ old.zones.items → Keeps old.texts new.texts → Keeps old.tables new.tables
     → AreReady files old → AreReady files new
-ready_as_more files old new same texts tables are = record {
+ready_as_more files old new named same texts tables are = record {
+  names = subst (λ (l : List (List ℕ)). AreNamesOf files l) (sym named) are.names;
   few = rw same are.few;
   each = λ i file zone at ready_at.
       let before : slice_get old.zones.items i ≡ Some zone = ap (λ (l : List ReadyZone). slice_get l i) (sym same) ∙ ready_at in
@@ -77,10 +82,11 @@ ready_as_more files old new same texts tables are = record {
 }
 
 -- one file more is ready
-pub ready_added : (files : List File) (old new : Ready) (zone : ReadyZone) (content : Content) → new.zones.items ≡ old.zones.items ++ zone ∷ []
+pub ready_added : (files : List File) (old new : Ready) (zone : ReadyZone) (content : Content) → new.names ≡ old.names → new.zones.items ≡ old.zones.items ++ zone ∷ []
     → new.texts ≡ old.texts → new.tables ≡ old.tables → length old.zones.items < length files
     → IfSome (slice_get files (length old.zones.items)) (λ file. content ≡ file.image.content) → IsReadyZone content new.texts new.tables zone → AreReady files old → AreReady files new
-ready_added files old new zone content pushed texts tables lt is made are = record {
+ready_added files old new zone content named pushed texts tables lt is made are = record {
+  names = subst (λ (l : List (List ℕ)). AreNamesOf files l) (sym named) are.names;
   few = rw pushed (omega (arith, lt, length-append old.zones.items (zone ∷ [])));
   each = λ i file one at ready_at.
       let more : slice_get (old.zones.items ++ zone ∷ []) i ≡ Some one = ap (λ (l : List ReadyZone). slice_get l i) (sym pushed) ∙ ready_at in

@@ -1,11 +1,12 @@
 //! What is made ready of files before rows are made.
 
-ghost use Rattle.std.specs.Prelude.{◌≡◌, ◌<◌, List, [], IfOk, IfSome, length};
+ghost use Rattle.std.specs.Prelude.{◌≡◌, ◌<◌, ◌≤◌, List, [], IfOk, IfSome, length, slice_range};
 ghost use Rattle.zic_files.specs.File.{File};
 ghost use Rattle.zic_zones.specs.Zones.{AnswersAt};
-ghost use Rattle.zic_zones.specs.code.Ready.{AreReady, IsReadyZone, IsTextOf};
+ghost use Rattle.zic_zones.specs.code.Ready.{AreReady, IsFileOf, IsReadyZone, IsTextOf};
 ghost use Rattle.zic_zones.specs.code.Texts.{Keeps};
 
+use crate::name_keys::NameKeys;
 use crate::tables::Tables;
 use crate::texts::Texts;
 use std::alloc::{AllocError, Global};
@@ -24,9 +25,10 @@ struct ReadyZone {
 }
 
 /// The texts of the states that files show, made once for all rows, and tables of the states by
-/// instants.
+/// instants and of the files by name.
 #[derive(Drop)]
 pub(crate) struct Ready {
+    names: NameKeys,
     texts: Texts,
     tables: Tables,
     /// By the number of the file.
@@ -39,6 +41,7 @@ impl Ready {
         ensures { (files : List File) → AreReady files result }
     {
         Ready {
+            names: NameKeys::new(alloc),
             texts: Texts::new(alloc),
             tables: Tables::new(alloc),
             zones: Vec::new(alloc),
@@ -50,6 +53,7 @@ impl Ready {
         requires { AreReady files.now self.old }
         ensures { AreReady files.now self.new }
     {
+        self.names.extend(alloc, files)?;
         for file in self.zones.len()..files.len() {
             let zone = self.zone(alloc, files.zone(file))?;
             self.zones.push(zone)?;
@@ -59,6 +63,7 @@ impl Ready {
 
     /// Makes a zone ready.
     fn zone(&mut self, alloc: Global, zone: &Zone) -> Result<ReadyZone, AllocError>
+        ensures names { self.new.names ≡ self.old.names }
         ensures zones { self.new.zones ≡ self.old.zones }
         ensures texts { Keeps self.old.texts self.new.texts }
         ensures tables { Keeps self.old.tables self.new.tables }
@@ -68,6 +73,17 @@ impl Ready {
         let first = self.tables.add(alloc, zone, &numbers, FIRST_BASE)?;
         let tables = [first, None, None, None];
         Ok(ReadyZone { numbers, tables })
+    }
+
+    /// Returns the number of the file that a part of some bytes names, if it is at hand.
+    #[inline(always)]
+    pub(crate) fn quick_number(&self, bytes: &[u8], start: usize, end: usize) -> Option<usize>
+        requires order { start ≤ end }
+        requires within { end ≤ length bytes.now }
+        ensures { (files : List File) → AreReady files self.now
+            → IfSome result (IsFileOf files (slice_range bytes.now start end)) }
+    {
+        self.names.quick(bytes, start, end)
     }
 
     /// Returns the text of a state of a file, by their numbers, where one was made.

@@ -65,7 +65,11 @@ impl<'a> RowZones<'a> {
         requires within { end ≤ length bytes.now }
         ensures { result ≡ number_of self.now (slice_range bytes.now start end) }
     {
-        self.find(&bytes[start..end])
+        self.are_sound();
+        match self.ready.quick_number(bytes, start, end) {
+            Some(number) => Some(number),
+            None => self.find(&bytes[start..end]),
+        }
     }
 
     /// Returns the name of a file, by its number.

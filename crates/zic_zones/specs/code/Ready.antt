@@ -1,5 +1,5 @@
 -- What is made ready of files before rows are made.
-use Rattle.std.specs.Prelude.{◌≡◌, ◌≤◌, ℕ, ℤ, List, length, Some, None, IfSome, slice_get, slice_index_or}
+use Rattle.std.specs.Prelude.{◌≡◌, ◌≤◌, ℕ, ℤ, List, length, Some, None, IfSome, IsSomeAnd, slice_get, slice_index_or}
 use Rattle.zic_base.specs.State.{Shown}
 use Rattle.zic_files.specs.File.{File}
 use Rattle.zic_slots.specs.Places.{base_of}
@@ -7,6 +7,7 @@ use Rattle.zic_slots.specs.declared.slot.Slot.{Slot}
 use Rattle.zic_tzif.specs.Answer.{Answers}
 use Rattle.zic_tzif.specs.Content.{Content}
 use Rattle.zic_tzif.specs.States.{IsStateOfNumber}
+use Rattle.zic_zones.specs.code.NameKeys.{AreNamesOf}
 use Rattle.zic_zones.specs.code.Tables.{IsTable}
 use Rattle.zic_zones.specs.code.Texts.{AreNumbersOf}
 use Rattle.zic_zones.specs.declared.ready.Ready.{Ready}
@@ -21,8 +22,9 @@ pub record IsReadyZone (content : Content) (texts : List Shown) (slots : List Sl
   pub numbers : AreNumbersOf content texts zone.numbers.items
   pub tables : (era start : ℕ) → slice_index_or zone.tables era None ≡ Some start → IsTable texts slots (AnswersState content) (base_of era) start
 
--- The first files are ready.
+-- The first files are ready, and their names.
 pub record AreReady (files : List File) (ready : Ready) : Type 0 where
+  pub names : AreNamesOf files ready.names
   pub few : length ready.zones.items ≤ length files
   pub each : (i : ℕ) (file : File) (zone : ReadyZone) → slice_get files i ≡ Some file → slice_get ready.zones.items i ≡ Some zone
       → IsReadyZone file.image.content ready.texts ready.tables zone
@@ -30,3 +32,7 @@ pub record AreReady (files : List File) (ready : Ready) : Type 0 where
 -- the file of this number has this state, by the state's number
 abbrev pub IsTextOf : List File → ℕ → ℕ → Shown → Type 0
 IsTextOf files file number state = IfSome (slice_get files file) (λ f. IsStateOfNumber f.image.content number state)
+
+-- the file of this number has the name
+abbrev pub IsFileOf : List File → List ℕ → ℕ → Type 0
+IsFileOf files name number = IsSomeAnd (slice_get files number) (λ file. file.name ≡ name)

@@ -8,14 +8,14 @@ pub returns-in_err-zone : goal.returns-in_err-zone
 returns-in_err-zone c =
     let made = c.zone-in-loop-file in
     let same = ap (λ (v : _). v.items) made.ensures.zones in
-    ready_as_more c.args.files.now c.loop-file.self made.new.self same made.ensures.texts made.ensures.tables c.loop-file.invariant.are
+    ready_as_more c.args.files.now c.loop-file.self made.new.self made.ensures.names same made.ensures.texts made.ensures.tables c.loop-file.invariant.are
 
 pub returns-in_err-push : goal.returns-in_err-push
 returns-in_err-push c =
     let made = c.zone-in-loop-file in
     let same = ap (λ (v : _). v.items) made.ensures.zones in
-    let new : Ready = record { texts = made.new.self.texts; tables = made.new.self.tables; zones = c.push.new.self } in
-    ready_as_more c.args.files.now c.loop-file.self new (c.in_err-push.ensures.items ∙ same) made.ensures.texts made.ensures.tables c.loop-file.invariant.are
+    let new : Ready = record { names = made.new.self.names; texts = made.new.self.texts; tables = made.new.self.tables; zones = c.push.new.self } in
+    ready_as_more c.args.files.now c.loop-file.self new made.ensures.names (c.in_err-push.ensures.items ∙ same) made.ensures.texts made.ensures.tables c.loop-file.invariant.are
 
 pub loop-file-preserved : goal.loop-file-preserved
 loop-file-preserved c =
@@ -23,8 +23,8 @@ loop-file-preserved c =
     let made = c.zone-in-loop-file in
     let same = ap (λ (v : _). v.items) made.ensures.zones in
     let mid = made.new.self in
-    let new : Ready = record { texts = mid.texts; tables = mid.tables; zones = c.push.new.self } in
-    let are = ready_as_more files c.loop-file.self mid same made.ensures.texts made.ensures.tables c.loop-file.invariant.are in
+    let new : Ready = record { names = mid.names; texts = mid.texts; tables = mid.tables; zones = c.push.new.self } in
+    let are = ready_as_more files c.loop-file.self mid made.ensures.names same made.ensures.texts made.ensures.tables c.loop-file.invariant.are in
     let zone = c.in_ok-zone.zone in
     let long : length mid.zones.items ≡ c.loop-file.file = ap length same ∙ c.loop-file.invariant.long in
     let pushed : c.push.new.self.items ≡ mid.zones.items ++ zone ∷ [] = c.in_ok-push.ensures.items in
@@ -32,5 +32,5 @@ loop-file-preserved c =
     let at = subst (λ (i : ℕ). IfSome (slice_get files i) (λ file. c.zone.result.now ≡ file.image.content)) (sym long) c.zone.ensures.zone in
     record {
       long = rw pushed (omega (arith, length-append mid.zones.items (zone ∷ []), long));
-      are = ready_added files mid new zone c.zone.result.now pushed refl refl within at c.in_ok-zone.ensures.ready are;
+      are = ready_added files mid new zone c.zone.result.now refl pushed refl refl within at c.in_ok-zone.ensures.ready are;
     }
