@@ -20,6 +20,8 @@ mod files;
 #[cfg(test)]
 mod pieces;
 #[cfg(test)]
+mod rows;
+#[cfg(test)]
 mod samples;
 #[cfg(test)]
 mod splits;
