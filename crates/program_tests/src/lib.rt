@@ -22,6 +22,8 @@ mod names;
 #[cfg(test)]
 mod pieces;
 #[cfg(test)]
+mod rows;
+#[cfg(test)]
 mod samples;
 #[cfg(test)]
 mod splits;
