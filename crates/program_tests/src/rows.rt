@@ -135,3 +135,11 @@ fn what_is_no_quick_time(rt: HostRuntime) {
         expect(&rt, time.is_none(), "no quick time");
     }
 }
+
+#[test]
+fn commas_make_way_for_another_delimiter(rt: HostRuntime) {
+    let mut text = RowText::new(rt.alloc());
+    must(&rt, text.push(b"a,b;c\nd,e;f\n"));
+    text.exchange(6, b';');
+    expect_text(&rt, text.bytes(), b"a,b;c\nd;e,f\n", "the second line");
+}

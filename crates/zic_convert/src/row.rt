@@ -263,6 +263,7 @@ impl Rows {
     /// Adds the row of a record, whose zone has this file, or the fault that ends the run there: check
     /// by check, whatever the record has. The record has the delimiter and the comma in each other's
     /// place.
+    #[inline(never)]
     fn add_checked(
         &mut self,
         piece: &Piece<'_, '_>,
