@@ -25,3 +25,5 @@ pub mod OwnRecords
 pub mod Spans
 pub mod WalkFacts
 pub mod SplitFacts
+pub mod LowestBit
+pub mod EndsFacts

@@ -1,4 +1,4 @@
--- Masks of 32 bytes.
+-- Masks of bytes.
 use Rattle.std.proofs.Common.{◌≡◌, ℕ, ◌+◌, ◌-◌, ◌*◌, ◌%◌, ◌^◌, ◌<◌, ◌≤◌, ◌==◌, ◌||◌, ◌&&◌, not, Bool, true, false, cond, eqb, List, [], ◌∷◌, map, length, get_or, replicate, Some, inl, inr, ◌⊎◌, refl, sym, ap, ap₂, subst, ◌∙◌, arith, w64, bit_and, bit_or}
 use Rattle.std.specs.Int.{bit_at, trailing_zeros}
 use mir.Val.{bool_byte}
@@ -24,7 +24,7 @@ map_same f g same [] = refl
 map_same f g same (x ∷ xs) = ap₂ (λ a b. a ∷ b) (same x) (map_same f g same xs)
 
 -- lanes that were computed from a block, as a mask
-mask_of : (lane : ℕ → ℕ) (test : ℕ → Bool) → ((x : ℕ) → top 7 (lane x) ≡ test x) → (block lanes : List ℕ) → length block ≡ 32 → lanes ≡ map lane block
+mask_of : (lane : ℕ → ℕ) (test : ℕ → Bool) → ((x : ℕ) → top 7 (lane x) ≡ test x) → (block lanes : List ℕ) → length block ≤ 64 → lanes ≡ map lane block
     → mask_l (map (top 7) lanes) % 2 ^ 64 ≡ mask_l (map test block)
 mask_of lane test same block lanes long are =
     ap (λ l. mask_l (map (top 7) l) % 2 ^ 64) are ∙ ap (λ l. mask_l l % 2 ^ 64) (map-map (top 7) lane block ∙ map_same (λ x. top 7 (lane x)) test same block)
@@ -46,42 +46,46 @@ top_any false true false = refl
 top_any false false true = refl
 top_any false false false = refl
 
-module _ (bytes : List ℕ) (at : ℕ) (within : at + 32 ≤ length bytes) where
-  block_long : length (chunk at 32 bytes) ≡ 32
-  block_long = length-chunk at 32 bytes within
+module _ (size : ℕ) (small : size ≤ 64) (bytes : List ℕ) (at : ℕ) (within : at + size ≤ length bytes) where
+  block_long : length (chunk at size bytes) ≡ size
+  block_long = length-chunk at size bytes within
 
-  equal_lanes : (byte : ℕ) → zip2 hit (chunk at 32 bytes) (replicate 32 byte) ≡ map (λ x. hit x byte) (chunk at 32 bytes)
-  equal_lanes byte = zip2_splat hit (chunk at 32 bytes) 32 byte block_long
+  few : length (chunk at size bytes) ≤ 64
+  few = omega (arith, block_long, small)
 
-  either_lanes : zip2 bit_or (zip2 hit (chunk at 32 bytes) (replicate 32 13)) (zip2 hit (chunk at 32 bytes) (replicate 32 10))
-      ≡ map (λ x. bit_or (hit x 13) (hit x 10)) (chunk at 32 bytes)
-  either_lanes = zip2_of_maps bit_or (λ x. hit x 13) (λ x. hit x 10) (chunk at 32 bytes) (equal_lanes 13) (equal_lanes 10)
+  equal_lanes : (byte : ℕ) → zip2 hit (chunk at size bytes) (replicate size byte) ≡ map (λ x. hit x byte) (chunk at size bytes)
+  equal_lanes byte = zip2_splat hit (chunk at size bytes) size byte block_long
 
-  comma_lanes : zip2 bit_or (zip2 hit (chunk at 32 bytes) (replicate 32 44)) (zip2 hit (chunk at 32 bytes) (replicate 32 13))
-      ≡ map (λ x. bit_or (hit x 44) (hit x 13)) (chunk at 32 bytes)
-  comma_lanes = zip2_of_maps bit_or (λ x. hit x 44) (λ x. hit x 13) (chunk at 32 bytes) (equal_lanes 44) (equal_lanes 13)
+  either_lanes : zip2 bit_or (zip2 hit (chunk at size bytes) (replicate size 13)) (zip2 hit (chunk at size bytes) (replicate size 10))
+      ≡ map (λ x. bit_or (hit x 13) (hit x 10)) (chunk at size bytes)
+  either_lanes = zip2_of_maps bit_or (λ x. hit x 13) (λ x. hit x 10) (chunk at size bytes) (equal_lanes 13) (equal_lanes 10)
 
-  any_lanes : zip2 bit_or (zip2 bit_or (zip2 hit (chunk at 32 bytes) (replicate 32 44)) (zip2 hit (chunk at 32 bytes) (replicate 32 13))) (zip2 hit (chunk at 32 bytes) (replicate 32 10))
-      ≡ map (λ x. bit_or (bit_or (hit x 44) (hit x 13)) (hit x 10)) (chunk at 32 bytes)
-  any_lanes = zip2_of_maps bit_or (λ x. bit_or (hit x 44) (hit x 13)) (λ x. hit x 10) (chunk at 32 bytes) comma_lanes (equal_lanes 10)
+  comma_lanes : zip2 bit_or (zip2 hit (chunk at size bytes) (replicate size 44)) (zip2 hit (chunk at size bytes) (replicate size 13))
+      ≡ map (λ x. bit_or (hit x 44) (hit x 13)) (chunk at size bytes)
+  comma_lanes = zip2_of_maps bit_or (λ x. hit x 44) (λ x. hit x 13) (chunk at size bytes) (equal_lanes 44) (equal_lanes 13)
 
-  pub quotes_mask : mask_l (map (top 7) (zip2 hit (chunk at 32 bytes) (replicate 32 34))) % 2 ^ 64 ≡ mask_at (λ byte. byte == 34) bytes at
-  quotes_mask = mask_of (λ x. hit x 34) (λ x. x == 34) (λ x. top_one (x == 34)) (chunk at 32 bytes) _ block_long (equal_lanes 34)
+  any_lanes : zip2 bit_or (zip2 bit_or (zip2 hit (chunk at size bytes) (replicate size 44)) (zip2 hit (chunk at size bytes) (replicate size 13))) (zip2 hit (chunk at size bytes) (replicate size 10))
+      ≡ map (λ x. bit_or (bit_or (hit x 44) (hit x 13)) (hit x 10)) (chunk at size bytes)
+  any_lanes = zip2_of_maps bit_or (λ x. bit_or (hit x 44) (hit x 13)) (λ x. hit x 10) (chunk at size bytes) comma_lanes (equal_lanes 10)
+
+  pub quotes_mask : mask_l (map (top 7) (zip2 hit (chunk at size bytes) (replicate size 34))) % 2 ^ 64 ≡ mask_l (map (λ byte. byte == 34) (chunk at size bytes))
+  quotes_mask = mask_of (λ x. hit x 34) (λ x. x == 34) (λ x. top_one (x == 34)) (chunk at size bytes) _ few (equal_lanes 34)
     where
       top_one : (a : Bool) → top 7 (cond a 255 0) ≡ a
       top_one true = refl
       top_one false = refl
 
-  pub line_ends_mask : mask_l (map (top 7) (zip2 bit_or (zip2 hit (chunk at 32 bytes) (replicate 32 13)) (zip2 hit (chunk at 32 bytes) (replicate 32 10)))) % 2 ^ 64
-      ≡ mask_at ends_line bytes at
-  line_ends_mask = mask_of (λ x. bit_or (hit x 13) (hit x 10)) ends_line (λ x. top_either (x == 13) (x == 10)) (chunk at 32 bytes) _ block_long either_lanes
+  pub line_ends_mask : mask_l (map (top 7) (zip2 bit_or (zip2 hit (chunk at size bytes) (replicate size 13)) (zip2 hit (chunk at size bytes) (replicate size 10)))) % 2 ^ 64
+      ≡ mask_l (map ends_line (chunk at size bytes))
+  line_ends_mask = mask_of (λ x. bit_or (hit x 13) (hit x 10)) ends_line (λ x. top_either (x == 13) (x == 10)) (chunk at size bytes) _ few either_lanes
 
-  pub field_ends_mask : mask_l (map (top 7) (zip2 bit_or (zip2 bit_or (zip2 hit (chunk at 32 bytes) (replicate 32 44)) (zip2 hit (chunk at 32 bytes) (replicate 32 13))) (zip2 hit (chunk at 32 bytes) (replicate 32 10)))) % 2 ^ 64
-      ≡ mask_at ends_field bytes at
-  field_ends_mask = mask_of (λ x. bit_or (bit_or (hit x 44) (hit x 13)) (hit x 10)) ends_field (λ x. top_any (x == 44) (x == 13) (x == 10)) (chunk at 32 bytes) _ block_long any_lanes
+  pub field_ends_mask : mask_l (map (top 7) (zip2 bit_or (zip2 bit_or (zip2 hit (chunk at size bytes) (replicate size 44)) (zip2 hit (chunk at size bytes) (replicate size 13))) (zip2 hit (chunk at size bytes) (replicate size 10)))) % 2 ^ 64
+      ≡ mask_l (map ends_field (chunk at size bytes))
+  field_ends_mask = mask_of (λ x. bit_or (bit_or (hit x 44) (hit x 13)) (hit x 10)) ends_field (λ x. top_any (x == 44) (x == 13) (x == 10)) (chunk at size bytes) _ few any_lanes
 
+module _ (bytes : List ℕ) (at : ℕ) (within : at + 32 ≤ length bytes) where
   pub mask_small : (test : ℕ → Bool) → mask_at test bytes at < 2 ^ 32
-  mask_small test = let size = length-map (chunk at 32 bytes) test ∙ block_long in rw size at (mask_l-lt (map test (chunk at 32 bytes)))
+  mask_small test = let size = length-map (chunk at 32 bytes) test ∙ length-chunk at 32 bytes within in rw size at (mask_l-lt (map test (chunk at 32 bytes)))
 
 -- ---- from a mask to bytes
 
@@ -93,27 +97,30 @@ zero_tells : (b : Bool) → cond {A = ℕ} b 1 0 ≡ 0 → b ≡ false
 zero_tells true none = absurd (omega (arith, none))
 zero_tells false none = refl
 
-module _ (test : ℕ → Bool) (bytes : List ℕ) (at : ℕ) (within : at + 32 ≤ length bytes) (k : ℕ) where
-  bit_is : k < 32 → get_or (map test (chunk at 32 bytes)) k false ≡ test (get_or bytes (at + k) 0)
+module _ (size : ℕ) (test : ℕ → Bool) (bytes : List ℕ) (at : ℕ) (within : at + size ≤ length bytes) (k : ℕ) where
+  bit_is : k < size → get_or (map test (chunk at size bytes)) k false ≡ test (get_or bytes (at + k) 0)
   bit_is below =
-      get_or-map test (chunk at 32 bytes) k 0 false (omega (arith, length-chunk at 32 bytes within, below))
-      ∙ ap test (get_or-chunk at 32 bytes k 0 below)
+      get_or-map test (chunk at size bytes) k 0 false (omega (arith, length-chunk at size bytes within, below))
+      ∙ ap test (get_or-chunk at size bytes k 0 below)
 
-  pub bit_within : bit_at (mask_at test bytes at) k ≡ 1 → k < 32
-  bit_within one = in_range (cases_lt k 32)
+  pub bit_within : bit_at (mask_l (map test (chunk at size bytes))) k ≡ 1 → k < size
+  bit_within one = in_range (cases_lt k size)
     where
-      set : get_or (map test (chunk at 32 bytes)) k false ≡ true
-      set = one_tells _ (sym (bit_mask_l (map test (chunk at 32 bytes)) k) ∙ one)
+      set : get_or (map test (chunk at size bytes)) k false ≡ true
+      set = one_tells _ (sym (bit_mask_l (map test (chunk at size bytes)) k) ∙ one)
 
-      in_range : (k < 32) ⊎ (32 ≤ k) → k < 32
+      in_range : (k < size) ⊎ (size ≤ k) → k < size
       in_range (inl below) = below
-      in_range (inr past) = absurd (let none = get_or_past (map test (chunk at 32 bytes)) k false (omega (arith, past, length-map (chunk at 32 bytes) test, length-chunk at 32 bytes within)) in cc (none, set))
+      in_range (inr past) = absurd (let none = get_or_past (map test (chunk at size bytes)) k false (omega (arith, past, length-map (chunk at size bytes) test, length-chunk at size bytes within)) in cc (none, set))
 
-  pub bit_set : bit_at (mask_at test bytes at) k ≡ 1 → test (get_or bytes (at + k) 0) ≡ true
-  bit_set one = sym (bit_is (bit_within one)) ∙ one_tells _ (sym (bit_mask_l (map test (chunk at 32 bytes)) k) ∙ one)
+  pub bit_set : bit_at (mask_l (map test (chunk at size bytes))) k ≡ 1 → test (get_or bytes (at + k) 0) ≡ true
+  bit_set one = sym (bit_is (bit_within one)) ∙ one_tells _ (sym (bit_mask_l (map test (chunk at size bytes)) k) ∙ one)
 
-  pub bit_clear : k < 32 → bit_at (mask_at test bytes at) k ≡ 0 → test (get_or bytes (at + k) 0) ≡ false
-  bit_clear below none = sym (bit_is below) ∙ zero_tells _ (sym (bit_mask_l (map test (chunk at 32 bytes)) k) ∙ none)
+  pub bit_clear : k < size → bit_at (mask_l (map test (chunk at size bytes))) k ≡ 0 → test (get_or bytes (at + k) 0) ≡ false
+  bit_clear below none = sym (bit_is below) ∙ zero_tells _ (sym (bit_mask_l (map test (chunk at size bytes)) k) ∙ none)
+
+  pub bit_found : k < size → test (get_or bytes (at + k) 0) ≡ true → bit_at (mask_l (map test (chunk at size bytes))) k ≡ 1
+  bit_found below passes = bit_mask_l (map test (chunk at size bytes)) k ∙ ap (λ (b : Bool). cond {A = ℕ} b 1 0) (bit_is below ∙ passes)
 
 -- the lowest bit of a mask shows the first byte that passes the test
 pub first_in_mask : (test : ℕ → Bool) (bytes : List ℕ) (at : ℕ) → at + 32 ≤ length bytes → 0 < mask_at test bytes at
@@ -122,16 +129,16 @@ first_in_mask test bytes at within some =
     let mask = mask_at test bytes at in
     let lowest = bit_at-trailing_zeros w64 mask some (omega (arith, mask_small bytes at within test)) in
     let k = trailing_zeros w64 mask in
-    let below : k < 32 = bit_within test bytes at within k lowest.1 in (
+    let below : k < 32 = bit_within 32 test bytes at within k lowest.1 in (
       record {
         low = omega arith;
         high = omega (arith, below, within);
         before = λ j from lt passes.
             let place : at + (j - at) ≡ j = omega (arith, from) in
-            let clear = bit_clear test bytes at within (j - at) (omega (arith, lt, below)) (lowest.2 (j - at) (omega (arith, lt, from))) in
+            let clear = bit_clear 32 test bytes at within (j - at) (omega (arith, lt, below)) (lowest.2 (j - at) (omega (arith, lt, from))) in
             absurd (both_ways (test (get_or bytes j 0)) (subst (λ (i : ℕ). test (get_or bytes i 0) ≡ false) place clear) passes);
       },
-      bit_set test bytes at within k lowest.1,
+      bit_set 32 test bytes at within k lowest.1,
     )
 
 -- an empty mask shows that no byte is a double quote

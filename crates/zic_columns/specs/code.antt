@@ -3,12 +3,14 @@ pub mod Block
 pub mod Bounded
 pub mod Cut
 pub mod Cutting
+pub mod Ends
 pub mod Field
 pub mod Hand
 pub mod Line
 pub mod Machine
 pub mod Mark
 pub mod Own
+pub mod Plain
 pub mod Quote
 pub mod Range
 pub mod Walk

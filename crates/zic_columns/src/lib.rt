@@ -10,7 +10,9 @@
 mod blocks;
 mod buffer;
 mod columns;
+mod cursor;
 mod delimiter;
+mod ends;
 mod fields;
 mod first;
 mod hand;
@@ -21,6 +23,7 @@ mod machine;
 mod mark;
 mod own;
 mod pieces;
+mod plain;
 mod quote;
 mod rounds;
 mod splits;

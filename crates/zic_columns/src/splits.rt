@@ -1,13 +1,12 @@
 //! The records of a piece, some at a time.
 
-ghost use Rattle.std.specs.Prelude.{◌≡◌, ◌++◌, ◌+◌, ◌<◌, ◌≤◌, [], All, length, map, take};
+ghost use Rattle.std.specs.Prelude.{◌≡◌, ◌++◌, ◌+◌, ◌<◌, ◌≤◌, [], All, drop, length, map, take};
 ghost use Rattle.zic_columns.specs.Own.{whole_records};
 ghost use Rattle.zic_columns.specs.Record.{IsSplit, record_at};
-ghost use Rattle.zic_columns.specs.code.Walk.{IsNext};
+ghost use Rattle.zic_columns.specs.code.Ends.{ShowsEnds};
 
+use crate::cursor::Cursor;
 use crate::fields::{Record, Wanted};
-use crate::line::after_line_ends;
-use crate::walk::split_record;
 use std::marker::Model;
 
 /// The most records that are split together.
@@ -66,32 +65,36 @@ impl<'a> Splitter<'a> {
         ensures each { All (IsSplit self.old.piece self.old.wanted) (take result records.new) }
         ensures end { result < BATCH → self.new.left ≡ [] }
     {
+        let mut cursor = Cursor::new(self.at);
+        let count = Splitter::split_on(self.bytes, self.fields, &mut cursor, records);
+        self.at = cursor.at;
+        count
+    }
+
+    /// Splits the next records of a piece, at most `BATCH`, and returns their number.
+    fn split_on(
+        piece: &[u8],
+        wanted: Wanted,
+        cursor: &mut Cursor,
+        records: &mut [Record; BATCH],
+    ) -> usize
+        requires { ShowsEnds piece.now cursor.old.at cursor.old.ends }
+        ensures shows { ShowsEnds piece.now cursor.new.at cursor.new.ends }
+        ensures few { result ≤ BATCH }
+        ensures long { length records.new ≡ BATCH }
+        ensures split { whole_records (drop cursor.old.at piece.now) ≡ map (record_at piece.now)
+            (take result records.new) ++ whole_records (drop cursor.new.at piece.now) }
+        ensures each { All (IsSplit piece.now wanted) (take result records.new) }
+        ensures end { result < BATCH → whole_records (drop cursor.new.at piece.now) ≡ [] }
+    {
         let mut count = 0;
         while count < BATCH {
-            let Some(given) = self.next_record() else {
+            let Some(given) = cursor.next_record(piece, wanted) else {
                 return count;
             };
             records[count] = given;
             count += 1;
         }
         count
-    }
-
-    /// Splits the next record, if there is one.
-    #[inline(always)]
-    fn next_record(&mut self) -> Option<Record>
-        ensures piece { self.new.piece ≡ self.old.piece }
-        ensures wanted { self.new.wanted ≡ self.old.wanted }
-        ensures next { IsNext self.old result self.new }
-    {
-        let rest = after_line_ends(&self.bytes[self.at..]);
-        let start = self.bytes.len() - rest.len();
-        if rest.is_empty() {
-            self.at = start;
-            return None;
-        }
-        let given = split_record(self.bytes, start, self.fields);
-        self.at = given.own.end;
-        Some(given)
     }
 }

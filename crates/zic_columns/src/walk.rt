@@ -6,7 +6,7 @@ ghost use Rattle.zic_columns.specs.Record.{StandsIn, field_text};
 ghost use Rattle.zic_columns.specs.code.Field.{IsFieldAt};
 ghost use Rattle.zic_columns.specs.code.Machine.{BeginsRecord, IsEndOfRecord, ReadsTo, state_at};
 ghost use Rattle.zic_columns.specs.code.Own.{IsOwnLen};
-ghost use Rattle.zic_columns.specs.code.Walk.{HasFields, IsFieldEnd, IsQuoteAt, IsRecordFrom};
+ghost use Rattle.zic_columns.specs.code.Walk.{HasFields, HasWalked, IsFieldEnd, IsQuoteAt, IsRecordFrom};
 ghost use Rattle.zic_columns.specs.declared.machine.Place.TheVariants as place;
 
 use crate::blocks::{near_field_end, near_quote};
@@ -20,6 +20,13 @@ use memchr::{memchr, memchr3};
 pub(crate) struct FoundField {
     field: Field,
     stop: usize,
+}
+
+/// A record whose first fields were read, and the index at which the next one begins.
+#[derive(Clone, Copy, Drop)]
+pub(crate) struct Begun {
+    pub(crate) given: Record,
+    pub(crate) at: usize,
 }
 
 /// Returns the index of the first double quote.
@@ -128,20 +135,15 @@ fn with_field(given: Record, field: Field, wanted: Wanted) -> Record
     }
 }
 
-/// Splits the record that begins at an index.
+/// Splits the rest of a record, whose next field begins at an index.
 #[inline(always)]
-pub(crate) fn split_record(piece: &[u8], start: usize, wanted: Wanted) -> Record
-    requires { BeginsRecord (drop start piece.now) }
-    ensures { IsRecordFrom piece.now start wanted result }
+pub(crate) fn split_rest(piece: &[u8], begun: Begun, wanted: Wanted) -> Record
+    requires begins { BeginsRecord (drop begun.given.own.start piece.now) }
+    requires walked { HasWalked piece.now begun.given.own.start wanted begun.given begun.at }
+    ensures { IsRecordFrom piece.now begun.given.own.start wanted result }
 {
-    let own = Span { start, end: start };
-    let mut given = Record {
-        own,
-        count: 0,
-        zone: Field::Plain(own),
-        time: Field::Plain(own),
-    };
-    let mut at = start;
+    let mut given = begun.given;
+    let mut at = begun.at;
     loop {
         let found = next_field(piece, at);
         given = with_field(given, found.field, wanted);
@@ -151,6 +153,22 @@ pub(crate) fn split_record(piece: &[u8], start: usize, wanted: Wanted) -> Record
         }
         at = found.stop + 1;
     }
+}
+
+/// Splits the record that begins at an index.
+#[inline(always)]
+pub(crate) fn split_record(piece: &[u8], start: usize, wanted: Wanted) -> Record
+    requires { BeginsRecord (drop start piece.now) }
+    ensures { IsRecordFrom piece.now start wanted result }
+{
+    let own = Span { start, end: start };
+    let given = Record {
+        own,
+        count: 0,
+        zone: Field::Plain(own),
+        time: Field::Plain(own),
+    };
+    split_rest(piece, Begun { given, at: start }, wanted)
 }
 
 /// Returns the number of the own bytes of the record at the start of the bytes.

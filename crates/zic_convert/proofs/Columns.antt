@@ -1,14 +1,11 @@
 -- Columns of a batch, each filled by those before it.
-use Rattle.std.proofs.Common.{◌≡◌, ◌≢◌, ◌+◌, ◌<◌, ◌≤◌, ◌==◌, ◌∙◌, ℕ, suc, ℤ, List, [], ◌∷◌, ◌++◌, length, map, take, Option, Some, None, inl, inr, ap, ap₂, arith, refl, subst, sym, length-take-le}
+use Rattle.std.proofs.Common.{◌≡◌, ◌+◌, ◌<◌, ◌≤◌, ◌==◌, ◌∙◌, ℕ, suc, ℤ, List, [], ◌∷◌, ◌++◌, length, map, take, Option, Some, None, inl, inr, ap, ap₂, arith, subst, sym, length-take-le}
 use Rattle.std.specs.Prelude.{All, IfSome, bytes_eq, option_map, slice_get, slice_index_or}
 use Rattle.std.proofs.Math.ListN.{set}
 use Rattle.std.proofs.lemmas.Bool.{cases_Bool, cond_both, eqb-false, eqb-true}
 use Rattle.std.proofs.lemmas.List.{get_or-map, get_or-set_other, get_or-set_same, get_or-take, length-map, map-append, take_more, take_more_set}
 use Rattle.zic_columns.specs.Record.{IsSplit, field_text, record_at}
-use Rattle.zic_columns.specs.declared.fields.Field.TheVariants.{Plain}
 use Rattle.zic_columns.specs.declared.fields.Record.{Record}
-use Rattle.zic_columns.specs.declared.fields.Span.{Span}
-use Rattle.zic_columns.specs.declared.fields.Wanted.{Wanted}
 use Rattle.zic_files.specs.File.{File}
 use Rattle.zic_rows.specs.Count.{count_of}
 use Rattle.zic_base.specs.State.{Shown}
@@ -18,14 +15,8 @@ use Rattle.zic_tzif.specs.Answer.{Answers, AnswersThroughout}
 use Rattle.zic_tzif.specs.States.{IsStateOfNumber}
 use Rattle.zic_zones.specs.Zones.{ShowsThroughout, number_of, zone_in}
 use Rattle.zic_zones.specs.declared.row_zones.RowSpan.{RowSpan}
-use Rattle.zic_convert.specs.code.Batch.{AreStates, IsFile, IsStateFor, count_at, wanted_by, zone_at}
+use Rattle.zic_convert.specs.code.Batch.{IsFile, IsStateFor, blank, count_at, wanted_by, zone_at}
 use Rattle.zic_convert.specs.declared.piece.Piece.{Piece}
-
--- a record of no bytes
-abbrev pub blank : Record
-blank = record { own = nowhere; count = 0; zone = Plain nowhere; time = Plain nowhere } where
-  nowhere : Span
-  nowhere = record { start = 0; end = 0 }
 
 -- a column that is filled one place further
 pub filled : {A B : Type 0} (f : A → B) (a : List A) (b : List B) (i : ℕ) (d : A) (v : B) → i < length a → i < length b
@@ -48,18 +39,17 @@ one_told {A} {B} f a b count i d e few lt are =
     let within : i < length (take count a) = omega (arith, length-take-le count a few, lt) in
     sym (get_or-take count b i e lt) ∙ ap (λ (l : List B). slice_index_or l i e) are ∙ get_or-map f (take count a) i d e within ∙ ap f (get_or-take count a i d lt)
 
--- the states of one record more
-pub states_filled : (piece : Piece) (i : ℕ) (zones : List (Option ℕ)) (counts : List (Option ℤ)) (states : List ℕ) (v : ℕ) → i < length states
-    → AreStates piece i zones counts states → IsStateFor piece (slice_index_or zones i None) (slice_index_or counts i None) v → AreStates piece (i + 1) zones counts (set states i v)
-states_filled piece i zones counts states v within are is = λ j lt. elim (cases_Bool (j == i)) [
+-- what is told of each element of a column, with one more
+pub told_more : {A : Type 0} (Q : ℕ → Option A → Type 0) (i : ℕ) (xs : List (Option A)) (v : Option A) → i < length xs → ((j : ℕ) → j < i → Q j (slice_index_or xs j None)) → Q i v
+    → (j : ℕ) → j < i + 1 → Q j (slice_index_or (set xs i v) j None)
+told_more {A} Q i xs v within are is j lt = elim (cases_Bool (j == i)) [
   | inl same ↦
-      let e = eqb-true j i same in
-      let at = subst (λ (k : ℕ). slice_index_or (set states i v) k 0 ≡ v) (sym e) (get_or-set_same states i v 0 within) in
-      rw (at, e) is
+      subst (λ (k : ℕ). Q k (slice_index_or (set xs i v) k None)) (sym (eqb-true j i same))
+      (subst (Q i) (sym (get_or-set_same xs i v None within)) is)
   | inr other ↦
       let ne = eqb-false j i other in
       let before : j < i = omega (arith, lt, ne) in
-      rw (get_or-set_other states i j v 0 ne) (are j before)
+      subst (Q j) (sym (get_or-set_other xs i j v None ne)) (are j before)
 ]
 
 -- the field of a record's instant has its count

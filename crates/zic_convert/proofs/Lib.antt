@@ -28,3 +28,4 @@ pub mod Stops
 pub mod Totals
 pub mod Wholes
 pub mod Writings
+pub mod QuickRows

@@ -1,5 +1,5 @@
 -- How far the rows of a piece have been made.
-use Rattle.std.proofs.Common.{◌≡◌, ◌≤◌, ◌<◌, ◌+◌, ◌∙◌, ℕ, List, [], ◌∷◌, ◌++◌, length, map, take, Option, Some, None, All, ap, ap₂, append_assoc, arith, length-append, length-take-le, refl, sym, subst}
+use Rattle.std.proofs.Common.{◌≡◌, ◌≤◌, ◌<◌, ◌+◌, ◌∙◌, ℕ, List, [], ◌++◌, length, map, take, Option, Some, None, All, ap, ap₂, append_assoc, arith, length-append, length-take-le, refl, sym}
 use Rattle.std.specs.Prelude.{IsSome, false, is_some}
 use Rattle.std.proofs.lemmas.List.{append-nil, length-map, map-append}
 use Rattle.std.proofs.lemmas.Simd.{map-map}

@@ -1,5 +1,5 @@
 -- Records in which the delimiter and the comma stand in each other's place have the same rows.
-use Rattle.std.proofs.Common.{◌≡◌, ◌≢◌, ◌<◌, ◌==◌, ℕ, Bool, true, false, not, List, [], ◌∷◌, length, ◌++◌, map, drop, take, ℤ, Option, Some, None, inl, inr, refl, sym, ap, ap₂, subst, ◌∙◌, arith}
+use Rattle.std.proofs.Common.{◌≡◌, ◌≢◌, ◌<◌, ◌==◌, ℕ, Bool, true, false, not, List, [], ◌∷◌, length, ◌++◌, map, drop, take, ℤ, Some, None, inl, inr, refl, sym, ap, ap₂, subst, ◌∙◌, arith}
 use Rattle.std.proofs.Math.Seq.{drop-append_seam, take-append_seam}
 use Rattle.std.specs.Fmt.{signed_decimal}
 use Rattle.std.specs.Prelude.{All, Contains, bytes_eq, nat_le, slice_get, ◌&&◌, ◌||◌, if◌then◌else◌}
@@ -29,12 +29,11 @@ use Rattle.zic_plan.specs.declared.layout.RowStart.TheVariants as starts
 use Rattle.zic_plan.specs.declared.layout.Unit.{Unit}
 use Rattle.zic_plan.specs.declared.layout.ZoneFrom.{ZoneFrom}
 use Rattle.zic_plan.specs.declared.layout.ZoneFrom.TheVariants as zone
-use Rattle.zic_base.specs.declared.row_fault.RowKind.{RowKind}
 use Rattle.zic_rows.specs.Count.{count_of, counted_rest_text, second_of}
 use Rattle.zic_rows.specs.Instant.{decimal_value, number}
 use Rattle.zic_zones.specs.Zones.{AnswersAt, field_at, is_named, zone_in}
 use Rattle.zic_convert.specs.LayoutRows.{IsTextBy, beginning, count_in, fault_by, start_text}
-use Rattle.zic_convert.specs.code.Batch.{IsRowQuery, count_at, zone_at}
+use Rattle.zic_convert.specs.code.Batch.{IsRowQuery}
 use Rattle.zic_convert.specs.code.Row.{comma_start, put_back}
 use Rattle.zic_convert.specs.declared.piece.Piece.{Piece}
 use Rattle.zic_convert.specs.declared.row.RowQuery.{RowQuery}

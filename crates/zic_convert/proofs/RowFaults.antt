@@ -1,5 +1,5 @@
 -- The fault of a record's row, by what the record asks for.
-use Rattle.std.proofs.Common.{◌≡◌, ◌≤◌, ◌<◌, ◌∙◌, ℕ, ℤ, Bool, true, false, List, ◌∷◌, ◌++◌, [], Option, Some, None, ap, append_assoc, arith, le-leb, refl, subst, suc, sym}
+use Rattle.std.proofs.Common.{◌≡◌, ◌≤◌, ◌∙◌, ℕ, ℤ, Bool, true, false, List, ◌∷◌, ◌++◌, [], Option, Some, None, ap, append_assoc, arith, le-leb, refl, subst, suc, sym}
 use Rattle.std.specs.Prelude.{bytes_eq, int_le, length, option_map, slice_get, IfSome, if◌then◌else◌}
 use Rattle.std.specs.Cmp.Lexicographic.{bytes_decides}
 use Rattle.std.proofs.lemmas.Bool.{and_parts}
@@ -8,13 +8,12 @@ use Rattle.zic_columns.specs.Record.{record_at}
 use Rattle.zic_columns.specs.declared.fields.Record.{Record}
 use Rattle.zic_files.specs.File.{File}
 use Rattle.zic_plan.specs.Layout.{has_count}
-use Rattle.zic_base.specs.declared.row_fault.RowKind.{RowKind}
 use Rattle.zic_base.specs.declared.row_fault.RowKind.TheVariants as kind
 use Rattle.zic_rows.specs.Count.{second_of}
 use Rattle.zic_rows.specs.Instant.{IsRowInstant}
 use Rattle.zic_rows.specs.declared.limit.TheConstants.{FIRST_INSTANT, LAST_INSTANT}
 use Rattle.zic_zones.specs.Zones.{is_named, number_of, zone_in}
-use Rattle.zic_convert.specs.LayoutRows.{count_in, fault_by}
+use Rattle.zic_convert.specs.LayoutRows.{fault_by}
 use Rattle.zic_convert.specs.Rows.{is_row_instant}
 use Rattle.zic_convert.specs.code.Batch.{count_at, zone_at}
 use Rattle.zic_convert.specs.declared.piece.Piece.{Piece}

@@ -1,6 +1,7 @@
 //! Converts a column of zone names and instants by zones. The tests stand in `program_tests`.
 #![tactic(auto)]
 
+mod asked;
 mod batch;
 mod column;
 mod conversion;
@@ -11,6 +12,7 @@ mod log;
 mod output;
 mod piece;
 mod pieces;
+mod quick;
 mod round;
 mod row;
 

@@ -172,7 +172,7 @@ pub(crate) fn write_rows<W: Write, L: FaultLog>(
 {
     let mut count = 0;
     for rows in pieces {
-        write_all(writer, &rows.text)?;
+        write_all(writer, rows.text.bytes())?;
         note_all(log, &rows.faults);
         count += rows.count;
         if let Some(kind) = rows.fault {

@@ -5,11 +5,12 @@ ghost use Rattle.zic_columns.specs.Own.{Whole, whole_records};
 ghost use Rattle.zic_convert.specs.code.Batch.{wanted_by};
 ghost use Rattle.zic_convert.specs.code.Row.{AreRowsOf, wholes_in};
 
-use crate::batch::Batch;
+use crate::batch::{Batch, find_texts};
 use crate::row::{RowPen, Rows};
 use std::alloc::{AllocError, Global};
-use zic_columns::{Splitter, Wanted};
+use zic_columns::{BATCH, Splitter, Wanted};
 use zic_plan::{Layout, ZoneFrom};
+use zic_rows::StateText;
 use zic_zones::RowZones;
 
 /// A piece of a round, and what the rows of its records are made by.
@@ -39,8 +40,8 @@ fn wanted_by(layout: &Layout) -> Wanted
 }
 
 /// Returns the rows of a piece, up to the first that ends the run: batch by batch, the fields of its
-/// records, their zones, their counts, the states of these, and then the text. `room` is the number
-/// of bytes for whose text memory is taken at once.
+/// records, their zones, their times, the texts of the states shown then, and then the rows. `room` is
+/// the number of bytes for whose text memory is taken at once.
 pub(crate) fn rows_of_piece(
     alloc: Global,
     piece: &Piece<'_, '_>,
@@ -51,13 +52,15 @@ pub(crate) fn rows_of_piece(
         piece.now.first (wholes_in piece.now.layout.now.delimiter piece.now.bytes.now)) }
 {
     let mut rows = Rows::new(alloc, room)?;
-    let mut pen = RowPen::new();
+    let mut pen = RowPen::new(alloc);
     let mut batch = Batch::new();
+    let mut texts: [Option<&StateText>; BATCH] = [None; BATCH];
     let mut splitter = Splitter::new(piece.bytes, wanted_by(piece.layout));
     let mut count = splitter.fill(&mut batch.records);
     while 0 < count && rows.fault.is_none() {
         batch.fill(alloc, piece, count)?;
-        rows.add_all(alloc, piece, &batch, count, &mut pen)?;
+        find_texts(piece, &batch, count, &mut texts);
+        rows.add_all(piece, &batch, &texts, count, &mut pen)?;
         count = splitter.fill(&mut batch.records);
     }
     Ok(rows)

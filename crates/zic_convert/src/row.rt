@@ -1,36 +1,35 @@
 //! The rows of records.
 
 ghost use Rattle.std.specs.Prelude.{◌≡◌, ◌+◌, ◌^◌, ◌<◌, ◌≤◌, ◌++◌, ℤ, Some, None, IfOk, OnOk, MatchResult};
-ghost use Rattle.std.specs.Prelude.{ℕ, List, IfSome, length, slice_get};
+ghost use Rattle.std.specs.Prelude.{ℕ, List, length};
 ghost use Rattle.std.specs.Fmt.{signed_decimal};
 ghost use Rattle.zic_columns.specs.Own.{Whole};
 ghost use Rattle.zic_columns.specs.Record.{IsSplit, StandsIn, bytes_at, field_text, record_at};
-ghost use Rattle.zic_columns.specs.declared.splits.TheConstants.{BATCH};
-ghost use Rattle.zic_files.specs.Sound.{AreSoundFiles};
 ghost use Rattle.zic_rows.specs.Count.{count_of, counted_rest_text, second_of};
-ghost use Rattle.zic_rows.specs.Instant.{IsRowInstant};
 ghost use Rattle.zic_zones.specs.Zones.{AnswersAt, IsShownAt, zone_in};
 ghost use Rattle.zic_convert.specs.LayoutRows.{IsTextBy, fault_by};
 ghost use Rattle.zic_convert.specs.Rows.{is_row_instant};
-ghost use Rattle.zic_convert.specs.code.Batch.{AreColumns, IsAsked, IsPen, IsRowQuery, IsSoundQuery, records_of, wanted_by};
+ghost use Rattle.zic_convert.specs.code.Batch.{AreColumns, AreTexts, IsAsked, IsKnown, IsPen, IsQuickRow, IsRowQuery, IsSoundQuery, records_of, wanted_by, zone_at};
 ghost use Rattle.zic_convert.specs.code.Row.{AreNext, AreRowsOf, comma_start, empty_rows, put_back};
 
+use crate::asked::{Asked, asked_by};
 use crate::batch::Batch;
 use crate::faulty::{ends_run, push_faulty, put_back};
 use crate::piece::Piece;
+use crate::quick::{Known, QuickRow, push_quick};
 use itoa::Buffer;
 use std::alloc::{AllocError, Global};
 use std::marker::Model;
 use zic_base::{RowFault, RowKind, State};
 use zic_columns::{Field, Record};
 use zic_plan::{Layout, RowStart, Unit};
-use zic_rows::{FIRST_INSTANT, LAST_INSTANT, RowWriter, is_plain, moment_of};
+use zic_rows::{FIRST_INSTANT, LAST_INSTANT, RowText, RowWriter, StateText, is_plain, moment_of};
 
 /// The rows of records up to the first that ends the run: their text, their number, its fault, and
 /// the faults of the rows before it.
 #[derive(Drop)]
 pub(crate) struct Rows {
-    pub(crate) text: Vec<u8>,
+    pub(crate) text: RowText,
     pub(crate) count: u64,
     pub(crate) fault: Option<RowKind>,
     pub(crate) faults: Vec<RowFault>,
@@ -41,13 +40,16 @@ impl Model for Rows {
 
     ghost Value = { RowsOf };
 
-    ghost view = { λ r. record { text = r.text.items; count = r.count; fault = r.fault; faults = r.faults.items } };
+    ghost view = { λ r. record { text = r.text; count = r.count; fault = r.fault; faults = r.faults.items } };
 }
 
-/// A writer of rows, and the file and the number of the state that it shows.
+/// A writer of rows out of the common, and the file and the number of the state that it shows.
 #[derive(Drop)]
 pub(crate) struct RowPen {
+    alloc: Global,
     writer: RowWriter,
+    /// The text of one row, or of a part.
+    row: Vec<u8>,
     /// None before the first row.
     file: Option<usize>,
     state: usize,
@@ -55,7 +57,7 @@ pub(crate) struct RowPen {
 
 impl RowPen {
     /// Returns a pen before the first row.
-    pub(crate) fn new() -> RowPen
+    pub(crate) fn new(alloc: Global) -> RowPen
         ensures { result.file ≡ None }
     {
         let state = State {
@@ -64,7 +66,9 @@ impl RowPen {
             name: b"",
         };
         RowPen {
+            alloc,
             writer: RowWriter::new(state),
+            row: Vec::new(alloc),
             file: None,
             state: 0,
         }
@@ -87,15 +91,6 @@ impl RowPen {
         self.file = Some(file);
         self.state = state;
     }
-}
-
-/// What a record asks for: its zone's file and its count, where they are there, and the number of the
-/// state that the file shows at the whole second of the count.
-#[derive(Clone, Copy, Drop)]
-struct Asked {
-    file: Option<usize>,
-    count: Option<i128>,
-    state: usize,
 }
 
 /// A file, and a count that a row may have.
@@ -206,13 +201,13 @@ fn push_row(
     piece: &Piece<'_, '_>,
     given: &Record,
     query: RowQuery,
-    pen: &mut RowPen,
+    writer: &mut RowWriter,
 ) -> Result<(), AllocError>
     requires split { IsSplit piece.now.bytes.now (wanted_by piece.now.layout.now) given.now }
     requires query { IsRowQuery piece.now given.now query }
     requires answers { AnswersAt piece.now.zones.now query.file
-        (second_of piece.now.layout.now.unit query.count) pen.old.writer }
-    ensures pen { pen.new ≡ pen.old }
+        (second_of piece.now.layout.now.unit query.count) writer.old }
+    ensures writer { writer.new ≡ writer.old }
     ensures text { OnOk result ((row : List ℕ) × (text.new.items ≡ text.old.items ++ row)
         × IsTextBy piece.now.layout.now piece.now.zones.now (put_back
         piece.now.layout.now.delimiter (record_at piece.now.bytes.now given.now)) row) }
@@ -222,7 +217,7 @@ fn push_row(
     let start = text.len();
     push_start(text, piece, given, query)?;
     let unit = piece.layout.unit;
-    pen.writer.push_counted_rest(text, query.count, unit)?;
+    writer.push_counted_rest(text, query.count, unit)?;
     put_back(text, start, piece.layout.delimiter.byte());
     Ok(())
 }
@@ -233,25 +228,51 @@ impl Rows {
         ensures { IfOk result (λ rows. rows ≡ empty_rows) }
     {
         Ok(Rows {
-            text: Vec::with_capacity(alloc, room)?,
+            text: RowText::with_capacity(alloc, room)?,
             count: 0,
             fault: None,
             faults: Vec::new(alloc),
         })
     }
 
-    /// Adds the row of a record, or the fault that ends the run there. The record has the delimiter
-    /// and the comma in each other's place.
-    fn add(
+    /// Adds the row of a record, in which all that the row shows is at hand. The record has the
+    /// delimiter and the comma in each other's place.
+    #[inline(always)]
+    fn add_quick(
         &mut self,
-        alloc: Global,
         piece: &Piece<'_, '_>,
         given: &Record,
-        asked: &Asked,
+        row: &QuickRow<'_>,
+    ) -> Result<(), AllocError>
+        requires split { IsSplit piece.now.bytes.now (wanted_by piece.now.layout.now) given.now }
+        requires row { IsQuickRow piece.now given.now row.now }
+        requires may { piece.now.first + self.old.count ≤ piece.now.most }
+        requires fits { piece.now.first + self.old.count + 1 < 2 ^ 64 }
+        ensures { OnOk result (AreNext piece.now.layout.now piece.now.zones.now piece.now.most
+            (piece.now.first + self.old.count) (put_back piece.now.layout.now.delimiter
+            (record_at piece.now.bytes.now given.now)) self.old self.new) }
+    {
+        // No name of a file and no instant has a byte that can stand between fields.
+        piece.zones.are_sound();
+        prove!(piece.layout.delimiter.byte() <= u8::MAX);
+        push_quick(&mut self.text, piece, given, row)?;
+        self.count += 1;
+        Ok(())
+    }
+
+    /// Adds the row of a record, whose zone has this file, or the fault that ends the run there: check
+    /// by check, whatever the record has. The record has the delimiter and the comma in each other's
+    /// place.
+    #[inline(never)]
+    fn add_checked(
+        &mut self,
+        piece: &Piece<'_, '_>,
+        given: &Record,
+        file: Option<usize>,
         pen: &mut RowPen,
     ) -> Result<(), AllocError>
         requires split { IsSplit piece.now.bytes.now (wanted_by piece.now.layout.now) given.now }
-        requires asked { IsAsked piece.now given.now asked.now }
+        requires file { file ≡ zone_at piece.now given.now }
         requires fits { piece.now.first + self.old.count + 1 < 2 ^ 64 }
         requires pen { IsPen piece.now.zones.now pen.old }
         ensures pen { IsPen piece.now.zones.now pen.new }
@@ -262,36 +283,69 @@ impl Rows {
         // No name of a file and no instant has a byte that can stand between fields.
         piece.zones.are_sound();
         prove!(piece.layout.delimiter.byte() <= u8::MAX);
+        let asked = asked_by(pen.alloc, piece, given, file)?;
         let number = piece.first + self.count;
-        match query(piece, number, given, asked) {
+        match query(piece, number, given, &asked) {
             Ok(query) => {
                 pen.show(piece, query.file, asked.state);
-                push_row(&mut self.text, piece, given, query, pen)?;
+                pen.row.clear();
+                push_row(&mut pen.row, piece, given, query, &mut pen.writer)?;
             }
             Err(kind) if ends_run(piece.layout.at_fault, kind) => {
                 self.fault = Some(kind);
                 return Ok(());
             }
             Err(kind) => {
-                push_faulty(alloc, &mut self.text, piece, kind, given)?;
+                pen.row.clear();
+                push_faulty(pen.alloc, &mut pen.row, piece, kind, given)?;
                 self.faults.push(RowFault { row: number, kind })?;
             }
         }
+        self.text.push(&pen.row)?;
         self.count += 1;
         Ok(())
+    }
+
+    /// Adds the row of a record, or the fault that ends the run there. The record has the delimiter
+    /// and the comma in each other's place.
+    #[inline(always)]
+    fn add(
+        &mut self,
+        piece: &Piece<'_, '_>,
+        given: &Record,
+        known: &Known<'_>,
+        pen: &mut RowPen,
+    ) -> Result<(), AllocError>
+        requires split { IsSplit piece.now.bytes.now (wanted_by piece.now.layout.now) given.now }
+        requires known { IsKnown piece.now given.now known.now }
+        requires fits { piece.now.first + self.old.count + 1 < 2 ^ 64 }
+        requires pen { IsPen piece.now.zones.now pen.old }
+        ensures pen { IsPen piece.now.zones.now pen.new }
+        ensures next { OnOk result (AreNext piece.now.layout.now piece.now.zones.now piece.now.most
+            (piece.now.first + self.old.count) (put_back piece.now.layout.now.delimiter
+            (record_at piece.now.bytes.now given.now)) self.old self.new) }
+    {
+        match known.row() {
+            Some(row) if piece.first + self.count <= piece.most => {
+                self.add_quick(piece, given, &row)
+            }
+            _ => self.add_checked(piece, given, known.zone, pen),
+        }
     }
 
     /// Adds the rows of the first `count` records of a batch, up to the first that ends the run. The
     /// records have the delimiter and the comma in each other's place.
     pub(crate) fn add_all(
         &mut self,
-        alloc: Global,
         piece: &Piece<'_, '_>,
         batch: &Batch,
+        texts: &[Option<&StateText>],
         count: usize,
         pen: &mut RowPen,
     ) -> Result<(), AllocError>
         requires columns { AreColumns piece.now batch.now count }
+        requires long { count ≤ length texts.now }
+        requires texts { AreTexts piece.now batch.now count texts.now }
         requires goes_on { self.old.fault ≡ None }
         requires fits { piece.now.first + self.old.count + count < 2 ^ 64 }
         requires pen { IsPen piece.now.zones.now pen.old }
@@ -304,12 +358,12 @@ impl Rows {
             (self.new.fault ≡ None → self.new.count ≡ self.old.count + count) }
     {
         for i in 0..count {
-            let asked = Asked {
-                file: batch.zones[i],
-                count: batch.counts[i],
-                state: batch.states[i],
+            let known = Known {
+                zone: batch.zones[i],
+                time: batch.times[i],
+                text: texts[i],
             };
-            self.add(alloc, piece, &batch.records[i], &asked, pen)?;
+            self.add(piece, &batch.records[i], &known, pen)?;
             if self.fault.is_some() {
                 return Ok(());
             }

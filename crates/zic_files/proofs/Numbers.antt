@@ -1,182 +1,221 @@
 -- The numbers of files by their names.
-use Rattle.std.proofs.Common.{◌≡◌, ◌≢◌, ◌<◌, ◌≤◌, ◌+◌, ◌-◌, ◌%◌, ℕ, zero, suc, List, [], ◌∷◌, ◌++◌, length, set, take, replicate, get_or, Option, Some, None, ◌⊎◌, inl, inr, ⊎_elim, refl, sym, subst, ap, ◌∙◌, arith}
-use Rattle.std.specs.Prelude.{All, IfSome, IfNone, IsSomeAnd, map, slice_get, nat_lt}
+use Rattle.std.proofs.Common.{◌≡◌, ◌≢◌, ◌<◌, ◌≤◌, ◌+◌, ◌-◌, ℕ, zero, suc, List, [], ◌∷◌, ◌++◌, length, set, take, replicate, get_or, Option, Some, None, ◌⊎◌, inl, inr, ⊎_elim, refl, sym, subst, ap, ◌∙◌, arith}
+use Rattle.std.specs.Prelude.{All, IfSome, IfNone, IsSomeAnd, map, slice_get}
 use Rattle.std.proofs.Math.ListN.{length-set}
 use Rattle.std.proofs.Math.Seq.{get_or-append_seam, take-append_seam}
-use Rattle.std.proofs.lemmas.Bool.{cases_lt, cond-true, cond-false, lt-ltb, le-ltb}
+use Rattle.std.proofs.lemmas.Bool.{cases_lt}
 use Rattle.std.proofs.lemmas.List.{get_or-set_same, get_or-set_other, get_or_append_left, get_or-replicate, get_or_past, length-append, length-replicate}
 use Rattle.std.proofs.lemmas.List.Elements.{All-map}
 use Rattle.std.proofs.lemmas.Option.{slice_get-get_or, slice_get_within, get_or_from_slice_get}
+use Rattle.std.specs.Simd.Lanes.{fold_l}
+use Rattle.zic_base.proofs.Lists.{take_next}
 use Rattle.zic_files.specs.declared.entry.Entry.{Entry}
 use Rattle.zic_files.specs.File.{FileImage, file_of}
 use Rattle.zic_files.specs.declared.name_index.NameIndex.{NameIndex}
-use Rattle.zic_files.specs.declared.name_index.TheConstants.{BUCKETS}
-use Rattle.zic_files.specs.code.NameIndex.{mixed, bucket_of, IsLastIn, AreLinked, AreNumbersUpTo, AreNumbersOf, IsSought}
+use Rattle.zic_files.specs.code.NameIndex.{bucket_of, hash_more, hash_of, IsLastIn, AreLinked, AreNumbersUpTo, AreNumbersOf, IsSought}
 
--- ---- buckets
+-- ---- hashes
 
-pub bucket_short : (name : List ℕ) → length name < 3 → length name ≡ bucket_of name
-unfolding bucket_of
-bucket_short name lt = sym (cond-true (nat_lt (length name) 3) (length name) (mixed name (length name) % 4096) (lt-ltb (length name) 3 lt))
+fold_more : (f : ℕ → ℕ → ℕ) (a : ℕ) (xs : List ℕ) (x : ℕ) → fold_l f a (xs ++ x ∷ []) ≡ f (fold_l f a xs) x
+fold_more f a [] x = refl
+fold_more f a (y ∷ xs) x = fold_more f (f a y) xs x
 
-pub bucket_long : (name : List ℕ) → 3 ≤ length name → mixed name (length name) % 4096 ≡ bucket_of name
-unfolding bucket_of
-bucket_long name le = sym (cond-false (nat_lt (length name) 3) (length name) (mixed name (length name) % 4096) (le-ltb (length name) 3 le))
+pub hash_first : hash_of [] ≡ 0
+unfolding hash_of
+hash_first = refl
+
+pub hash_next : (name : List ℕ) (i byte : ℕ) → slice_get name i ≡ Some byte → hash_more (hash_of (take i name)) byte ≡ hash_of (take (i + 1) name)
+unfolding hash_of
+hash_next name i byte at = sym (ap (λ (l : List ℕ). fold_l hash_more 0 l) (take_next name i byte at) ∙ fold_more hash_more 0 (take i name) byte)
 
 -- ---- the index of the entries so far
 
 one_entry : (entries : List Entry) (n : ℕ) (a b : Entry) → slice_get entries n ≡ Some a → slice_get entries n ≡ Some b → a ≡ b
 one_entry entries n a b at at₂ = sym (get_or_from_slice_get entries n a a at) ∙ get_or_from_slice_get entries n b a at₂
 
-ne_zero : (n : ℕ) → n ≢ 0 → 0 < n
-ne_zero zero some = absurd (some refl)
-ne_zero (suc n) some = omega arith
-
 same_or_not : (a b : ℕ) → (a ≡ b) ⊎ (a ≢ b)
 same_or_not a b = ⊎_elim (λ lt. inr (λ e. omega (arith, lt, e))) (λ ge. ⊎_elim (λ lt. inr (λ e. omega (arith, lt, e))) (λ le. inl (omega (arith, ge, le))) (cases_lt b a)) (cases_lt a b)
-
-none_in : (entries : List Entry) (bucket : ℕ) → IsLastIn entries bucket 0 0
-none_in entries bucket = record {
-  within = omega arith;
-  is_in = λ j entry e at. absurd (omega (arith, e));
-  none_after = λ j entry low high at. absurd (omega (arith, high));
-}
-
--- no entry yet
-pub linked_none : (entries : List Entry) (last : List ℕ) → ((bucket : ℕ) → get_or last bucket 0 ≡ 0) → AreLinked entries 0 last []
-linked_none entries last zeros = record {
-  count = refl;
-  last_of = λ bucket. subst (λ (k : ℕ). IsLastIn entries bucket 0 k) (sym (zeros bucket)) (none_in entries bucket);
-  before_of = λ i entry lt at. absurd (omega (arith, lt));
-}
 
 pub all_zeros : (n i : ℕ) → ◌≡◌ {A = ℕ} (get_or (replicate n 0) i 0) 0
 all_zeros n i = ⊎_elim (λ lt. get_or-replicate n i 0 0 lt) (λ ge. get_or_past (replicate n 0) i 0 (omega (arith, length-replicate {A = ℕ} n 0, ge))) (cases_lt i n)
 
+module _ (buckets : ℕ) where
+  none_in : (entries : List Entry) (bucket : ℕ) → IsLastIn buckets entries bucket 0 0
+  none_in entries bucket = record {
+    within = omega arith;
+    is_in = λ j entry e at. absurd (omega (arith, e));
+    none_after = λ j entry low high at. absurd (omega (arith, high));
+  }
+
+  -- no entry yet
+  pub linked_none : (entries : List Entry) (last : List ℕ) → ((bucket : ℕ) → get_or last bucket 0 ≡ 0) → AreLinked buckets entries 0 last []
+  linked_none entries last zeros = record {
+    count = refl;
+    last_of = λ bucket. subst (λ (k : ℕ). IsLastIn buckets entries bucket 0 k) (sym (zeros bucket)) (none_in entries bucket);
+    before_of = λ i entry lt at. absurd (omega (arith, lt));
+  }
+
+  -- an entry is the last in its bucket
+  last_now : (entries : List Entry) (n bucket : ℕ) (entry : Entry) → slice_get entries n ≡ Some entry → bucket_of buckets entry.name ≡ bucket → IsLastIn buckets entries bucket (n + 1) (n + 1)
+  last_now entries n bucket entry at is = record {
+    within = omega arith;
+    is_in = λ j other e at₂.
+        let same : j ≡ n = omega (arith, e) in
+        let one = one_entry entries n entry other at (subst (λ (k : ℕ). slice_get entries k ≡ Some other) same at₂) in
+        sym (ap (λ (x : Entry). bucket_of buckets x.name) one) ∙ is;
+    none_after = λ j other low high at₂. absurd (omega (arith, low, high));
+  }
+
+  -- an entry of another bucket
+  last_still : (entries : List Entry) (n bucket last : ℕ) (entry : Entry) → IsLastIn buckets entries bucket n last → slice_get entries n ≡ Some entry → bucket_of buckets entry.name ≢ bucket → IsLastIn buckets entries bucket (n + 1) last
+  last_still entries n bucket last entry is at apart = record {
+    within = omega (arith, is.within);
+    is_in = is.is_in;
+    none_after = λ j other low high at₂. ⊎_elim
+        (λ lt. is.none_after j other low lt at₂)
+        (λ ge e.
+        let same : j ≡ n = omega (arith, ge, high) in
+        let one = one_entry entries n entry other at (subst (λ (k : ℕ). slice_get entries k ≡ Some other) same at₂) in
+        apart (ap (λ (x : Entry). bucket_of buckets x.name) one ∙ e))
+        (cases_lt j n);
+  }
+
+  -- one entry more
+  pub linked_more : (entries : List Entry) (last before : List ℕ) (n bucket place : ℕ) (entry : Entry) → AreLinked buckets entries n last before → bucket < length last → slice_get entries n ≡ Some entry
+      → bucket ≡ bucket_of buckets entry.name → place ≡ n + 1 → AreLinked buckets entries (n + 1) (set last bucket place) (before ++ get_or last bucket 0 ∷ [])
+  linked_more entries last before n bucket place entry are within at of_name numbered =
+      let old = get_or last bucket 0 in
+      let count = are.count in
+      record {
+        count = length-append before (old ∷ []) ∙ ap (λ (k : ℕ). k + 1) count;
+        last_of = λ other. ⊎_elim
+            (λ same. subst (λ (k : ℕ). IsLastIn buckets entries other (n + 1) (get_or (set last bucket place) k 0)) (sym same)
+            (subst (λ (k : ℕ). IsLastIn buckets entries other (n + 1) k) (sym (get_or-set_same last bucket place 0 within ∙ numbered)) (last_now entries n other entry at (sym of_name ∙ sym same))))
+            (λ apart. subst (λ (k : ℕ). IsLastIn buckets entries other (n + 1) k) (sym (get_or-set_other last bucket other place 0 apart))
+            (last_still entries n other (get_or last other 0) entry (are.last_of other) at (λ e. apart (sym e ∙ sym of_name))))
+            (same_or_not other bucket);
+        before_of = λ i other lt at₂. ⊎_elim
+            (λ below. subst (λ (k : ℕ). IsLastIn buckets entries (bucket_of buckets other.name) i k) (sym (get_or_append_left before (old ∷ []) 0 i (omega (arith, count, below)))) (are.before_of i other below at₂))
+            (λ ge.
+            let here : length before ≡ i = omega (arith, count, ge, lt) in
+            let now : n ≡ i = omega (arith, ge, lt) in
+            let one = one_entry entries n entry other at (subst (λ (k : ℕ). slice_get entries k ≡ Some other) (sym now) at₂) in
+            let read : get_or (before ++ old ∷ []) i 0 ≡ old = subst (λ (k : ℕ). get_or (before ++ old ∷ []) k 0 ≡ old) here (get_or-append_seam before old [] 0) in
+            subst (λ (k : ℕ). IsLastIn buckets entries (bucket_of buckets other.name) i k) (sym read)
+            (subst (λ (k : ℕ). IsLastIn buckets entries (bucket_of buckets other.name) k old) now
+            (subst (λ (k : ℕ). IsLastIn buckets entries k n old) (of_name ∙ ap (λ (x : Entry). bucket_of buckets x.name) one) (are.last_of bucket))))
+            (cases_lt i n);
+      }
+
+  -- entries that agree as far as the index goes
+  last_on : (a b : List Entry) (bucket n last : ℕ) → ((j : ℕ) → j < n → slice_get a j ≡ slice_get b j) → IsLastIn buckets a bucket n last → IsLastIn buckets b bucket n last
+  last_on a b bucket n last agree is = record {
+    within = is.within;
+    is_in = λ j entry e at. is.is_in j entry e (agree j (omega (arith, is.within, e)) ∙ at);
+    none_after = λ j entry low high at. is.none_after j entry low high (agree j high ∙ at);
+  }
+
+  linked_on : (a b : List Entry) (n : ℕ) (last before : List ℕ) → ((j : ℕ) → j < n → slice_get a j ≡ slice_get b j) → AreLinked buckets a n last before → AreLinked buckets b n last before
+  linked_on a b n last before agree are = record {
+    count = are.count;
+    last_of = λ bucket. last_on a b bucket n (get_or last bucket 0) agree (are.last_of bucket);
+    before_of = λ i entry lt at. last_on a b (bucket_of buckets entry.name) i (get_or before i 0) (λ j below. agree j (omega (arith, below, lt))) (are.before_of i entry lt (agree i lt ∙ at));
+  }
+
+  -- ---- the search for a name
+
+  pub sought_first : (entries : List Entry) (name last before : List ℕ) (rest : ℕ) → AreLinked buckets entries (length entries) last before → rest ≡ get_or last (bucket_of buckets name) 0 → IsSought buckets entries name rest
+  sought_first entries name last before rest are is =
+      let first = subst (λ (k : ℕ). IsLastIn buckets entries (bucket_of buckets name) (length entries) k) (sym is) (are.last_of (bucket_of buckets name)) in
+      record {
+        within = first.within;
+        is_in = first.is_in;
+        none_after = λ j entry low at e. first.none_after j entry low (slice_get_within entries j entry at) at (ap (bucket_of buckets) e);
+      }
+
+  pub sought_on : (entries : List Entry) (name last before : List ℕ) (rest number next : ℕ) (d : Entry) → AreLinked buckets entries (length entries) last before → IsSought buckets entries name rest
+      → number + 1 ≡ rest → (get_or entries number d).name ≢ name → next ≡ get_or before number 0 → IsSought buckets entries name next
+  sought_on entries name last before rest number next d are is numbered other taken =
+      let within = is.within in
+      let lt : number < length entries = omega (arith, within, numbered) in
+      let entry = get_or entries number d in
+      let at = slice_get-get_or entries number d lt in
+      let bucket = is.is_in number entry numbered at in
+      let earlier = subst (λ (b : ℕ). IsLastIn buckets entries b number next) bucket
+      (subst (λ (k : ℕ). IsLastIn buckets entries (bucket_of buckets entry.name) number k) (sym taken) (are.before_of number entry lt at)) in
+      record {
+        within = omega (arith, earlier.within, lt);
+        is_in = earlier.is_in;
+        none_after = λ j found low at₂. ⊎_elim
+            (λ below e. earlier.none_after j found low below at₂ (ap (bucket_of buckets) e))
+            (λ above. ⊎_elim
+            (λ one e.
+            let same : j ≡ number = omega (arith, above, one) in
+            other (ap (λ (x : Entry). x.name) (one_entry entries number entry found at (subst (λ (k : ℕ). slice_get entries k ≡ Some found) same at₂)) ∙ e))
+            (λ after. is.none_after j found (omega (arith, after, numbered)) at₂)
+            (cases_lt j (number + 1)))
+            (cases_lt j number);
+      }
+
+  pub sought_less : (entries : List Entry) (last before : List ℕ) (rest number next : ℕ) (d : Entry) → AreLinked buckets entries (length entries) last before → rest ≤ length entries → number + 1 ≡ rest
+      → next ≡ get_or before number 0 → next < rest
+  sought_less entries last before rest number next d are within numbered taken =
+      let lt : number < length entries = omega (arith, within, numbered) in
+      let earlier = (are.before_of number (get_or entries number d) lt (slice_get-get_or entries number d lt)).within in
+      omega (arith, earlier, taken, numbered)
+
+  pub sought_in_vain : (entries : List Entry) (name : List ℕ) (rest : ℕ) → IsSought buckets entries name rest → rest ≡ 0 → All (λ entry. entry.name ≢ name) entries
+  sought_in_vain entries name rest is none k d lt = is.none_after k (get_or entries k d) (omega (arith, none)) (slice_get-get_or entries k d lt)
+
+pub sought_found : (entries : List Entry) (name : List ℕ) (number : ℕ) (d : Entry) → number < length entries → (get_or entries number d).name ≡ name → IsSomeAnd (slice_get entries number) (λ entry. entry.name ≡ name)
+sought_found entries name number d lt is = subst (λ (o : Option Entry). IsSomeAnd o (λ entry. entry.name ≡ name)) (sym (slice_get-get_or entries number d lt)) is
+
+-- ---- the index
+
 -- the index without buckets
 pub numbers_none : (entries : List Entry) (names : NameIndex) → names.last.items ≡ [] → names.before.items ≡ [] → AreNumbersUpTo entries 0 names
 numbers_none entries names empty empty₂ = record {
-  linked = subst (λ (l : List ℕ). AreLinked entries 0 names.last.items l) (sym empty₂)
-      (linked_none entries names.last.items
+  linked = subst (λ (l : List ℕ). AreLinked (length names.last.items) entries 0 names.last.items l) (sym empty₂)
+      (linked_none (length names.last.items) entries names.last.items
       (λ bucket. ap (λ (l : List ℕ). get_or l bucket 0) empty ∙ get_or_past [] bucket 0 (omega arith)));
   buckets = λ some. absurd (omega (arith, some));
 }
 
--- an entry is the last in its bucket
-last_now : (entries : List Entry) (n bucket : ℕ) (entry : Entry) → slice_get entries n ≡ Some entry → bucket_of entry.name ≡ bucket → IsLastIn entries bucket (n + 1) (n + 1)
-last_now entries n bucket entry at is = record {
-  within = omega arith;
-  is_in = λ j other e at₂.
-      let same : j ≡ n = omega (arith, e) in
-      let one = one_entry entries n entry other at (subst (λ (k : ℕ). slice_get entries k ≡ Some other) same at₂) in
-      sym (ap (λ (x : Entry). bucket_of x.name) one) ∙ is;
-  none_after = λ j other low high at₂. absurd (omega (arith, low, high));
+-- buckets without an entry
+pub numbers_fresh : (entries : List Entry) (names : NameIndex) (buckets : ℕ) → names.last.items ≡ replicate buckets 0 → names.before.items ≡ [] → 0 < buckets → AreNumbersUpTo entries 0 names
+numbers_fresh entries names buckets zeros empty some = record {
+  linked = subst (λ (l : List ℕ). AreLinked (length names.last.items) entries 0 names.last.items l) (sym empty)
+      (linked_none (length names.last.items) entries names.last.items (λ bucket. ap (λ (l : List ℕ). get_or l bucket 0) zeros ∙ all_zeros buckets bucket));
+  buckets = λ none. absurd (omega (arith, none));
 }
 
--- an entry of another bucket
-last_still : (entries : List Entry) (n bucket last : ℕ) (entry : Entry) → IsLastIn entries bucket n last → slice_get entries n ≡ Some entry → bucket_of entry.name ≢ bucket → IsLastIn entries bucket (n + 1) last
-last_still entries n bucket last entry is at apart = record {
-  within = omega (arith, is.within);
-  is_in = is.is_in;
-  none_after = λ j other low high at₂. ⊎_elim
-      (λ lt. is.none_after j other low lt at₂)
-      (λ ge e.
-      let same : j ≡ n = omega (arith, ge, high) in
-      let one = one_entry entries n entry other at (subst (λ (k : ℕ). slice_get entries k ≡ Some other) same at₂) in
-      apart (ap (λ (x : Entry). bucket_of x.name) one ∙ e))
-      (cases_lt j n);
+-- the index is that of the same lists
+pub numbers_same : (entries : List Entry) (n : ℕ) (names now : NameIndex) → AreNumbersUpTo entries n names → now.last.items ≡ names.last.items → now.before.items ≡ names.before.items
+    → AreNumbersUpTo entries n now
+numbers_same entries n names now are same same₂ = record {
+  linked = subst (λ (l : List ℕ). AreLinked (length l) entries n l now.before.items) (sym same)
+      (subst (λ (l : List ℕ). AreLinked (length names.last.items) entries n names.last.items l) (sym same₂) are.linked);
+  buckets = λ some. rw same (are.buckets some);
 }
 
 -- one entry more
-pub linked_more : (entries : List Entry) (last before : List ℕ) (n bucket place : ℕ) (entry : Entry) → AreLinked entries n last before → bucket < length last → slice_get entries n ≡ Some entry
-    → bucket ≡ bucket_of entry.name → place ≡ n + 1 → AreLinked entries (n + 1) (set last bucket place) (before ++ get_or last bucket 0 ∷ [])
-linked_more entries last before n bucket place entry are within at of_name numbered =
-    let old = get_or last bucket 0 in
-    let count = are.count in
-    record {
-      count = length-append before (old ∷ []) ∙ ap (λ (k : ℕ). k + 1) count;
-      last_of = λ other. ⊎_elim
-          (λ same. subst (λ (k : ℕ). IsLastIn entries other (n + 1) (get_or (set last bucket place) k 0)) (sym same)
-          (subst (λ (k : ℕ). IsLastIn entries other (n + 1) k) (sym (get_or-set_same last bucket place 0 within ∙ numbered)) (last_now entries n other entry at (sym of_name ∙ sym same))))
-          (λ apart. subst (λ (k : ℕ). IsLastIn entries other (n + 1) k) (sym (get_or-set_other last bucket other place 0 apart))
-          (last_still entries n other (get_or last other 0) entry (are.last_of other) at (λ e. apart (sym e ∙ sym of_name))))
-          (same_or_not other bucket);
-      before_of = λ i other lt at₂. ⊎_elim
-          (λ below. subst (λ (k : ℕ). IsLastIn entries (bucket_of other.name) i k) (sym (get_or_append_left before (old ∷ []) 0 i (omega (arith, count, below)))) (are.before_of i other below at₂))
-          (λ ge.
-          let here : length before ≡ i = omega (arith, count, ge, lt) in
-          let now : n ≡ i = omega (arith, ge, lt) in
-          let one = one_entry entries n entry other at (subst (λ (k : ℕ). slice_get entries k ≡ Some other) (sym now) at₂) in
-          let read : get_or (before ++ old ∷ []) i 0 ≡ old = subst (λ (k : ℕ). get_or (before ++ old ∷ []) k 0 ≡ old) here (get_or-append_seam before old [] 0) in
-          subst (λ (k : ℕ). IsLastIn entries (bucket_of other.name) i k) (sym read)
-          (subst (λ (k : ℕ). IsLastIn entries (bucket_of other.name) k old) now
-          (subst (λ (k : ℕ). IsLastIn entries k n old) (of_name ∙ ap (λ (x : Entry). bucket_of x.name) one) (are.last_of bucket))))
-          (cases_lt i n);
-    }
-
--- ---- buckets that are there
-
--- the index of the first n entries, with its buckets
-pub record IsReady (entries : List Entry) (n : ℕ) (names : NameIndex) : Type 0 where
-  pub buckets : length names.last.items ≡ BUCKETS
-  pub linked : AreLinked entries n names.last.items names.before.items
-
-linked_none_yet : (entries : List Entry) (last before : List ℕ) (n : ℕ) → n ≡ 0 → length before ≡ n → ((bucket : ℕ) → get_or last bucket 0 ≡ 0) → AreLinked entries n last before
-linked_none_yet entries last [] n none count zeros = subst (λ (k : ℕ). AreLinked entries k last []) (sym none) (linked_none entries last zeros)
-linked_none_yet entries last (b ∷ before) n none count zeros = absurd (omega (arith, none, count))
-
--- buckets without an entry are made
-pub ready_at_first : (entries : List Entry) (n : ℕ) (names : NameIndex) → n ≡ 0 → length names.before.items ≡ n → names.last.items ≡ replicate BUCKETS 0 → IsReady entries n names
-ready_at_first entries n names none count zeros = record {
-  buckets = ap length zeros ∙ length-replicate {A = ℕ} BUCKETS 0;
-  linked = linked_none_yet entries names.last.items names.before.items n none count (λ bucket. ap (λ (l : List ℕ). get_or l bucket 0) zeros ∙ all_zeros BUCKETS bucket);
-}
-
--- or they are there
-pub ready_later : (entries : List Entry) (n : ℕ) (names : NameIndex) → n ≢ 0 → AreNumbersUpTo entries n names → IsReady entries n names
-ready_later entries n names some are = record { buckets = are.buckets (ne_zero n some); linked = are.linked }
-
--- the index is that of the first n entries, whatever there are
-pub ready_numbers : (entries : List Entry) (n : ℕ) (names now : NameIndex) → IsReady entries n names → now.last.items ≡ names.last.items → now.before.items ≡ names.before.items
-    → AreNumbersUpTo entries n now
-ready_numbers entries n names now ready same same₂ = record {
-  linked = subst (λ (l : List ℕ). AreLinked entries n l now.before.items) (sym same)
-      (subst (λ (l : List ℕ). AreLinked entries n names.last.items l) (sym same₂) ready.linked);
-  buckets = λ some. ap length same ∙ ready.buckets;
-}
-
--- and one more entry is added
-pub numbers_more : (entries : List Entry) (n bucket : ℕ) (entry : Entry) (names now : NameIndex) → IsReady entries n names → bucket < BUCKETS → slice_get entries n ≡ Some entry
-    → bucket ≡ bucket_of entry.name → now.last.items ≡ set names.last.items bucket (n + 1) → now.before.items ≡ names.before.items ++ get_or names.last.items bucket 0 ∷ []
+pub numbers_more : (entries : List Entry) (n bucket : ℕ) (entry : Entry) (names now : NameIndex) → AreNumbersUpTo entries n names → bucket < length names.last.items → slice_get entries n ≡ Some entry
+    → bucket ≡ bucket_of (length names.last.items) entry.name → now.last.items ≡ set names.last.items bucket (n + 1) → now.before.items ≡ names.before.items ++ get_or names.last.items bucket 0 ∷ []
     → AreNumbersUpTo entries (n + 1) now
-numbers_more entries n bucket entry names now ready within at of_name last before =
-    let inside : bucket < length names.last.items = omega (arith, within, ready.buckets) in
+numbers_more entries n bucket entry names now are inside at of_name last before =
+    let buckets = length names.last.items in
+    let same : length now.last.items ≡ buckets = ap length last ∙ length-set names.last.items bucket (n + 1) in
     record {
-      linked = subst (λ (l : List ℕ). AreLinked entries (n + 1) l now.before.items) (sym last)
-          (subst (λ (l : List ℕ). AreLinked entries (n + 1) (set names.last.items bucket (n + 1)) l) (sym before)
-          (linked_more entries names.last.items names.before.items n bucket (n + 1) entry ready.linked inside at of_name refl));
-      buckets = λ some. ap length last ∙ length-set names.last.items bucket (n + 1) ∙ ready.buckets;
+      linked = subst (λ (k : ℕ). AreLinked k entries (n + 1) now.last.items now.before.items) (sym same)
+          (subst (λ (l : List ℕ). AreLinked buckets entries (n + 1) l now.before.items) (sym last)
+          (subst (λ (l : List ℕ). AreLinked buckets entries (n + 1) (set names.last.items bucket (n + 1)) l) (sym before)
+          (linked_more buckets entries names.last.items names.before.items n bucket (n + 1) entry are.linked inside at of_name refl)));
+      buckets = λ some. omega (arith, same, inside);
     }
-
--- ---- entries that agree as far as the index goes
-
-last_on : (a b : List Entry) (bucket n last : ℕ) → ((j : ℕ) → j < n → slice_get a j ≡ slice_get b j) → IsLastIn a bucket n last → IsLastIn b bucket n last
-last_on a b bucket n last agree is = record {
-  within = is.within;
-  is_in = λ j entry e at. is.is_in j entry e (agree j (omega (arith, is.within, e)) ∙ at);
-  none_after = λ j entry low high at. is.none_after j entry low high (agree j high ∙ at);
-}
-
-linked_on : (a b : List Entry) (n : ℕ) (last before : List ℕ) → ((j : ℕ) → j < n → slice_get a j ≡ slice_get b j) → AreLinked a n last before → AreLinked b n last before
-linked_on a b n last before agree are = record {
-  count = are.count;
-  last_of = λ bucket. last_on a b bucket n (get_or last bucket 0) agree (are.last_of bucket);
-  before_of = λ i entry lt at. last_on a b (bucket_of entry.name) i (get_or before i 0) (λ j below. agree j (omega (arith, below, lt))) (are.before_of i entry lt (agree i lt ∙ at));
-}
 
 numbers_on : (a b : List Entry) (n : ℕ) (names : NameIndex) → ((j : ℕ) → j < n → slice_get a j ≡ slice_get b j) → AreNumbersUpTo a n names → AreNumbersUpTo b n names
 numbers_on a b n names agree are = record {
-  linked = linked_on a b n names.last.items names.before.items agree are.linked;
+  linked = linked_on (length names.last.items) a b n names.last.items names.before.items agree are.linked;
   buckets = are.buckets;
 }
 
@@ -217,54 +256,6 @@ pub popped : (entries : List Entry) (entry : Entry) (entries' last_gone : List E
 popped entries entry entries' last_gone n added long is =
     let count : n - 1 ≡ length entries = (let all = long ∙ ap length added ∙ length-append entries (entry ∷ []) in omega (arith, all)) in
     is ∙ ap (λ (k : ℕ). take k entries') count ∙ ap (λ (es : List Entry). take (length entries) es) added ∙ take-append_seam entries (entry ∷ [])
-
--- ---- the search for a name
-
-pub sought_first : (entries : List Entry) (name last before : List ℕ) (rest : ℕ) → AreLinked entries (length entries) last before → rest ≡ get_or last (bucket_of name) 0 → IsSought entries name rest
-sought_first entries name last before rest are is =
-    let first = subst (λ (k : ℕ). IsLastIn entries (bucket_of name) (length entries) k) (sym is) (are.last_of (bucket_of name)) in
-    record {
-      within = first.within;
-      is_in = first.is_in;
-      none_after = λ j entry low at e. first.none_after j entry low (slice_get_within entries j entry at) at (ap bucket_of e);
-    }
-
-pub sought_on : (entries : List Entry) (name last before : List ℕ) (rest number next : ℕ) (d : Entry) → AreLinked entries (length entries) last before → IsSought entries name rest
-    → number + 1 ≡ rest → (get_or entries number d).name ≢ name → next ≡ get_or before number 0 → IsSought entries name next
-sought_on entries name last before rest number next d are is numbered other taken =
-    let within = is.within in
-    let lt : number < length entries = omega (arith, within, numbered) in
-    let entry = get_or entries number d in
-    let at = slice_get-get_or entries number d lt in
-    let bucket = is.is_in number entry numbered at in
-    let earlier = subst (λ (b : ℕ). IsLastIn entries b number next) bucket
-    (subst (λ (k : ℕ). IsLastIn entries (bucket_of entry.name) number k) (sym taken) (are.before_of number entry lt at)) in
-    record {
-      within = omega (arith, earlier.within, lt);
-      is_in = earlier.is_in;
-      none_after = λ j found low at₂. ⊎_elim
-          (λ below e. earlier.none_after j found low below at₂ (ap bucket_of e))
-          (λ above. ⊎_elim
-          (λ one e.
-          let same : j ≡ number = omega (arith, above, one) in
-          other (ap (λ (x : Entry). x.name) (one_entry entries number entry found at (subst (λ (k : ℕ). slice_get entries k ≡ Some found) same at₂)) ∙ e))
-          (λ after. is.none_after j found (omega (arith, after, numbered)) at₂)
-          (cases_lt j (number + 1)))
-          (cases_lt j number);
-    }
-
-pub sought_less : (entries : List Entry) (last before : List ℕ) (rest number next : ℕ) (d : Entry) → AreLinked entries (length entries) last before → rest ≤ length entries → number + 1 ≡ rest
-    → next ≡ get_or before number 0 → next < rest
-sought_less entries last before rest number next d are within numbered taken =
-    let lt : number < length entries = omega (arith, within, numbered) in
-    let earlier = (are.before_of number (get_or entries number d) lt (slice_get-get_or entries number d lt)).within in
-    omega (arith, earlier, taken, numbered)
-
-pub sought_in_vain : (entries : List Entry) (name : List ℕ) (rest : ℕ) → IsSought entries name rest → rest ≡ 0 → All (λ entry. entry.name ≢ name) entries
-sought_in_vain entries name rest is none k d lt = is.none_after k (get_or entries k d) (omega (arith, none)) (slice_get-get_or entries k d lt)
-
-pub sought_found : (entries : List Entry) (name : List ℕ) (number : ℕ) (d : Entry) → number < length entries → (get_or entries number d).name ≡ name → IsSomeAnd (slice_get entries number) (λ entry. entry.name ≡ name)
-sought_found entries name number d lt is = subst (λ (o : Option Entry). IsSomeAnd o (λ entry. entry.name ≡ name)) (sym (slice_get-get_or entries number d lt)) is
 
 -- ---- the files of the entries
 

@@ -1,16 +1,18 @@
 //! An index of files by name.
 
-ghost use Rattle.std.specs.Prelude.{◌≡◌, ◌≢◌, ◌+◌, ◌<◌, [], length, slice_get, slice_index, All, IfSome, IfNone, IfOk, IfErr, OnOk, OnErr, IsSomeAnd};
-ghost use Rattle.zic_files.specs.code.NameIndex.{bucket_of, AreNumbersUpTo, AreNumbersOf};
+ghost use Rattle.std.specs.Prelude.{◌≡◌, ◌≢◌, ◌+◌, ◌<◌, ◌≤◌, ◌^◌, [], length, slice_get, slice_index, All, IfSome, IfNone, IfOk, IfErr, OnOk, OnErr, IsSomeAnd};
+ghost use Rattle.zic_files.specs.code.NameIndex.{bucket_of, hash_of, AreNumbersUpTo, AreNumbersOf};
 
 use crate::entry::Entry;
 use std::alloc::{AllocError, Global};
 
-/// The number of buckets: some seven for each name of the tz database, so that few names share one.
+/// The number of the first buckets, a power of two: some seven for each name of the tz database, so
+/// that few names share one.
 const BUCKETS: usize = 4096;
 
 /// The numbers of files by their names: of each bucket of names the last file, and of each file the
-/// one before it in its bucket. Both are a number from 1, or 0 where there is none.
+/// one before it in its bucket. Both are a number from 1, or 0 where there is none. There are at least
+/// as many buckets as names.
 #[derive(Debug, Drop)]
 pub(crate) struct NameIndex {
     last: Vec<u32>,
@@ -47,7 +49,7 @@ impl NameIndex {
             (λ i. IsSomeAnd (slice_get entries.now i) (λ entry. entry.name ≡ name.now)) }
         ensures missing { IfNone result (All (λ entry. entry.name ≢ name.now) entries.now) }
     {
-        let mut rest = self.last_in(bucket_of(name));
+        let mut rest = self.last_in(bucket_of(name, self.last.len()));
         while rest > 0 {
             let number = rest - 1;
             if entries[number].name.octets() == name {
@@ -68,7 +70,8 @@ impl NameIndex {
         }
     }
 
-    /// Adds the file of this number, after all before it. The first makes the buckets.
+    /// Adds the file of this number, after all before it. Where there are as many files as buckets, it
+    /// makes twice as many buckets.
     pub(crate) fn add(
         &mut self,
         alloc: Global,
@@ -83,26 +86,66 @@ impl NameIndex {
         if number >= u32::MAX as usize {
             return Err(AllocError);
         }
-        if number == 0 {
-            self.last = vec![in alloc; 0; BUCKETS]?;
+        if self.last.len() <= number {
+            *self = NameIndex::with_more_buckets(alloc, entries, number)?;
         }
-        let bucket = bucket_of(entries[number].name.octets());
+        self.link(entries, number)
+    }
+
+    /// Makes the index of the first files, with twice as many buckets.
+    fn with_more_buckets(
+        alloc: Global,
+        entries: &[Entry],
+        count: usize,
+    ) -> Result<NameIndex, AllocError>
+        requires within { count ≤ length entries.now }
+        requires few { count < 2 ^ 32 }
+        ensures numbers { IfOk result (AreNumbersUpTo entries.now count) }
+        ensures buckets { IfOk result (λ index. 0 < length index.last.items) }
+    {
+        let mut index = NameIndex {
+            last: vec![in alloc; 0; BUCKETS.max(2 * count)]?,
+            before: Vec::with_capacity(alloc, count)?,
+        };
+        for number in 0..count {
+            index.link(entries, number)?;
+        }
+        Ok(index)
+    }
+
+    /// Adds the file of this number to its bucket.
+    fn link(&mut self, entries: &[Entry], number: usize) -> Result<(), AllocError>
+        requires within { number < length entries.now }
+        requires few { number + 1 < 2 ^ 32 }
+        requires some { 0 < length self.old.last.items }
+        requires numbers { AreNumbersUpTo entries.now number self.old }
+        ensures ok { OnOk result (AreNumbersUpTo entries.now (number + 1) self.new) }
+        ensures err { OnErr result (AreNumbersUpTo entries.now number self.new) }
+        ensures buckets { length self.new.last.items ≡ length self.old.last.items }
+    {
+        let bucket = bucket_of(entries[number].name.octets(), self.last.len());
         self.before.push(self.last[bucket])?;
         self.last[bucket] = (number + 1) as u32;
         Ok(())
     }
 }
 
-/// Returns the bucket of a name, by its length, its last three bytes and the one in its middle.
-fn bucket_of(name: &[u8]) -> usize
-    ensures value { result ≡ bucket_of name.now }
-    ensures within { result < BUCKETS }
+/// Returns the bucket of a name, of this many buckets: the lower bits of its hash, where they are a
+/// power of two.
+fn bucket_of(name: &[u8], buckets: usize) -> usize
+    ensures value { result ≡ bucket_of buckets name.now }
+    ensures within { 0 < buckets → result < buckets }
 {
-    let len = name.len();
-    if len < 3 {
-        return len;
+    hash_of(name) as usize & buckets.saturating_sub(1)
+}
+
+/// Returns a hash of all bytes of a name.
+fn hash_of(name: &[u8]) -> u64
+    ensures value { result ≡ hash_of name.now }
+{
+    let mut hash = 0u64;
+    for byte in name {
+        hash = (hash * 31 + u64::from(*byte)) % (1 << 32);
     }
-    let end = name[len - 1] as usize * 2267 + name[len - 2] as usize * 1465;
-    let middle = name[len - 3] as usize * 2213 + name[len / 2] as usize * 3827;
-    (len % 256 * 1143 + end + middle) % BUCKETS
+    hash
 }

@@ -11,13 +11,18 @@ use Rattle.zic_plan.specs.declared.layout.Unit.TheVariants as unit
 use Rattle.zic_rows.specs.Instant.{IsRowInstant, instant_of}
 use Rattle.zic_rows.specs.Row.{rest_text, row_text, state_text}
 use Rattle.zic_rows.specs.code.Kept.{kept_date}
-use Rattle.zic_rows.specs.Count.{count_of, counted_rest_text, counted_row_text, fraction_of, fraction_text, second_of}
+use Rattle.zic_rows.specs.Count.{count_of, counted_rest_text, counted_row_text, fraction_of, fraction_text, second_of, timed_rest_text}
 use Rattle.zic_rows.proofs.RowTexts.{local_kept}
 
 -- the whole second of a count of seconds
 pub second_one : (t : ℤ) → second_of unit.Second t ≡ t
 second_one (pos n) = ap pos (div-one n)
 second_one (negsuc n) = ap negsuc (div-one n)
+
+-- and nothing lies after it
+pub fraction_one : (t : ℤ) → fraction_of unit.Second t ≡ 0
+fraction_one (pos n) = omega arith
+fraction_one (negsuc n) = omega arith
 
 -- a count of seconds is an instant
 pub count_seconds : (field : List ℕ) → count_of unit.Second field ≡ instant_of field
@@ -26,7 +31,7 @@ count_seconds field = refl
 
 -- and its row that of the instant
 pub counted_seconds : (name : List ℕ) (t : ℤ) (s : Shown) → counted_row_text unit.Second name t s ≡ row_text name t s
-unfolding counted_row_text counted_rest_text row_text rest_text
+unfolding counted_row_text counted_rest_text timed_rest_text row_text rest_text
 counted_seconds name t s = rw (second_one t) refl
 
 -- a row of a count, appended in its parts
@@ -45,8 +50,21 @@ counted_joined old named parted numbered new name digits u count s with_name wit
 pub counted_rest_kept : (u : Unit) (count : ℤ) (s : Shown) (seconds day : ℕ) → pos seconds ≡ second_of u count +ℤ s.offset +ℤ pos (719_162 * 86_400) → day ≡ seconds / 86_400
     → let second = seconds % 86_400 in
     kept_date day ++ (clock_text second ++ (fraction_text u (fraction_of u count) ++ state_text s)) ≡ counted_rest_text u count s
-unfolding counted_rest_text
+unfolding counted_rest_text timed_rest_text
 counted_rest_kept u count s seconds day counted of_day = local_kept (second_of u count) s.offset seconds day (fraction_text u (fraction_of u count) ++ state_text s) counted of_day
+
+-- what follows a count, by the date that is kept
+pub timed_rest_kept : (u : Unit) (t : ℤ) (n : ℕ) (s : Shown) (seconds day : ℕ) → pos seconds ≡ t +ℤ s.offset +ℤ pos (719_162 * 86_400) → day ≡ seconds / 86_400
+    → kept_date day ++ (clock_text (seconds % 86_400) ++ (fraction_text u n ++ state_text s)) ≡ timed_rest_text u t n s
+unfolding timed_rest_text
+timed_rest_kept u t n s seconds day counted of_day = local_kept t s.offset seconds day (fraction_text u n ++ state_text s) counted of_day
+
+-- a row, appended in its parts
+pub timed_joined : (old started dated timed parted new start date clock fraction text rest : List ℕ) → started ≡ old ++ start → dated ≡ started ++ date → timed ≡ dated ++ clock
+    → parted ≡ timed ++ fraction → new ≡ parted ++ text → date ++ (clock ++ (fraction ++ text)) ≡ rest → new ≡ old ++ (start ++ rest)
+timed_joined old started dated timed parted new start date clock fraction text rest with_start with_date with_clock with_fraction with_text is_rest =
+    let all : new ≡ ((((old ++ start) ++ date) ++ clock) ++ fraction) ++ text = rw (with_text, with_fraction, with_clock, with_date, with_start) refl in
+    all ∙ (simp append_assoc) ∙ ap (λ (l : List ℕ). old ++ (start ++ l)) is_rest
 
 -- the rest of a row, appended in its parts
 pub rest_appended : (old dated timed parted new octets date clock fraction text : List ℕ) (len : ℕ) → take 12 octets ≡ date → take len (drop 20 octets) ≡ text

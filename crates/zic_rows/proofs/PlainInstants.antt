@@ -14,30 +14,36 @@ own : IsNumeralModel (λ (ds : List ℕ). list_all is_ascii_digit ds ≡ true) (
 own = numerals_by_fold (λ (ds : List ℕ). list_all is_ascii_digit ds ≡ true) (search rules) (fold (λ (n digit : ℕ). 10 * n + (digit - 48))) (search rules)
 
 -- the digits of a number
-record AreDigits (ds : List ℕ) (n : ℕ) : Type 0 where
-  some : 1 ≤ length ds
-  digits : list_all is_ascii_digit ds ≡ true
-  value : n ≡ decimal_value ds
-  fits : n < 2 ^ 64
+pub record AreDigits (ds : List ℕ) (n : ℕ) : Type 0 where
+  pub some : 1 ≤ length ds
+  pub few : length ds ≤ 19
+  pub digits : list_all is_ascii_digit ds ≡ true
+  pub value : n ≡ decimal_value ds
+  pub fits : n < 2 ^ 64
 
 -- what holds of the number of digits, holds of the number of a text, if it has one
-on_number : (P : ℕ → Type 0) (ds : List ℕ) → ((n : ℕ) → AreDigits ds n → P n) → IfSome (number 18 ds) P
+on_number : (P : ℕ → Type 0) (most : ℕ) (ds : List ℕ) → most ≤ 19 → ((n : ℕ) → AreDigits ds n → P n) → IfSome (number most ds) P
 unfolding number
-on_number P ds h =
-    let test = nat_le 1 (length ds) && nat_le (length ds) 18 && list_all is_ascii_digit ds in
+on_number P most ds bound h =
+    let test = nat_le 1 (length ds) && nat_le (length ds) most && list_all is_ascii_digit ds in
     let Q : Bool → Type 0 = λ b. test ≡ b → IfSome (if b then Some (decimal_value ds) else None) P in
     let at : (b : Bool) → Q b = λ b. elim b as Q [
       | true ↦ λ e.
-          let (lengths, digits) = and_parts (nat_le 1 (length ds) && nat_le (length ds) 18) (list_all is_ascii_digit ds) e in
-          let (some, few) = and_parts (nat_le 1 (length ds)) (nat_le (length ds) 18) lengths in
-          let small : decimal_value ds < 10 ^ 18 = digits_value_short own ds 18 digits (leb-true (length ds) 18 few) in
-          h (decimal_value ds) (record { some = leb-true 1 (length ds) some; digits = digits; value = refl; fits = omega (arith, small) })
+          let (lengths, digits) = and_parts (nat_le 1 (length ds) && nat_le (length ds) most) (list_all is_ascii_digit ds) e in
+          let (some, within) = and_parts (nat_le 1 (length ds)) (nat_le (length ds) most) lengths in
+          let few : length ds ≤ 19 = omega (arith, bound, leb-true (length ds) most within) in
+          let small : decimal_value ds < 10 ^ 19 = digits_value_short own ds 19 digits few in
+          h (decimal_value ds) (record { some = leb-true 1 (length ds) some; few = few; digits = digits; value = refl; fits = omega (arith, small) })
       | false ↦ λ e. tt
     ] in
     at test refl
 
+-- a number that was read
+pub read_number : (most : ℕ) (ds : List ℕ) (n : ℕ) → most ≤ 19 → number most ds ≡ Some n → AreDigits ds n
+read_number most ds n bound read = (rw read at (on_number (λ m. m ≡ n → AreDigits ds n) most ds bound (λ m h e. rw (← e) h))) refl
+
 -- digits that begin with no zero, or are one, are the plain ones
-plain_if : (ds : List ℕ) (n : ℕ) → AreDigits ds n → (get_or ds 0 0 ≡ 48 → length ds ≡ 1) → ds ≡ decimal n
+pub plain_if : (ds : List ℕ) (n : ℕ) → AreDigits ds n → (get_or ds 0 0 ≡ 48 → length ds ≡ 1) → ds ≡ decimal n
 plain_if ds n h first =
     sym (ap decimal h.value ∙ decimal-digits_value own ds h.digits (omega (arith, h.some)) first (subst (λ (m : ℕ). m < 2 ^ 64) h.value h.fits))
 
@@ -90,7 +96,7 @@ unfolding instant_of
 plain_negative [] long minus = absurd (omega arith)
 plain_negative (b ∷ ds) long minus =
     let P : ℤ → Type 0 = λ instant. IsTrue (not (nat_eq (get_or ds 0 0) 48)) ↔ (45 ∷ ds ≡ signed_decimal instant) in
-    rw minus (on_option_map P (λ n. neg_ℤ (pos n)) (number 18 ds) (on_number (λ n. P (neg_ℤ (pos n))) ds (λ n h. after_minus ds n h)))
+    rw minus (on_option_map P (λ n. neg_ℤ (pos n)) (number 18 ds) (on_number (λ n. P (neg_ℤ (pos n))) 18 ds (omega arith) (λ n h. after_minus ds n h)))
 
 -- where none does
 pub plain_more : (field : List ℕ) → 2 ≤ length field → get_or field 0 0 ≢ 45
@@ -100,14 +106,14 @@ plain_more [] long plus = absurd (omega arith)
 plain_more (b ∷ ds) long plus =
     let P : ℤ → Type 0 = λ instant. IsTrue (not (nat_eq b 48)) ↔ (b ∷ ds ≡ signed_decimal instant) in
     let other : nat_eq b 45 ≡ false = grind (arith, nat_tests, plus) in
-    rw other (on_option_map P pos (number 18 (b ∷ ds)) (on_number (λ n. P (pos n)) (b ∷ ds) (λ n h. more_digits (b ∷ ds) n h long)))
+    rw other (on_option_map P pos (number 18 (b ∷ ds)) (on_number (λ n. P (pos n)) 18 (b ∷ ds) (omega arith) (λ n h. more_digits (b ∷ ds) n h long)))
 
 -- one byte, or none
 pub plain_short : (field : List ℕ) → length field < 2 → IfSome (instant_of field) (λ instant. IsTrue true ↔ (field ≡ signed_decimal instant))
 unfolding instant_of
-plain_short [] short = on_option_map (λ instant. IsTrue true ↔ ([] ≡ signed_decimal instant)) pos (number 18 []) (on_number (λ n. IsTrue true ↔ ([] ≡ decimal n)) [] (λ n h. absurd (omega (arith, h.some))))
+plain_short [] short = on_option_map (λ instant. IsTrue true ↔ ([] ≡ signed_decimal instant)) pos (number 18 []) (on_number (λ n. IsTrue true ↔ ([] ≡ decimal n)) 18 [] (omega arith) (λ n h. absurd (omega (arith, h.some))))
 plain_short (b ∷ ds) short =
     let P : ℤ → Type 0 = λ instant. IsTrue true ↔ (b ∷ ds ≡ signed_decimal instant) in
-    let minus = on_option_map P (λ n. neg_ℤ (pos n)) (number 18 ds) (on_number (λ n. P (neg_ℤ (pos n))) ds (λ n h. absurd (omega (arith, short, h.some)))) in
-    let one = on_option_map P pos (number 18 (b ∷ ds)) (on_number (λ n. P (pos n)) (b ∷ ds) (λ n h. (λ _. plain_if (b ∷ ds) n h (λ _. omega (arith, short)), λ _. refl))) in
+    let minus = on_option_map P (λ n. neg_ℤ (pos n)) (number 18 ds) (on_number (λ n. P (neg_ℤ (pos n))) 18 ds (omega arith) (λ n h. absurd (omega (arith, short, h.some)))) in
+    let one = on_option_map P pos (number 18 (b ∷ ds)) (on_number (λ n. P (pos n)) 18 (b ∷ ds) (omega arith) (λ n h. (λ _. plain_if (b ∷ ds) n h (λ _. omega (arith, short)), λ _. refl))) in
     elim (nat_eq b 45) as (λ t. IfSome (if t then option_map (λ n. neg_ℤ (pos n)) (number 18 ds) else option_map pos (number 18 (b ∷ ds))) P) [ true ↦ minus | false ↦ one ]

@@ -49,9 +49,13 @@ fraction_text unit.Millisecond n = 46 ∷ three_digits n
 fraction_text unit.Microsecond n = 46 ∷ (three_digits (n / 1000) ++ three_digits (n % 1000))
 fraction_text unit.Nanosecond n = 46 ∷ (three_digits (n / 1_000_000) ++ three_digits (n / 1000 % 1000) ++ three_digits (n % 1000))
 
--- the text that follows the count: its local time with a fraction, and the state, as `,1970-01-01T00:00:00.000,+00:00:00,0,UTC` and a newline
+-- what follows a count of this whole second and so many units: its local time and the state, as `,1970-01-01T00:00:00.000,+00:00:00,0,UTC` and a newline
+unfoldable pub timed_rest_text : Unit → ℤ → ℕ → Shown → List ℕ
+timed_rest_text u second fraction shown = 44 ∷ (local_text second shown.offset ++ (fraction_text u fraction ++ state_text shown))
+
+-- the text that follows a count
 unfoldable pub counted_rest_text : Unit → ℤ → Shown → List ℕ
-counted_rest_text u count shown = 44 ∷ (local_text (second_of u count) shown.offset ++ (fraction_text u (fraction_of u count) ++ state_text shown))
+counted_rest_text u count shown = timed_rest_text u (second_of u count) (fraction_of u count) shown
 
 -- the text of a row: its name, its count in plain decimals, and the rest
 unfoldable pub counted_row_text : Unit → List ℕ → ℤ → Shown → List ℕ

@@ -2,4 +2,5 @@ pub mod Instant
 pub mod Local
 pub mod Row
 pub mod Count
+pub mod PlainTime
 pub mod code

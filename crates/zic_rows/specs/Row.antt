@@ -1,5 +1,5 @@
 -- The text of a row: own choice, in the manner of RFC 3339 for local time and offset.
-use Rattle.std.specs.Prelude.{ℕ, ◌/◌, ◌%◌, ℤ, ◌+ℤ◌, ◌≤◌, length, unsigned_abs, if◌then◌else◌, List, [], ◌∷◌, ◌++◌}
+use Rattle.std.specs.Prelude.{ℕ, ◌/◌, ◌%◌, ◌==◌, ℤ, ◌+ℤ◌, ◌≤◌, length, unsigned_abs, if◌then◌else◌, List, [], ◌∷◌, ◌++◌}
 use Rattle.std.specs.Fmt.{signed_decimal}
 use Rattle.zic_base.specs.Digits.{two_digits, offset_text}
 use Rattle.zic_base.specs.State.{Shown}
@@ -40,3 +40,7 @@ row_text name instant shown = name ++ 44 ∷ (signed_decimal instant ++ rest_tex
 pub record IsRowState (shown : Shown) : Type 0 where
   pub offset : IsRowOffset shown.offset
   pub name : length shown.name ≤ LONGEST_ABBREVIATION
+
+-- another byte for a comma, a comma for that byte, and any other as it is
+abbrev pub for_comma : ℕ → ℕ → ℕ
+for_comma other byte = if byte == 44 then other else if byte == other then 44 else byte

@@ -6,6 +6,7 @@ ghost use Rattle.zic_rows.specs.Count.{count_of, fraction_of, fraction_digits, f
 ghost use Rattle.zic_rows.specs.Count.{second_of, three_digits, units_of_second};
 ghost use Rattle.zic_rows.specs.Instant.{number};
 
+use crate::instant::short_number;
 use crate::limit::MAX_DIGITS;
 use jiff_core::num::div_rem_floor;
 use std::alloc::AllocError;
@@ -13,7 +14,7 @@ use zic_base::two_digits;
 use zic_plan::Unit;
 
 /// Returns how many digits a fraction of a second has.
-fn fraction_digits(unit: Unit) -> usize
+pub(crate) fn fraction_digits(unit: Unit) -> usize
     ensures { result ≡ fraction_digits unit }
 {
     match unit {
@@ -25,7 +26,7 @@ fn fraction_digits(unit: Unit) -> usize
 }
 
 /// Returns how many units make up a second.
-fn units_of_second(unit: Unit) -> u32
+pub(crate) fn units_of_second(unit: Unit) -> u32
     ensures { result ≡ units_of_second unit }
 {
     match unit {
@@ -55,11 +56,16 @@ pub fn parse_count(field: &[u8], unit: Unit) -> Option<i128>
 /// Returns the number that the text spells in decimal digits: at least one, and at most `most`.
 #[tactic(auto, unfolding(crate::specs::Instant::number))]
 fn number(text: &[u8], most: usize) -> Option<u128>
-    requires { most ≤ 27 }
+    requires few { most ≤ 27 }
+    requires enough { MAX_DIGITS ≤ most }
     ensures value { result ≡ number most text.now }
     ensures fits { IfSome result (λ n. n < 10 ^ 27) }
 {
-    if text.is_empty() || text.len() > most {
+    if text.len() <= MAX_DIGITS {
+        let n = short_number(text, MAX_DIGITS)?;
+        return Some(n as u128);
+    }
+    if text.len() > most {
         return None;
     }
     let mut n = 0;
@@ -86,7 +92,20 @@ pub fn moment_of(count: i128, unit: Unit) -> Moment
     ensures fraction { result.fraction ≡ fraction_of unit count }
     ensures below { result.fraction < units_of_second unit }
 {
-    let (second, fraction) = div_rem_floor(count, u128::from(units_of_second(unit)));
+    if unit == Unit::Second {
+        return Moment {
+            second: count,
+            fraction: 0,
+        };
+    }
+    let units = units_of_second(unit);
+    if let Ok(near) = i64::try_from(count) {
+        return Moment {
+            second: near.div_euclid(i64::from(units)) as i128,
+            fraction: near.rem_euclid(i64::from(units)) as u32,
+        };
+    }
+    let (second, fraction) = div_rem_floor(count, u128::from(units));
     Moment {
         second,
         fraction: fraction as u32,
@@ -94,7 +113,7 @@ pub fn moment_of(count: i128, unit: Unit) -> Moment
 }
 
 /// Returns the three decimal digits of a number below 1,000.
-fn three_digits(n: u32) -> [u8; 3]
+pub(crate) fn three_digits(n: u32) -> [u8; 3]
     requires { n < 1000 }
     ensures { result ≡ three_digits n }
 {

@@ -14,13 +14,13 @@ pub(crate) fn write_date(rest: &mut [u8; REST_ROOM], day: u32)
     ensures date { take 12 rest.new ≡ kept_date day }
     ensures after { drop 20 rest.new ≡ drop 20 rest.old }
 {
-    rest[..12].copy_from_slice(&date_text(day));
+    rest[..12].copy_from_slice(&date_text(day)[..12]);
 }
 
-/// Returns a comma, the date of a day counted from 0001-01-01, and a `T`.
-fn date_text(day: u32) -> [u8; 12]
+/// Returns a comma, the date of a day counted from 0001-01-01, and a `T`, in the first 12 bytes.
+pub(crate) fn date_text(day: u32) -> [u8; 16]
     requires { day < DAYS }
-    ensures { result ≡ kept_date day }
+    ensures { take 12 result ≡ kept_date day }
 {
     let date = civil(day as i64 - DAYS_TO_1970 as i64, 0);
     let year = date.year as u32;
@@ -30,5 +30,7 @@ fn date_text(day: u32) -> [u8; 12]
     let [yyy, yyyy] = digit_pair(year % 100);
     let [m, mm] = digit_pair(month);
     let [d, dd] = digit_pair(day);
-    [b',', y, yy, yyy, yyyy, b'-', m, mm, b'-', d, dd, b'T']
+    [
+        b',', y, yy, yyy, yyyy, b'-', m, mm, b'-', d, dd, b'T', 0, 0, 0, 0,
+    ]
 }

@@ -1,6 +1,6 @@
 //! The instant that a field of a column names.
 
-ghost use Rattle.std.specs.Prelude.{◌≡◌, ◌<◌, ◌^◌, ◌↔◌, IfSome, IsTrue};
+ghost use Rattle.std.specs.Prelude.{◌≡◌, ◌<◌, ◌≤◌, ◌^◌, ◌↔◌, IfSome, IsTrue};
 ghost use Rattle.std.specs.Fmt.{signed_decimal};
 ghost use Rattle.zic_rows.specs.Instant.{instant_of, number};
 
@@ -14,10 +14,10 @@ pub fn parse_instant(field: &[u8]) -> Option<i64>
     ensures { result ≡ instant_of field.now }
 {
     if let [b'-', digits @ ..] = field {
-        let seconds = number(digits)?;
+        let seconds = short_number(digits, MAX_DIGITS)?;
         return Some(-(seconds as i64));
     }
-    let seconds = number(field)?;
+    let seconds = short_number(field, MAX_DIGITS)?;
     Some(seconds as i64)
 }
 
@@ -35,14 +35,15 @@ pub fn is_plain(field: &[u8]) -> bool
     }
 }
 
-/// Returns the number that the text spells in decimal digits: at least one, and at most
-/// `MAX_DIGITS`.
+/// Returns the number that the text spells in decimal digits: at least one, and at most `most`.
+#[inline(always)]
 #[tactic(auto, unfolding(crate::specs::Instant::number))]
-fn number(text: &[u8]) -> Option<u64>
-    ensures value { result ≡ number MAX_DIGITS text.now }
-    ensures fits { IfSome result (λ n. n < 10 ^ 18) }
+pub(crate) fn short_number(text: &[u8], most: usize) -> Option<u64>
+    requires { most ≤ 19 }
+    ensures value { result ≡ number most text.now }
+    ensures fits { IfSome result (λ n. n < 10 ^ most) }
 {
-    if text.is_empty() || text.len() > MAX_DIGITS {
+    if text.is_empty() || text.len() > most {
         return None;
     }
     let mut n = 0;

@@ -150,7 +150,7 @@ impl RowWriter {
 
 /// Returns local time in seconds from 0001-01-01T00:00:00.
 #[inline(always)]
-fn local_seconds(instant: i64, offset: i32) -> u64
+pub(crate) fn local_seconds(instant: i64, offset: i32) -> u64
     requires instant { IsRowInstant instant }
     requires offset { IsRowOffset offset }
     ensures value { pos result ≡ instant +ℤ offset +ℤ pos (DAYS_TO_1970 * DAY) }

@@ -1,6 +1,6 @@
 //! The text of a state at the end of a row.
 
-ghost use Rattle.std.specs.Prelude.{◌≡◌, ◌≤◌, take, drop};
+ghost use Rattle.std.specs.Prelude.{◌≡◌, ◌+◌, ◌≤◌, ◌++◌, length, take, drop};
 ghost use Rattle.zic_base.specs.State.{shown};
 ghost use Rattle.zic_rows.specs.Instant.{IsRowOffset};
 ghost use Rattle.zic_rows.specs.Row.{state_text, IsRowState};
@@ -8,6 +8,7 @@ ghost use Rattle.zic_rows.specs.code.Kept.{before_name, IsTextOf};
 
 use crate::limit::REST_ROOM;
 use crate::row_state::RowState;
+use crate::store::put_32;
 use std::marker::Model;
 use zic_base::{State, offset_text};
 
@@ -52,6 +53,27 @@ impl StateText {
         ensures { result ≡ self.now }
     {
         self.state.copy()
+    }
+
+    /// Returns the UT offset in seconds, positive east.
+    #[inline(always)]
+    pub(crate) fn offset(&self) -> i32
+        ensures value { result ≡ self.now.offset }
+        ensures may { IsRowOffset result }
+    {
+        self.state.offset()
+    }
+
+    /// Writes the text into another with room for 32 bytes, and returns where it ends.
+    #[inline(always)]
+    pub(crate) fn put(&self, text: &mut [u8], at: usize) -> usize
+        requires { at + ROOM ≤ length text.old }
+        ensures end { result ≤ at + ROOM }
+        ensures kept { length text.new ≡ length text.old }
+        ensures written { take result text.new ≡ take at text.old ++ state_text self.now }
+    {
+        put_32(text, at, &self.octets, self.len);
+        at + self.len
     }
 
     /// Copies the text into the rest of a row, from byte 20 on, and returns its length, at most 32.

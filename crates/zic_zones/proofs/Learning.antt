@@ -9,8 +9,8 @@ use Rattle.zic_files.specs.Tree.{AreAsked, AreOfName, Gains, GrowsBy, IsKnown, I
 use Rattle.zic_zones.specs.Growing.{gains_on}
 use Rattle.zic_zones.specs.Tree.{Breaks, Grows, TreeOf}
 use Rattle.zic_zones.specs.code.Ready.{AreReady}
-use Rattle.zic_base.specs.State.{Shown}
-use Rattle.zic_zones.proofs.Texts.{files_added}
+use Rattle.zic_zones.specs.declared.ready.Ready.{Ready}
+use Rattle.zic_zones.proofs.Readying.{files_added}
 
 -- ---- what a name adds
 
@@ -49,10 +49,10 @@ module _ (name : List ℕ) (old new : Learnt) (grows : GrowsBy name old new) whe
   ]
 
   -- the texts of the files that were learnt before
-  pub ready_still : (ready : List (List (Option Shown))) → AreReady old.files ready → AreReady new.files ready
+  pub ready_still : (ready : Ready) → AreReady old.files ready → AreReady new.files ready
   ready_still ready are = elim grows [
     | inl same ↦ subst (λ (l : Learnt). AreReady l.files ready) (sym same.1) are
-    | inr adds ↦ subst (λ (l : List File). AreReady l ready) (sym adds.files) (files_added old.files ready are (files_named name adds.image))
+    | inr adds ↦ subst (λ (l : List File). AreReady l ready) (sym adds.files) (files_added old.files (files_named name adds.image) ready are)
   ]
 
 -- ---- a call

@@ -1,5 +1,9 @@
 pub mod Named
-pub mod Texts
+pub mod Keys
+pub mod Held
+pub mod Numbered
+pub mod Slotted
+pub mod Readying
 pub mod Shows
 pub mod Learning
 pub mod Records

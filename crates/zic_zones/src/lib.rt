@@ -3,9 +3,12 @@
 #![tactic(auto)]
 
 pub mod laws;
+mod name_keys;
 mod ready;
 mod row_zones;
 mod source_zones;
+mod tables;
+mod texts;
 mod tree_zones;
 mod zones;
 

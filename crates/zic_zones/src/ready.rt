@@ -1,101 +1,112 @@
 //! What is made ready of files before rows are made.
 
-ghost use Rattle.std.specs.Prelude.{◌≡◌, [], IfOk, IfSome};
-ghost use Rattle.zic_base.specs.State.{shown};
-ghost use Rattle.zic_zones.specs.code.Ready.{AreReady, AreTextsOf, HasText};
+ghost use Rattle.std.specs.Prelude.{◌≡◌, ◌<◌, ◌≤◌, List, [], IfOk, IfSome, length, slice_range};
+ghost use Rattle.zic_files.specs.File.{File};
+ghost use Rattle.zic_zones.specs.Zones.{AnswersAt};
+ghost use Rattle.zic_zones.specs.code.Ready.{AreReady, IsFileOf, IsReadyZone, IsTextOf};
+ghost use Rattle.zic_zones.specs.code.Texts.{Keeps};
 
+use crate::name_keys::NameKeys;
+use crate::tables::Tables;
+use crate::texts::Texts;
 use std::alloc::{AllocError, Global};
-use std::marker::Model;
-use zic_base::{LONGEST_ABBREVIATION, State};
 use zic_files::Files;
-use zic_rows::{FARTHEST_OFFSET, StateText};
+use zic_rows::StateText;
+use zic_slots::{ERAS, FIRST_BASE, place_of};
 use zic_tzif::Zone;
 
-/// The texts of the states of a zone, by the numbers of the states; `None` where no row may have the
-/// state. Clauses see the states.
+/// What is made ready of a zone.
 #[derive(Drop)]
-struct ZoneTexts {
-    texts: Vec<Option<StateText>>,
+struct ReadyZone {
+    /// The numbers of the states' texts.
+    numbers: Vec<u16>,
+    /// Where the table of each era begins, where there is one.
+    tables: [Option<u32>; ERAS],
 }
 
-impl Model for ZoneTexts {
-    ghost use Rattle.std.specs.Prelude.{List, Option};
-    ghost use Rattle.zic_base.specs.State.{Shown};
-
-    ghost Value = { List (Option Shown) };
-
-    ghost view = { λ z. z.texts.items };
-}
-
-impl ZoneTexts {
-    /// Makes the texts of all states of a zone.
-    fn new(alloc: Global, zone: &Zone) -> Result<ZoneTexts, AllocError>
-        ensures { IfOk result (AreTextsOf zone.now) }
-    {
-        let count = zone.state_count();
-        let mut texts = Vec::with_capacity(alloc, count)?;
-        for number in 0..count {
-            texts.push(text_of(zone.state(number)))?;
-        }
-        Ok(ZoneTexts { texts })
-    }
-}
-
-/// The texts of the states that files show, made once for all rows. Clauses see the states, by the
-/// number of the file.
+/// The texts of the states that files show, made once for all rows, and tables of the states by
+/// instants and of the files by name.
 #[derive(Drop)]
 pub(crate) struct Ready {
-    zones: Vec<ZoneTexts>,
-}
-
-impl Model for Ready {
-    ghost use Rattle.std.specs.Prelude.{List, Option};
-    ghost use Rattle.zic_base.specs.State.{Shown};
-
-    ghost Value = { List (List (Option Shown)) };
-
-    ghost view = { λ r. r.zones.items };
+    names: NameKeys,
+    texts: Texts,
+    tables: Tables,
+    /// By the number of the file.
+    zones: Vec<ReadyZone>,
 }
 
 impl Ready {
-    /// Returns the texts of no file.
+    /// Returns what is ready of no file.
     pub(crate) fn new(alloc: Global) -> Ready
-        ensures { result ≡ [] }
+        ensures { (files : List File) → AreReady files result }
     {
         Ready {
+            names: NameKeys::new(alloc),
+            texts: Texts::new(alloc),
+            tables: Tables::new(alloc),
             zones: Vec::new(alloc),
         }
     }
 
-    /// Makes the texts of the files after those that have theirs.
+    /// Makes ready the files after those that are ready.
     pub(crate) fn extend(&mut self, alloc: Global, files: &Files) -> Result<(), AllocError>
         requires { AreReady files.now self.old }
         ensures { AreReady files.now self.new }
     {
+        self.names.extend(alloc, files)?;
         for file in self.zones.len()..files.len() {
-            self.zones.push(ZoneTexts::new(alloc, files.zone(file))?)?;
+            let zone = self.zone(alloc, files.zone(file))?;
+            self.zones.push(zone)?;
         }
         Ok(())
+    }
+
+    /// Makes a zone ready.
+    fn zone(&mut self, alloc: Global, zone: &Zone) -> Result<ReadyZone, AllocError>
+        ensures names { self.new.names ≡ self.old.names }
+        ensures zones { self.new.zones ≡ self.old.zones }
+        ensures texts { Keeps self.old.texts self.new.texts }
+        ensures tables { Keeps self.old.tables self.new.tables }
+        ensures ready { IfOk result (IsReadyZone zone.now self.new.texts self.new.tables) }
+    {
+        let numbers = self.texts.add_zone(alloc, zone)?;
+        let first = self.tables.add(alloc, zone, &numbers, FIRST_BASE)?;
+        let tables = [first, None, None, None];
+        Ok(ReadyZone { numbers, tables })
+    }
+
+    /// Returns the number of the file that a part of some bytes names, if it is at hand.
+    #[inline(always)]
+    pub(crate) fn quick_number(&self, bytes: &[u8], start: usize, end: usize) -> Option<usize>
+        requires order { start ≤ end }
+        requires within { end ≤ length bytes.now }
+        ensures { (files : List File) → AreReady files self.now
+            → IfSome result (IsFileOf files (slice_range bytes.now start end)) }
+    {
+        self.names.quick(bytes, start, end)
     }
 
     /// Returns the text of a state of a file, by their numbers, where one was made.
     #[inline(always)]
     pub(crate) fn text(&self, file: usize, number: usize) -> Option<&StateText>
-        ensures { IfSome result (λ text. HasText self.now file number text.now) }
+        ensures { (files : List File) → AreReady files self.now
+            → IfSome result (λ text. IsTextOf files file number text.now) }
     {
-        match self.zones.get(file)?.texts.get(number) {
-            Some(Some(text)) => Some(text),
-            _ => None,
-        }
+        let zone = self.zones.get(file)?;
+        let text = zone.numbers.get(number)?;
+        self.texts.get(*text)
     }
-}
 
-/// Returns the text of a state, or `None` where no row may have the state.
-fn text_of(state: State<'_>) -> Option<StateText>
-    ensures { IfSome result (λ text. text ≡ shown state.entry) }
-{
-    if FARTHEST_OFFSET < state.offset.unsigned_abs() || LONGEST_ABBREVIATION < state.name.len() {
-        return None;
+    /// Returns the text of the state that a file shows at an instant, where a table tells it.
+    #[inline(always)]
+    pub(crate) fn quick_text(&self, file: usize, instant: i64) -> Option<&StateText>
+        ensures { (files : List File) → AreReady files self.now
+            → IfSome result (λ text. AnswersAt files file instant text.now) }
+    {
+        let zone = self.zones.get(file)?;
+        let place = place_of(instant)?;
+        let start = zone.tables[place.era]?;
+        let slot = self.tables.slot(start, place.slot)?;
+        self.texts.get(slot.number_at(place.second))
     }
-    Some(StateText::new(state))
 }

@@ -1,6 +1,6 @@
 //! Files that are ready for rows.
 
-ghost use Rattle.std.specs.Prelude.{◌≡◌, ◌<◌, ℤ, length, IfSome, slice_get};
+ghost use Rattle.std.specs.Prelude.{◌≡◌, ◌<◌, ◌≤◌, ℤ, length, IfSome, slice_get, slice_range};
 ghost use Rattle.zic_files.specs.Sound.{AreSoundFiles};
 ghost use Rattle.zic_posix.specs.Instants.{Includes};
 ghost use Rattle.zic_rows.specs.Row.{IsRowState};
@@ -9,7 +9,7 @@ ghost use Rattle.zic_zones.specs.Zones.{AnswersAt, IsShownAt, ShowsThroughout, n
 use crate::ready::Ready;
 use std::marker::Model;
 use zic_files::Files;
-use zic_rows::RowWriter;
+use zic_rows::{RowWriter, StateText};
 use zic_tzif::{Answer, Instants};
 
 /// Some instants, and the number of the state that a zone shows at each of them.
@@ -57,6 +57,21 @@ impl<'a> RowZones<'a> {
         self.files.find(name)
     }
 
+    /// Returns the number of the file that a part of some bytes names, or `None` where no file has
+    /// that name.
+    #[inline(always)]
+    pub fn find_at(&self, bytes: &[u8], start: usize, end: usize) -> Option<usize>
+        requires order { start ≤ end }
+        requires within { end ≤ length bytes.now }
+        ensures { result ≡ number_of self.now (slice_range bytes.now start end) }
+    {
+        self.are_sound();
+        match self.ready.quick_number(bytes, start, end) {
+            Some(number) => Some(number),
+            None => self.find(&bytes[start..end]),
+        }
+    }
+
     /// Returns the name of a file, by its number.
     #[inline(always)]
     pub fn name(&self, file: usize) -> &'a [u8]
@@ -81,6 +96,16 @@ impl<'a> RowZones<'a> {
             },
             Answer::Unspecified => unreachable!(),
         }
+    }
+
+    /// Returns the text of the state that a file shows at an instant, if it is at hand. `None` says
+    /// nothing.
+    #[inline(always)]
+    pub fn quick_text(&self, file: usize, instant: i64) -> Option<&'a StateText>
+        requires { file < length self.now }
+        ensures { IfSome result (λ text. AnswersAt self.now file instant text.now) }
+    {
+        self.ready.quick_text(file, instant)
     }
 
     /// Sets the state of the rows to come to that of a file with this number, which the file shows

@@ -1,26 +1,35 @@
 -- Some records of a piece, column by column: each column is told by those before it.
-use Rattle.std.specs.Prelude.{◌≡◌, ◌<◌, ◌≤◌, ℕ, ℤ, List, [], Option, Some, None, IfSome, All, length, map, slice_index_or, take}
+use Rattle.std.specs.Borrow.{Bor}
+use Rattle.std.specs.Prelude.{◌≡◌, ◌<◌, ◌≤◌, true, ℕ, ℤ, List, Option, Some, None, IfSome, All, length, map, slice_index_or, string_bytes, take}
+use Rattle.zic_base.specs.State.{Shown}
 use Rattle.zic_columns.specs.Own.{Whole}
-use Rattle.zic_columns.specs.Record.{IsSplit, record_at}
+use Rattle.zic_columns.specs.Record.{IsSplit, bytes_at, record_at}
 use Rattle.zic_columns.specs.declared.splits.TheConstants.{BATCH}
+use Rattle.zic_columns.specs.declared.fields.Field.{Field}
+use Rattle.zic_columns.specs.declared.fields.Field.TheVariants.{Plain, Quoted}
 use Rattle.zic_columns.specs.declared.fields.Record.{Record}
+use Rattle.zic_columns.specs.declared.fields.Span.{Span}
 use Rattle.zic_columns.specs.declared.fields.Wanted.{Wanted}
 use Rattle.zic_files.specs.File.{File}
+use Rattle.zic_plan.specs.Layout.{has_count}
 use Rattle.zic_plan.specs.declared.layout.Layout.{Layout}
+use Rattle.zic_plan.specs.declared.layout.Unit.{Unit}
 use Rattle.zic_plan.specs.declared.layout.ZoneFrom.{ZoneFrom}
 use Rattle.zic_plan.specs.declared.layout.ZoneFrom.TheVariants as zone
 use Rattle.zic_rows.specs.Count.{second_of}
 use Rattle.zic_rows.specs.Instant.{IsRowInstant}
-use Rattle.zic_zones.specs.Zones.{AnswersAt, IsShownAt, ShowsThroughout, number_of, zone_in}
+use Rattle.zic_rows.specs.PlainTime.{IsPlainTime}
+use Rattle.zic_rows.specs.declared.row_time.RowTime.{RowTime}
+use Rattle.zic_zones.specs.Zones.{AnswersAt, IsShownAt, number_of, zone_in}
 use Rattle.zic_convert.specs.LayoutRows.{count_in, fault_by}
 use Rattle.zic_convert.specs.code.Row.{put_back}
 use Rattle.zic_convert.specs.declared.piece.Piece.{Piece}
 use Rattle.zic_convert.specs.declared.batch.Batch.{Batch}
-use Rattle.zic_convert.specs.declared.batch.NamedFile.{NamedFile}
-use Rattle.zic_convert.specs.declared.row.Asked.{Asked}
+use Rattle.zic_convert.specs.declared.asked.Asked.{Asked}
+use Rattle.zic_convert.specs.declared.quick.Known.{Known}
+use Rattle.zic_convert.specs.declared.quick.QuickRow.{QuickRow}
 use Rattle.zic_convert.specs.declared.row.RowPen.{RowPen}
 use Rattle.zic_convert.specs.declared.row.RowQuery.{RowQuery}
-use Rattle.zic_convert.specs.declared.batch.FileSpan.{FileSpan}
 
 -- the fields that rows need by a layout
 abbrev pub wanted_zone : ZoneFrom → Option ℕ
@@ -30,12 +39,23 @@ wanted_zone (zone.Name name) = None
 abbrev pub wanted_by : Layout → Wanted
 wanted_by layout = record { zone = wanted_zone layout.zone; time = layout.time }
 
+-- a record of no bytes
+abbrev pub blank : Record
+blank = record { own = nowhere; count = 0; zone = Plain nowhere; time = Plain nowhere } where
+  nowhere : Span
+  nowhere = record { start = 0; end = 0 }
+
 -- the number of the file of a record's zone, and the count of its instant
 abbrev pub zone_at : Piece → Record → Option ℕ
 zone_at piece given = number_of piece.zones.now (zone_in piece.layout.now.zone (record_at piece.bytes.now given).fields)
 
 abbrev pub count_at : Piece → Record → Option ℤ
 count_at piece given = count_in piece.layout.now (record_at piece.bytes.now given).fields
+
+-- where all rows are in one zone, the number is that of its file
+abbrev pub IsNamed : ZoneFrom → List File → Option ℕ → Type 0
+IsNamed (zone.Field index) files file = Prim.Unit {0}
+IsNamed (zone.Name name) files file = file ≡ number_of files (string_bytes name)
 
 -- the number is that of a file, or there is none
 abbrev pub IsFile : Piece → Option ℕ → Type 0
@@ -46,22 +66,25 @@ abbrev pub IsStateFor : Piece → Option ℕ → Option ℤ → ℕ → Type 0
 IsStateFor piece file count number = IfSome file (λ n. IfSome count (λ c. IsRowInstant (second_of piece.layout.now.unit c)
     → IsShownAt piece.zones.now n (second_of piece.layout.now.unit c) number))
 
-abbrev pub AreStates : Piece → ℕ → List (Option ℕ) → List (Option ℤ) → List ℕ → Type 0
-AreStates piece count zones counts states =
-    (i : ℕ) → i < count → IsStateFor piece (slice_index_or zones i None) (slice_index_or counts i None) (slice_index_or states i 0)
+-- the field has no double quotes, and has the time in plain decimals
+abbrev pub IsTimeIn : Unit → List ℕ → Field → RowTime → Type 0
+IsTimeIn u bytes (Plain span) time = IsPlainTime u (bytes_at bytes span) time
+IsTimeIn u bytes (Quoted span) time = ⊥
 
--- the name, and the number of its file, if there is one; where all rows are in one zone, it is that zone's name
-abbrev pub IsNameOf : ZoneFrom → List ℕ → Type 0
-IsNameOf (zone.Field index) name = Unit {0}
-IsNameOf from name = name ≡ zone_in from []
+-- the record has as many fields as it must have, and the file shows the state at the time
+pub record IsTextFor (piece : Piece) (given : Record) (zone : Option ℕ) (time : Option RowTime) (shown : Shown) : Type 0 where
+  pub admitted : has_count piece.layout.now.count given.count ≡ true
+  pub answers : IfSome zone (λ n. IfSome time (λ t. AnswersAt piece.zones.now n t.second shown))
 
-pub record IsLastName (piece : Piece) (last : NamedFile) : Type 0 where
-  pub file : last.file ≡ number_of piece.zones.now last.name.now
-  pub name : IsNameOf piece.layout.now.zone last.name.now
+-- the times of the first records, where they say anything
+abbrev pub AreTimes : Piece → ℕ → List Record → List (Option RowTime) → Type 0
+AreTimes piece count records times =
+    (i : ℕ) → i < count → IfSome (slice_index_or times i None) (IsTimeIn piece.layout.now.unit piece.bytes.now (slice_index_or records i blank).time)
 
--- the file shows the state of the span's number at each of its instants
-abbrev pub IsLastSpan : Piece → FileSpan → Type 0
-IsLastSpan piece last = IfSome last.file (λ n. ShowsThroughout piece.zones.now n last.span.instants last.span.number)
+-- and the texts of the states shown then
+abbrev pub AreTexts : Piece → Batch → ℕ → List (Option (Bor Shown)) → Type 0
+AreTexts piece batch count texts = (i : ℕ) → i < count → IfSome (slice_index_or texts i None) (λ text.
+    IsTextFor piece (slice_index_or batch.records i blank) (slice_index_or batch.zones i None) (slice_index_or batch.times i None) text.now)
 
 -- a record of a piece, with the delimiter put back
 abbrev pub record_of : Piece → Record → Whole
@@ -76,8 +99,20 @@ pub record AreColumns (piece : Piece) (batch : Batch) (count : ℕ) : Type 0 whe
   pub few : count ≤ BATCH
   pub split : All (IsSplit piece.bytes.now (wanted_by piece.layout.now)) (take count batch.records)
   pub zones : take count batch.zones ≡ map (zone_at piece) (take count batch.records)
-  pub counts : take count batch.counts ≡ map (count_at piece) (take count batch.records)
-  pub states : AreStates piece count batch.zones batch.counts batch.states
+  pub times : AreTimes piece count batch.records batch.times
+
+-- what is known of a record
+pub record IsKnown (piece : Piece) (given : Record) (known : Known) : Type 0 where
+  pub zone : known.zone ≡ zone_at piece given
+  pub time : IfSome known.time (IsTimeIn piece.layout.now.unit piece.bytes.now given.time)
+  pub text : IfSome known.text (λ text. IsTextFor piece given known.zone known.time text.now)
+
+-- the file of a record's zone, its time in plain decimals, and the state that the file shows then; the record has as many fields as it must have
+pub record IsQuickRow (piece : Piece) (given : Record) (row : QuickRow) : Type 0 where
+  pub admitted : has_count piece.layout.now.count given.count ≡ true
+  pub file : zone_at piece given ≡ Some row.file
+  pub time : IsTimeIn piece.layout.now.unit piece.bytes.now given.time row.time
+  pub answers : AnswersAt piece.zones.now row.file row.time.second row.text.now
 
 -- what a record asks for
 pub record IsAsked (piece : Piece) (given : Record) (asked : Asked) : Type 0 where

@@ -28,10 +28,13 @@ wholes_of_all delimiter pieces = flat_map (wholes_in delimiter) pieces
 abbrev pub fields_of_all : List Whole → List (List (List ℕ))
 fields_of_all wholes = map (λ (w : Whole). w.fields) wholes
 
--- what a row begins with, before the delimiter is put back
+-- what a row begins with, before the delimiter is put back: with an instant as its field has it, or by its count
+abbrev pub field_start : RowStart → List ℕ → List ℕ → List ℕ → List ℕ
+field_start start.Fields own name field = name ++ 44 ∷ field
+field_start start.Record own name field = own
+
 abbrev pub comma_start : RowStart → List ℕ → List ℕ → ℤ → List ℕ
-comma_start start.Fields own name count = name ++ 44 ∷ signed_decimal count
-comma_start start.Record own name count = own
+comma_start start own name count = field_start start own name (signed_decimal count)
 
 -- the text of some rows, how many there are, the fault of the row after them that ends the run, or none, and the faults that they have
 pub record RowsOf : Type 0 where

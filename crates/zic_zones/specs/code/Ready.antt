@@ -1,20 +1,38 @@
 -- What is made ready of files before rows are made.
-use Rattle.std.specs.Prelude.{◌≡◌, ◌≤◌, ℕ, List, length, Option, Some, IsSomeAnd, slice_get}
+use Rattle.std.specs.Prelude.{◌≡◌, ◌≤◌, ℕ, ℤ, List, length, Some, None, IfSome, IsSomeAnd, slice_get, slice_index_or}
 use Rattle.zic_base.specs.State.{Shown}
 use Rattle.zic_files.specs.File.{File}
+use Rattle.zic_slots.specs.Places.{base_of}
+use Rattle.zic_slots.specs.declared.slot.Slot.{Slot}
+use Rattle.zic_tzif.specs.Answer.{Answers}
 use Rattle.zic_tzif.specs.Content.{Content}
 use Rattle.zic_tzif.specs.States.{IsStateOfNumber}
+use Rattle.zic_zones.specs.code.NameKeys.{AreNamesOf}
+use Rattle.zic_zones.specs.code.Tables.{IsTable}
+use Rattle.zic_zones.specs.code.Texts.{AreNumbersOf}
+use Rattle.zic_zones.specs.declared.ready.Ready.{Ready}
+use Rattle.zic_zones.specs.declared.ready.ReadyZone.{ReadyZone}
 
--- a text that has a number is that of the state of the number
-abbrev pub AreTextsOf : Content → List (Option Shown) → Type 0
-AreTextsOf content texts = (number : ℕ) (state : Shown) → slice_get texts number ≡ Some (Some state) → IsStateOfNumber content number state
+-- a state that a content answers at an instant
+abbrev pub AnswersState : Content → ℤ → Shown → Type 0
+AnswersState content t state = Answers content t (Some state)
 
--- There are texts of the first files, of each those of its states.
-pub record AreReady (files : List File) (ready : List (List (Option Shown))) : Type 0 where
-  pub few : length ready ≤ length files
-  pub texts : (i : ℕ) (file : File) (texts : List (Option Shown)) → slice_get files i ≡ Some file → slice_get ready i ≡ Some texts
-      → AreTextsOf file.image.content texts
+-- The numbers of a zone's texts, and tables of them for its eras.
+pub record IsReadyZone (content : Content) (texts : List Shown) (slots : List Slot) (zone : ReadyZone) : Type 0 where
+  pub numbers : AreNumbersOf content texts zone.numbers.items
+  pub tables : (era start : ℕ) → slice_index_or zone.tables era None ≡ Some start → IsTable texts slots (AnswersState content) (base_of era) start
 
--- the state of this number of the file of that number has a text
-abbrev pub HasText : List (List (Option Shown)) → ℕ → ℕ → Shown → Type 0
-HasText ready file number state = IsSomeAnd (slice_get ready file) (λ texts. slice_get texts number ≡ Some (Some state))
+-- The first files are ready, and their names.
+pub record AreReady (files : List File) (ready : Ready) : Type 0 where
+  pub names : AreNamesOf files ready.names
+  pub few : length ready.zones.items ≤ length files
+  pub each : (i : ℕ) (file : File) (zone : ReadyZone) → slice_get files i ≡ Some file → slice_get ready.zones.items i ≡ Some zone
+      → IsReadyZone file.image.content ready.texts ready.tables zone
+
+-- the file of this number has this state, by the state's number
+abbrev pub IsTextOf : List File → ℕ → ℕ → Shown → Type 0
+IsTextOf files file number state = IfSome (slice_get files file) (λ f. IsStateOfNumber f.image.content number state)
+
+-- the file of this number has the name
+abbrev pub IsFileOf : List File → List ℕ → ℕ → Type 0
+IsFileOf files name number = IsSomeAnd (slice_get files number) (λ file. file.name ≡ name)

@@ -1,42 +1,8 @@
-use Rattle.std.proofs.Common.{◌≡◌, ◌⊎◌, ◌∙◌, ◌<◌, ◌==◌, ℕ, false, length, get_or, inl, inr, refl, ap, arith}
-use Rattle.std.proofs.lemmas.Bool.{ne_eqb}
+use Rattle.std.proofs.Common.{refl, arith}
 use Rattle.std.proofs.lemmas.List.{length-drop}
-use Rattle.zic_columns.specs.declared.fields.Span.{Span}
-use Rattle.zic_columns.proofs.WalkFacts.{record_out, walked_none, walked_on}
-use Rattle.zic_columns.proofs.walk.split_record.Goals.{then-found-piece-via-then-found-piece, then-found-piece-via-else-found-piece+then-piece-found-ne44}
+use Rattle.zic_columns.proofs.WalkFacts.{walked_none}
 use Rattle.zic_columns.proofs.walk.split_record.Goals as goal
 
-abbrev span_to : ℕ → ℕ → Span
-span_to stop start = record { start = start; end = stop }
-
-pub loop-wanted-init : goal.loop-wanted-init
-loop-wanted-init c =
+pub split_rest-requires-clause-walked : goal.split_rest-requires-clause-walked
+split_rest-requires-clause-walked c =
     walked_none c.args.piece.now c.args.start c.args.wanted _ (omega (arith, c.requires.some, length-drop c.args.start c.args.piece.now)) refl refl refl refl
-
-pub returns-then-found-piece : goal.returns-then-found-piece
-returns-then-found-piece c =
-    let piece = c.args.piece.now in
-    let start = c.args.start in
-    let walked = c.loop-wanted.invariant in
-    let found = c.next_field-found in
-    let stop = found.result.stop in
-    let more = c.with_field-given in
-    let has = more.ensures.has piece walked.fields walked.has found.ensures.field in
-    let out : (stop ≡ length piece) ⊎ ((stop < length piece) × ((get_or piece stop 0 == 44) ≡ false)) = elim c.then-found-piece.branch [
-      | then-found-piece-via-then-found-piece w ↦ inl w.if-found-piece.true
-      | then-found-piece-via-else-found-piece+then-piece-found-ne44 w ↦ inr (omega (arith, w.if-found-piece.false, found.ensures.high), ne_eqb (get_or piece stop 0) 44 w.if-piece-found-ne44.true)
-    ] in
-    record_out piece start c.args.wanted c.loop-wanted.given c.loop-wanted.at walked found.result found.ensures c.requires _
-    (ap (span_to stop) (ap (λ (o : Span). o.start) more.ensures.own ∙ walked.own))
-    (record { count = has.count; zone_stands = has.zone_stands; zone = has.zone; time_stands = has.time_stands; time = has.time })
-    out
-
-pub loop-wanted-preserved : goal.loop-wanted-preserved
-loop-wanted-preserved c =
-    let piece = c.args.piece.now in
-    let walked = c.loop-wanted.invariant in
-    let found = c.next_field-found in
-    let more = c.with_field-given in
-    walked_on piece c.args.start c.args.wanted c.loop-wanted.given c.loop-wanted.at walked found.result found.ensures more.result
-    (omega (arith, c.if-found-piece.false, found.ensures.high)) c.if-piece-found-ne44.false more.ensures.own more.ensures.count
-    (more.ensures.has piece walked.fields walked.has found.ensures.field)

@@ -1,4 +1,4 @@
-use Rattle.std.proofs.Common.{◌≡◌, ◌++◌, ◌∙◌, ap, drop, sym, take}
+use Rattle.std.proofs.Common.{drop, sym}
 use Rattle.std.proofs.lemmas.List.{take-append-drop}
 use Rattle.zic_columns.proofs.Exchanges.{comma_exchanged}
 use Rattle.zic_convert.proofs.faulty.put_back.Goals as goal

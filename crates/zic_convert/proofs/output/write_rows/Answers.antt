@@ -39,7 +39,7 @@ returns-in_err-write_all-clause-err g c =
     let (more, next) = front_more pieces (i + 1) in
     let whole = next ∙ ap (λ (l : List ℕ). l ++ more) (next_text pieces i rows (omega arith) c.rows-item.is inv.goes_on) in
     let failed = c.in_err-write_all.ensures.err in
-    let text = c.deref.ensures.value ∙ ap (λ (r : RowsOf). r.text) c.rows.view_is in
+    let text = c.bytes.ensures ∙ ap (λ (r : RowsOf). r.text) c.rows.view_is in
     let fails = subst (λ (l : List ℕ). FailsWithin contents c.loop-rows.writer c.write_all.new.writer l) text failed.1 in
     let p = err_from_is_err_and c.from_residual.result c.from_residual.ensures.1 in
     rw (p.1, p.2, failed.0) (i, fails_after contents c.args.writer.now c.loop-rows.writer c.write_all.new.writer front.text rows.text more (joined pieces).text whole inv.wrote fails, inv.noted)
@@ -55,11 +55,11 @@ returns-in-Some-clause-err g c =
     let then = joined (take (i + 1) pieces) in
     let lt : i < length pieces = omega arith in
     let some = next_fault pieces i rows lt c.rows-item.is inv.goes_on ∙ ap (λ (r : RowsOf). r.fault) (sym c.rows.view_is) ∙ c.in-Some.is in
-    let text = c.deref.ensures.value ∙ ap (λ (r : RowsOf). r.text) c.rows.view_is in
+    let text = c.bytes.ensures ∙ ap (λ (r : RowsOf). r.text) c.rows.view_is in
     let wrote = subst (λ (l : List ℕ). Wrote contents c.loop-rows.writer c.write_all.new.writer l) text c.in_ok-write_all.ensures.ok in
     let both = subst (λ (l : List ℕ). Wrote contents c.args.writer.now c.write_all.new.writer l) (sym (next_text pieces i rows lt c.rows-item.is inv.goes_on))
     (wrote_both contents c.args.writer.now c.loop-rows.writer c.write_all.new.writer front.text rows.text inv.wrote wrote) in
-    let faults = c.deref-in-loop-rows.ensures.value ∙ ap (λ (r : RowsOf). r.faults) c.rows.view_is in
+    let faults = c.deref.ensures.value ∙ ap (λ (r : RowsOf). r.faults) c.rows.view_is in
     let log = g.L.FaultLog.noted c.args.log.now in
     let now = g.L.FaultLog.noted c.note_all.new.log in
     let noted = subst (λ (l : List RowFault). Notes log now l) (sym (next_faults pieces i rows lt c.rows-item.is inv.goes_on))
@@ -108,10 +108,10 @@ loop-rows-preserved g c =
     let front = joined (take i pieces) in
     let lt : i < length pieces = omega arith in
     let none = ap (λ (r : RowsOf). r.fault) (sym c.rows.view_is) ∙ none_of c.rows.inside.fault (λ kind e. search rules) in
-    let text = c.deref.ensures.value ∙ ap (λ (r : RowsOf). r.text) c.rows.view_is in
+    let text = c.bytes.ensures ∙ ap (λ (r : RowsOf). r.text) c.rows.view_is in
     let wrote = subst (λ (l : List ℕ). Wrote contents c.loop-rows.writer c.write_all.new.writer l) text c.in_ok-write_all.ensures.ok in
     let count = ap (λ (r : RowsOf). r.count) c.rows.view_is in
-    let faults = c.deref-in-loop-rows.ensures.value ∙ ap (λ (r : RowsOf). r.faults) c.rows.view_is in
+    let faults = c.deref.ensures.value ∙ ap (λ (r : RowsOf). r.faults) c.rows.view_is in
     let log = g.L.FaultLog.noted c.args.log.now in
     let now = g.L.FaultLog.noted c.note_all.new.log in
     record {

@@ -1,4 +1,4 @@
-use Rattle.std.proofs.Common.{◌≡◌, ◌++◌, ◌∙◌, FitsSigned, List, ap, append_assoc, length, rules, subst, to_z-of_z, ℕ}
+use Rattle.std.proofs.Common.{◌≡◌, ◌++◌, ◌∙◌, FitsSigned, List, ap, append_assoc, length, rules, to_z-of_z, ℕ}
 use Rattle.std.specs.Int.{w128}
 use Rattle.zic_columns.specs.Exchange.{exchanged}
 use Rattle.zic_columns.specs.Record.{bytes_at, record_at}
@@ -20,7 +20,7 @@ returns-clause-text c =
     let own = bytes_at piece.bytes.now given.own in
     let name = zone_in layout.zone (record_at piece.bytes.now given).fields in
     let whole : FitsSigned w128 query.count = search rules in
-    let rest = counted_rest_text layout.unit query.count c.args.pen.now.writer in
+    let rest = counted_rest_text layout.unit query.count c.args.writer.now in
     let row = comma_start layout.start own name query.count ++ rest in
     let at : c.len-start.result ≡ length old = search rules in
     let begun : c.push_start.new.text.items ≡ old ++ comma_start layout.start own name query.count = c.in_ok-push_start.ensures in
@@ -30,5 +30,5 @@ returns-clause-text c =
     let put = row_exchanged d c.len-start.result old row c.push_counted_rest.new.text.items at all in (
       start_text layout (exchanged d own) name query.count ++ exchanged d rest,
       rw c.byte.ensures.byte at c.put_back.ensures ∙ put ∙ ap (λ (l : List ℕ). old ++ l) (row_put_back layout.start d own name query.count rest),
-      text_made piece given query c.args.pen.now.writer c.byte.ensures.sound c.are_sound.ensures c.requires.query c.requires.answers,
+      text_made piece given query c.args.writer.now c.byte.ensures.sound c.are_sound.ensures c.requires.query c.requires.answers,
     )

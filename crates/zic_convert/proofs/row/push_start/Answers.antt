@@ -1,4 +1,4 @@
-use Rattle.std.proofs.Common.{◌≡◌, ◌<◌, ◌∙◌, ◌++◌, ◌∷◌, [], ℕ, List, FitsSigned, ap, rules, to_z-of_z}
+use Rattle.std.proofs.Common.{◌∙◌, ◌++◌, ℕ, List, FitsSigned, ap, rules, to_z-of_z}
 use Rattle.std.specs.Int.{w128}
 use Rattle.std.specs.Fmt.{signed_decimal}
 use Rattle.std.proofs.lemmas.Result.{on_ok_weaker}

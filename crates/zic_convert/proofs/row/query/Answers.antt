@@ -1,7 +1,5 @@
-use Rattle.std.proofs.Common.{◌≡◌, ◌∙◌, FitsSigned, rules, sym, to_z-of_z, true, length}
+use Rattle.std.proofs.Common.{◌∙◌, FitsSigned, rules, sym, to_z-of_z}
 use Rattle.std.specs.Int.{w128}
-use Rattle.zic_columns.specs.Record.{record_at}
-use Rattle.zic_plan.specs.Layout.{has_count}
 use Rattle.zic_convert.proofs.RowFaults.{count_missing, no_fault, out_of_range, row_may, zone_missing}
 use Rattle.zic_convert.proofs.row.query.Goals as goal
 

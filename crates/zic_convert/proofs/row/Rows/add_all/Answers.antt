@@ -1,11 +1,12 @@
-use Rattle.std.proofs.Common.{◌≡◌, ◌∷◌, [], ◌++◌, ◌∙◌, ◌+◌, ◌≤◌, List, None, Option, ap, append_assoc, arith, drop, length, map, refl, subst, suc, sym, take}
-use Rattle.std.specs.Prelude.{IsSome, slice_index_or}
-use Rattle.std.proofs.lemmas.List.{map-append, take_more}
+use Rattle.std.proofs.Common.{◌≡◌, ◌∷◌, [], ◌++◌, ◌∙◌, ◌+◌, ◌≤◌, List, None, Option, ap, append_assoc, arith, drop, length, map, subst, suc, sym, take}
+use Rattle.std.specs.Borrow.{Bor}
+use Rattle.std.specs.Prelude.{IfSome, IsSome, slice_index_or}
+use Rattle.std.proofs.lemmas.List.{get_or_default, map-append, take_more}
 use Rattle.zic_columns.specs.Own.{Whole}
-use Rattle.zic_base.specs.declared.row_fault.RowKind.{RowKind}
-use Rattle.zic_convert.specs.code.Batch.{record_of}
+use Rattle.zic_base.specs.State.{Shown}
+use Rattle.zic_convert.specs.code.Batch.{IsTextFor, blank, record_of, zone_at}
 use Rattle.zic_convert.specs.code.Row.{AreRowsOf, RowsOf}
-use Rattle.zic_convert.proofs.Columns.{blank}
+use Rattle.zic_convert.proofs.Columns.{one_told}
 use Rattle.zic_convert.proofs.MoreRows.{end_added, not_some, one_counted, records_at, row_added}
 use Rattle.zic_convert.proofs.row.Rows.add_all.Goals as goal
 
@@ -50,4 +51,20 @@ loop-i-preserved c =
           c.in_ok-add.ensures.next none in
           subst (λ (ws : List Whole). AreRowsOf piece.layout.now piece.zones.now piece.most piece.first ws c.add.new.self)
           (append_assoc before (map f (take l.i records)) (one ∷ []) ∙ ap (λ (ws : List Whole). before ++ ws) (sym parts)) all;
+    }
+
+pub add-requires-clause-known : goal.add-requires-clause-known
+add-requires-clause-known c =
+    let i = c.loop-i.i in
+    let piece = c.args.piece.now in
+    let batch = c.args.batch.now in
+    let texts = c.args.texts.now in
+    let lt = c.loop-i-test.true in
+    let few : c.args.count ≤ length batch.records = omega (arith, c.requires.columns.few, c.told-batch) in
+    let same = c.index-texts-i.is ∙ get_or_default texts i c.index-texts-i.result None (omega (arith, lt, c.requires.long)) in
+    record {
+      zone = one_told (zone_at piece) batch.records batch.zones c.args.count i blank None few lt c.requires.columns.zones;
+      time = c.requires.columns.times i lt;
+      text = subst (λ (o : Option (Bor Shown)). IfSome o (λ t. IsTextFor piece (slice_index_or batch.records i blank) (slice_index_or batch.zones i None) (slice_index_or batch.times i None) t.now))
+          (sym same) (c.requires.texts i lt);
     }

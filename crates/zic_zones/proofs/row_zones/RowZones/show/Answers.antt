@@ -1,10 +1,12 @@
-use Rattle.std.proofs.Common.{◌≡◌, List, Option, Some, subst}
+use Rattle.std.proofs.Common.{◌≡◌, List, subst}
 use Rattle.std.specs.Prelude.{IfSome, slice_get}
 use Rattle.zic_base.proofs.Elements.{got}
-use Rattle.zic_base.proofs.Options.{if_at, some_of}
-use Rattle.zic_base.specs.State.{Shown, shown}
+use Rattle.zic_base.proofs.Options.{if_at}
+use Rattle.zic_base.specs.State.{shown}
 use Rattle.zic_files.specs.File.{File}
 use Rattle.zic_zones.proofs.Shows.{answers_at, has_state, may_show}
+use Rattle.zic_tzif.specs.States.{IsStateOfNumber}
+use Rattle.zic_zones.specs.code.Ready.{AreReady}
 use Rattle.zic_zones.proofs.row_zones.RowZones.show.Goals as goal
 
 pub state-requires : goal.state-requires
@@ -29,8 +31,8 @@ pub returns-in-Some : goal.returns-in-Some
 returns-in-Some c = λ second shows.
     let files = c.args.self.now in
     let (file, at) = got files c.args.file c.requires.within in
-    let (texts, ready, text) = some_of (slice_get c.self.inside.ready.now c.args.file) (λ (texts : List (Option Shown)). slice_get texts c.args.number ≡ Some (Some c.in-Some.text.now)) c.in-Some.ensures in
-    let of = c.self.invariant.texts c.args.file file texts (rw c.self.view_is at) ready c.args.number c.in-Some.text.now text in
+    let ready = subst (λ (l : List File). AreReady l c.self.inside.ready.now) c.self.view_is c.self.invariant in
+    let of = if_at (slice_get files c.args.file) (λ (f : File). IsStateOfNumber f.image.content c.args.number c.in-Some.text.now) file (c.in-Some.ensures files ready) at in
     answers_at files c.args.file file at c.args.number second c.set_text.new.self (rw c.set_text.ensures of) shows
 
 pub returns-in-None : goal.returns-in-None

@@ -19,3 +19,6 @@ returns-in-Ok-clause-grown g c =
 pub returns-in-Ok-clause-settled : goal.returns-in-Ok-clause-settled
 returns-in-Ok-clause-settled g c =
     on_ok c.extend.result _ (known_then c.args.name.now c.self.inside.learnt c.learn.new.self c.in-Ok.ensures.grown)
+
+pub invariant_of-self-in-Err : goal.invariant_of-self-in-Err
+invariant_of-self-in-Err g c = c.new.ensures c.learn.new.self.files

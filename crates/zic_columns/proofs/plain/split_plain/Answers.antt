@@ -1,0 +1,67 @@
+use Rattle.std.proofs.Common.{◌≡◌, ◌<◌, ◌==◌, ℕ, true, false, List, length, get_or, inr, refl, sym, subst, ⊎_elim, arith}
+use Rattle.std.proofs.lemmas.Bool.{ne_eqb}
+use Rattle.std.proofs.lemmas.List.{length-drop}
+use Rattle.zic_columns.specs.Column.{ends_line}
+use Rattle.zic_columns.specs.code.Block.{ends_field}
+use Rattle.zic_columns.specs.code.Field.{IsFieldAt}
+use Rattle.zic_columns.specs.code.Plain.{IsPlainFrom, record_of}
+use Rattle.zic_columns.specs.code.Walk.{IsFieldEnd}
+use Rattle.zic_columns.specs.declared.fields.Field.TheVariants.{Plain}
+use Rattle.zic_columns.specs.declared.walk.FoundField.{FoundField}
+use Rattle.zic_columns.proofs.FieldFacts.{either}
+use Rattle.zic_columns.proofs.WalkFacts.{plain_at, record_out, walked_none, walked_on}
+use Rattle.zic_columns.proofs.plain.split_plain.Goals as goal
+
+-- the field of these bytes
+abbrev field_to : ℕ → ℕ → FoundField
+field_to at stop = record { field = Plain (record { start = at; end = stop }); stop = stop }
+
+field_ends : (piece : List ℕ) (at stop : ℕ) → IsFieldEnd piece at stop → stop < length piece → ends_field (get_or piece stop 0) ≡ true
+field_ends piece at stop is inside = ⊎_elim (λ all. absurd (omega (arith, all, inside))) (λ ends. ends) is.ends
+
+pub loop-end-init : goal.loop-end-init
+loop-end-init c = record {
+  walked = walked_none c.args.piece.now c.args.start c.args.wanted _ (omega (arith, c.requires.begins.some, length-drop c.args.start c.args.piece.now)) refl refl refl refl;
+  shows = c.requires.shows;
+}
+
+pub returns-then-piece-end-ne44 : goal.returns-then-piece-end-ne44
+returns-then-piece-end-ne44 c =
+    let piece = c.args.piece.now in
+    let start = c.args.start in
+    let at = c.loop-end.at in
+    let walked = c.loop-end.invariant.walked in
+    let stop = c.in-Some.end in
+    let next = c.in-Some.ensures in
+    let found : IsFieldAt piece at (field_to at stop) = plain_at piece at stop next.end (λ _. c.if-piece-at-eq34.false) in
+    let more = c.with_span-fields in
+    let has = more.ensures.has piece start start walked.fields walked.has (found.low, found.high) in
+    let other : (get_or piece stop 0 == 44) ≡ false = ne_eqb (get_or piece stop 0) 44 c.if-piece-end-ne44.true in
+    subst (IsPlainFrom piece start c.args.wanted c.next_end.new.self) (sym c.record_of.ensures) (record {
+      from = record_out piece start c.args.wanted (record_of start start c.loop-end.fields) at walked (field_to at stop) found c.requires.begins
+          (record_of start stop more.result) refl
+          (record { count = has.count; zone_stands = has.zone_stands; zone = has.zone; time_stands = has.time_stands; time = has.time })
+          (inr (next.within, other));
+      ended = record {
+        within = next.within;
+        here = either (get_or piece stop 0 == 44) (ends_line (get_or piece stop 0)) (field_ends piece at stop next.end next.within) other;
+      };
+      shows = next.shows;
+    })
+
+pub loop-end-preserved : goal.loop-end-preserved
+loop-end-preserved c =
+    let piece = c.args.piece.now in
+    let start = c.args.start in
+    let at = c.loop-end.at in
+    let walked = c.loop-end.invariant.walked in
+    let stop = c.in-Some.end in
+    let next = c.in-Some.ensures in
+    let found : IsFieldAt piece at (field_to at stop) = plain_at piece at stop next.end (λ _. c.if-piece-at-eq34.false) in
+    let more = c.with_span-fields in
+    record {
+      walked = walked_on piece start c.args.wanted (record_of start start c.loop-end.fields) at walked (field_to at stop) found (record_of start start more.result)
+          next.within c.if-piece-end-ne44.false refl more.ensures.count
+          (more.ensures.has piece start start walked.fields walked.has (found.low, found.high));
+      shows = next.shows;
+    }

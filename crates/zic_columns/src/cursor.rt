@@ -1,0 +1,76 @@
+//! How far a piece was split.
+
+ghost use Rattle.std.specs.Prelude.{◌≡◌, ◌≤◌, ℕ, List, drop, length};
+ghost use Rattle.zic_columns.specs.code.Ends.{ShowsEnds};
+ghost use Rattle.zic_columns.specs.code.Line.{IsAfterLineEnds};
+ghost use Rattle.zic_columns.specs.code.Plain.{IsNextAt};
+
+use crate::ends::FieldEnds;
+use crate::fields::{Record, Wanted};
+use crate::line::{after_line_ends, ends_line};
+use crate::plain::split_plain;
+use crate::walk::{split_record, split_rest};
+
+/// The number of bytes of a piece that were split, and what is known of the field ends after them.
+#[derive(Clone, Copy, Drop)]
+pub(crate) struct Cursor {
+    pub(crate) at: usize,
+    ends: FieldEnds,
+}
+
+impl Cursor {
+    /// Begins at an index.
+    pub(crate) fn new(at: usize) -> Cursor
+        ensures at { result.at ≡ at }
+        ensures shows { (piece : List ℕ) → at ≤ length piece
+            → ShowsEnds piece result.at result.ends }
+    {
+        Cursor {
+            at,
+            ends: FieldEnds::unknown(at),
+        }
+    }
+
+    /// Passes over line ends.
+    #[inline(always)]
+    fn pass_line_ends(&mut self, piece: &[u8])
+        requires { ShowsEnds piece.now self.old.at self.old.ends }
+        ensures shows { ShowsEnds piece.now self.new.at self.new.ends }
+        ensures after { IsAfterLineEnds (drop self.old.at piece.now) (drop self.new.at piece.now) }
+    {
+        if self.at < piece.len() && !ends_line(piece[self.at]) {
+            return;
+        }
+        let rest = after_line_ends(&piece[self.at..]);
+        *self = Cursor::new(piece.len() - rest.len());
+    }
+
+    /// Splits the next record, if there is one.
+    #[inline(always)]
+    pub(crate) fn next_record(&mut self, piece: &[u8], wanted: Wanted) -> Option<Record>
+        requires { ShowsEnds piece.now self.old.at self.old.ends }
+        ensures shows { ShowsEnds piece.now self.new.at self.new.ends }
+        ensures next { IsNextAt piece.now wanted self.old.at result self.new.at }
+    {
+        self.pass_line_ends(piece);
+        if self.at == piece.len() {
+            return None;
+        }
+        if piece[self.at] == b'"' {
+            let given = split_record(piece, self.at, wanted);
+            *self = Cursor::new(given.own.end);
+            return Some(given);
+        }
+        match split_plain(piece, self.at, wanted, &mut self.ends) {
+            Ok(given) => {
+                self.at = given.own.end + 1;
+                Some(given)
+            }
+            Err(begun) => {
+                let given = split_rest(piece, begun, wanted);
+                *self = Cursor::new(given.own.end);
+                Some(given)
+            }
+        }
+    }
+}

@@ -1,0 +1,80 @@
+//! The commas and line ends of a piece, found 64 bytes at a time.
+
+ghost use Rattle.std.specs.Prelude.{◌≡◌, ◌+◌, ◌<◌, ◌≤◌, ℕ, List, length, IfSome, map};
+ghost use Rattle.std.specs.Simd.Lanes.{chunk, mask_l};
+ghost use Rattle.zic_columns.specs.code.Block.{ends_field};
+ghost use Rattle.zic_columns.specs.code.Ends.{ShowsEnds};
+ghost use Rattle.zic_columns.specs.code.Walk.{IsFieldEnd};
+
+use std::simd::prelude::*;
+
+/// The number of bytes that are looked at together.
+const BLOCK: usize = 64;
+
+/// The commas and line ends that come next in a piece, as far as they are known.
+#[derive(Clone, Copy, Drop)]
+pub(crate) struct FieldEnds {
+    /// Bit k is set where one is still to come k bytes after the start of the last block.
+    mask: u64,
+    /// The index after that block.
+    seen: usize,
+}
+
+/// Returns a mask of the commas and line ends among the 64 bytes from an index on.
+#[inline(always)]
+fn field_ends_in(bytes: &[u8], at: usize) -> u64
+    requires { at + BLOCK ≤ length bytes.now }
+    ensures { result ≡ mask_l (map ends_field (chunk at BLOCK bytes.now)) }
+{
+    let block = u8x64::from_slice(&bytes[at..]);
+    (block.simd_eq(u8x64::splat(b','))
+        | block.simd_eq(u8x64::splat(b'\r'))
+        | block.simd_eq(u8x64::splat(b'\n'))).to_bitmask()
+}
+
+impl FieldEnds {
+    /// Returns that nothing is known from an index on.
+    pub(crate) fn unknown(at: usize) -> FieldEnds
+        ensures { (bytes : List ℕ) → at ≤ length bytes → ShowsEnds bytes at result }
+    {
+        FieldEnds { mask: 0, seen: at }
+    }
+
+    /// Returns the known ones where there are some, or else those of the next block, if it has any.
+    #[inline(always)]
+    fn known(self, bytes: &[u8], at: usize) -> Option<FieldEnds>
+        requires { ShowsEnds bytes.now at self }
+        ensures shows { IfSome result (ShowsEnds bytes.now at) }
+        ensures some { IfSome result (λ ends. 0 < ends.mask) }
+    {
+        if self.mask != 0 {
+            return Some(self);
+        }
+        if bytes.len() - self.seen < BLOCK {
+            return None;
+        }
+        let mask = field_ends_in(bytes, self.seen);
+        if mask == 0 {
+            return None;
+        }
+        let seen = self.seen + BLOCK;
+        Some(FieldEnds { mask, seen })
+    }
+
+    /// Returns the index of the first comma or line end from an index on, and passes over it. Returns
+    /// `None` where the next block doesn't show it.
+    #[inline(always)]
+    pub(crate) fn next_end(&mut self, bytes: &[u8], at: usize) -> Option<usize>
+        requires { ShowsEnds bytes.now at self.old }
+        ensures end { IfSome result (IsFieldEnd bytes.now at) }
+        ensures within { IfSome result (λ stop. stop < length bytes.now) }
+        ensures shows { IfSome result (λ stop. ShowsEnds bytes.now (stop + 1) self.new) }
+    {
+        let ends = self.known(bytes, at)?;
+        *self = FieldEnds {
+            mask: ends.mask & (ends.mask - 1),
+            seen: ends.seen,
+        };
+        Some(ends.seen + ends.mask.trailing_zeros() as usize - BLOCK)
+    }
+}

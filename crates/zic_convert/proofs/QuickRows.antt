@@ -1,0 +1,126 @@
+-- Rows of records in which all that they show is at hand.
+use Rattle.std.proofs.Common.{◌≡◌, ◌≤◌, ◌<◌, ◌+◌, ◌∙◌, ℕ, ℤ, Bool, true, List, ◌∷◌, ◌++◌, Some, None, ap, ap₂, append_assoc, arith, length, length-append, refl, subst, sym, take, drop, get_or}
+use Rattle.std.specs.Prelude.{int_le, slice_range, ◌&&◌}
+use Rattle.std.proofs.lemmas.Int.{ints}
+use Rattle.zic_base.specs.State.{Shown}
+use Rattle.zic_columns.proofs.Spans.{span_both, span_first}
+use Rattle.zic_columns.specs.Exchange.{exchanged}
+use Rattle.zic_columns.specs.Record.{IsSplit, IsWithin, bytes_at, field_text, record_at}
+use Rattle.zic_columns.specs.declared.fields.Field.{Field}
+use Rattle.zic_columns.specs.declared.fields.Field.TheVariants.{Plain, Quoted}
+use Rattle.zic_columns.specs.declared.fields.Record.{Record}
+use Rattle.zic_columns.specs.declared.fields.Span.{Span}
+use Rattle.zic_files.specs.Sound.{AreSoundFiles}
+use Rattle.zic_plan.specs.Delimiter.{is_delimiter}
+use Rattle.zic_plan.specs.Layout.{has_count}
+use Rattle.zic_plan.specs.declared.layout.Unit.{Unit}
+use Rattle.zic_plan.specs.declared.layout.Unit.TheVariants as unit
+use Rattle.zic_plan.specs.declared.layout.ZoneFrom.TheVariants as from
+use Rattle.zic_rows.specs.Count.{counted_rest_text, fraction_of, second_of, timed_rest_text, units_of_second}
+use Rattle.zic_rows.specs.Instant.{IsRowInstant}
+use Rattle.zic_rows.specs.PlainTime.{IsPlainTime}
+use Rattle.zic_rows.specs.declared.limit.TheConstants.{FIRST_INSTANT, LAST_INSTANT}
+use Rattle.zic_rows.specs.declared.row_time.RowTime.{RowTime}
+use Rattle.zic_zones.specs.Zones.{AnswersAt, zone_in}
+use Rattle.zic_convert.specs.LayoutRows.{IsTextBy, fault_by, start_text}
+use Rattle.zic_convert.specs.Rows.{is_row_instant}
+use Rattle.zic_convert.specs.code.Batch.{IsQuickRow, IsRowQuery, IsTimeIn, count_at, wanted_by}
+use Rattle.zic_convert.specs.code.Row.{comma_start, field_start, put_back}
+use Rattle.zic_convert.specs.declared.piece.Piece.{Piece}
+use Rattle.zic_convert.specs.declared.quick.QuickRow.{QuickRow}
+use Rattle.zic_convert.specs.declared.row.RowQuery.{RowQuery}
+use Rattle.zic_convert.proofs.Columns.{count_told}
+use Rattle.zic_convert.proofs.PutBack.{row_exchanged, row_put_back, text_made}
+use Rattle.zic_convert.proofs.RowFaults.{no_fault}
+
+-- two parts with a comma between them
+pub joined : (bytes : List ℕ) (a m b : ℕ) → a ≤ m → m + 1 ≤ b → b ≤ length bytes → get_or bytes m 0 ≡ 44
+    → slice_range bytes a b ≡ slice_range bytes a m ++ 44 ∷ slice_range bytes (m + 1) b
+joined bytes a m b first last within comma =
+    sym (span_both bytes a m b first (omega (arith, last)))
+    ∙ ap (λ (l : List ℕ). slice_range bytes a m ++ l) (span_first bytes m b (omega (arith, last)) within ∙ ap (λ (x : ℕ). x ∷ slice_range bytes (m + 1) b) comma)
+
+-- the own bytes of a record that are its zone's name, a comma and its time
+pub own_begins : (piece : Piece) (given : Record) (split : IsSplit piece.bytes.now (wanted_by piece.layout.now) given) (k : ℕ) (zone time : Span) → piece.layout.now.zone ≡ from.Field k → given.zone ≡ Plain zone
+    → zone.start ≡ given.own.start → zone.end + 1 ≡ time.start → time.end ≡ given.own.end → IsWithin piece.bytes.now time → get_or piece.bytes.now zone.end 0 ≡ 44
+    → bytes_at piece.bytes.now given.own ≡ zone_in piece.layout.now.zone (record_at piece.bytes.now given).fields ++ 44 ∷ bytes_at piece.bytes.now time
+own_begins piece given split k zone time by_field plain first next last within comma =
+    let bytes = piece.bytes.now in
+    let stands = rw plain at split.zone_stands in
+    let told = rw (plain, by_field) at split.zone in
+    let name : slice_range bytes zone.start zone.end ≡ zone_in piece.layout.now.zone (record_at bytes given).fields = rw by_field told in
+    let here : bytes_at bytes given.own ≡ slice_range bytes zone.start time.end = ap₂ (λ (a b : ℕ). slice_range bytes a b) (sym first) (sym last) in
+    let whole = joined bytes zone.start zone.end time.end stands.0 (omega (arith, next, within.0)) within.1 comma in
+    here ∙ whole ∙ ap₂ (λ (l : List ℕ) (n : ℕ). l ++ 44 ∷ slice_range bytes n time.end) name next
+
+-- a row that is appended in parts is longer than what was there
+pub longer : (old begun part start rest all : List ℕ) → begun ++ part ≡ old ++ start → all ≡ begun ++ (part ++ rest) → length old ≤ length all
+longer old begun part start rest all is made =
+    let whole : all ≡ (old ++ start) ++ rest = made ∙ sym (append_assoc begun part rest) ∙ ap (λ (l : List ℕ). l ++ rest) is in
+    omega (arith, ap length whole, length-append (old ++ start) rest, length-append old start)
+
+-- the check passes an instant that a row may have
+may_row : (t : ℤ) → IsRowInstant t → is_row_instant (Some t) ≡ true
+may_row t is = both (int_le FIRST_INSTANT t) (int_le t LAST_INSTANT) (grind (arith, ints, is.0)) (grind (arith, ints, is.1)) where
+  both : (a b : Bool) → a ≡ true → b ≡ true → (a && b) ≡ true
+  both a b p q = rw (p, q) refl
+
+-- fewer units than make up a second
+pub units_below : (u : Unit) (count : ℤ) → fraction_of u count < units_of_second u
+units_below unit.Second count = grind (arith, ints)
+units_below unit.Millisecond count = grind (arith, ints)
+units_below unit.Microsecond count = grind (arith, ints)
+units_below unit.Nanosecond count = grind (arith, ints)
+
+-- the text of a field in which a time stands
+time_text : (u : Unit) (bytes : List ℕ) (field : Field) (time : RowTime) → IsTimeIn u bytes field time → IsPlainTime u (field_text bytes field) time
+time_text u bytes (Plain span) time is = is
+time_text u bytes (Quoted span) time is = absurd is
+
+-- the rest of a row by a time, and by its count
+rest_same : (u : Unit) (field : List ℕ) (time : RowTime) (is : IsPlainTime u field time) (shown : Shown)
+    → timed_rest_text time.unit time.second time.fraction shown ≡ counted_rest_text u is.count shown
+unfolding counted_rest_text
+rest_same u field time is shown = rw (is.unit, is.second, is.fraction) refl
+
+module _ (piece : Piece) (given : Record) (row : QuickRow) (split : IsSplit piece.bytes.now (wanted_by piece.layout.now) given) (is : IsQuickRow piece given row) where
+  -- the time stands in its field
+  pub time_read : IsPlainTime piece.layout.now.unit (field_text piece.bytes.now given.time) row.time
+  time_read = time_text piece.layout.now.unit piece.bytes.now given.time row.time is.time
+
+module _ (piece : Piece) (given : Record) (row : QuickRow) (split : IsSplit piece.bytes.now (wanted_by piece.layout.now) given) (is : IsQuickRow piece given row)
+    (read : IsPlainTime piece.layout.now.unit (field_text piece.bytes.now given.time) row.time) where
+  count_is : count_at piece given ≡ Some read.count
+  count_is = sym (count_told piece given split) ∙ read.says
+
+  -- the row has no fault
+  pub faultless : (number : ℕ) → number ≤ piece.most → fault_by piece.layout.now piece.zones.now piece.most number (record_at piece.bytes.now given).fields ≡ None
+  faultless number le =
+      let admits = subst (λ (n : ℕ). has_count piece.layout.now.count n ≡ true) split.count is.admitted in
+      no_fault piece number given le admits row.file is.file read.count count_is (may_row (second_of piece.layout.now.unit read.count) read.may)
+
+  -- its text, as it is made
+  pub quick_text_made : (old begun_text all : List ℕ) (start : ℕ) → start ≡ length old → is_delimiter piece.layout.now.delimiter ≡ true → AreSoundFiles piece.zones.now
+      → begun_text ≡ old ++ field_start piece.layout.now.start (bytes_at piece.bytes.now given.own) (zone_in piece.layout.now.zone (record_at piece.bytes.now given).fields)
+      (field_text piece.bytes.now given.time)
+      → all ≡ begun_text ++ timed_rest_text row.time.unit row.time.second row.time.fraction row.text.now
+      → (made : List ℕ) × (take start all ++ exchanged piece.layout.now.delimiter (drop start all) ≡ old ++ made)
+      × IsTextBy piece.layout.now piece.zones.now (put_back piece.layout.now.delimiter (record_at piece.bytes.now given)) made
+  quick_text_made old begun_text all start at delimiter sound begun made =
+      let layout = piece.layout.now in
+      let d = layout.delimiter in
+      let own = bytes_at piece.bytes.now given.own in
+      let name = zone_in layout.zone (record_at piece.bytes.now given).fields in
+      let query : RowQuery = record { file = row.file; count = read.count } in
+      let asked : IsRowQuery piece given query = record { file = is.file; count = count_is; may = read.may } in
+      let rest = counted_rest_text layout.unit read.count row.text.now in
+      let answers = subst (λ (t : ℤ). AnswersAt piece.zones.now row.file t row.text.now) read.second is.answers in
+      let whole : all ≡ old ++ (comma_start layout.start own name read.count ++ rest) =
+      made ∙ ap (λ (l : List ℕ). begun_text ++ l) (rest_same layout.unit (field_text piece.bytes.now given.time) row.time read row.text.now)
+      ∙ ap (λ (l : List ℕ). l ++ rest) (begun ∙ ap (λ (l : List ℕ). old ++ field_start layout.start own name l) read.plain)
+      ∙ append_assoc old (comma_start layout.start own name read.count) rest in (
+        start_text layout (exchanged d own) name read.count ++ exchanged d rest,
+        row_exchanged d start old (comma_start layout.start own name read.count ++ rest) all at whole
+            ∙ ap (λ (l : List ℕ). old ++ l) (row_put_back layout.start d own name read.count rest),
+        text_made piece given query row.text.now delimiter sound asked answers,
+      )

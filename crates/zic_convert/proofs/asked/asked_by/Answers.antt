@@ -1,0 +1,9 @@
+use Rattle.zic_columns.specs.Record.{record_at}
+use Rattle.zic_zones.specs.Zones.{zone_in}
+use Rattle.zic_convert.proofs.Columns.{number_within}
+use Rattle.zic_convert.proofs.asked.asked_by.Goals as goal
+
+pub state_of-requires : goal.state_of-requires
+state_of-requires c =
+    let piece = c.args.piece.now in
+    rw c.requires.file (number_within piece.zones.now (zone_in piece.layout.now.zone (record_at piece.bytes.now c.args.given.now).fields))

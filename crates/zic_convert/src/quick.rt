@@ -1,0 +1,136 @@
+//! The quick way to the text of a row, where all that it shows is at hand.
+
+ghost use Rattle.std.specs.Prelude.{◌≡◌, ◌++◌, ◌∷◌, ◌≤◌, IfOk, IfSome, IsTrue, List, OnOk, Some, drop, length, take, ℕ};
+ghost use Rattle.zic_columns.specs.Exchange.{exchanged};
+ghost use Rattle.zic_columns.specs.Record.{IsSplit, IsWithin, bytes_at, field_text, record_at};
+ghost use Rattle.zic_zones.specs.Zones.{zone_in};
+ghost use Rattle.zic_convert.specs.LayoutRows.{IsTextBy};
+ghost use Rattle.zic_convert.specs.code.Batch.{IsQuickRow, wanted_by};
+ghost use Rattle.zic_convert.specs.code.Row.{field_start, put_back};
+
+use crate::piece::Piece;
+use std::alloc::AllocError;
+use zic_columns::{Field, Record, Span};
+use zic_plan::{RowStart, ZoneFrom};
+use zic_rows::{RowText, RowTime, StateText};
+
+/// What is known of a record: the number of its zone's file, or `None` where no file has the name, its
+/// time, and the text of the state that the file shows then. `None` of a time or a text says nothing.
+#[derive(Clone, Copy, Drop)]
+pub(crate) struct Known<'s> {
+    pub(crate) zone: Option<usize>,
+    pub(crate) time: Option<RowTime>,
+    pub(crate) text: Option<&'s StateText>,
+}
+
+/// What a row shows: the number of its zone's file, its time, and the text of the state that the file
+/// shows then.
+#[derive(Clone, Copy, Drop)]
+pub(crate) struct QuickRow<'s> {
+    pub(crate) file: usize,
+    pub(crate) time: RowTime,
+    pub(crate) text: &'s StateText,
+}
+
+impl<'s> Known<'s> {
+    /// Returns what the row of the record shows, where all of it is known.
+    #[inline(always)]
+    pub(crate) fn row(&self) -> Option<QuickRow<'s>>
+        ensures file { IfSome result (λ row. self.now.zone ≡ Some row.file) }
+        ensures time { IfSome result (λ row. self.now.time ≡ Some row.time) }
+        ensures text { IfSome result (λ row. self.now.text ≡ Some row.text) }
+    {
+        match (self.zone, self.time, self.text) {
+            (Some(file), Some(time), Some(text)) => Some(QuickRow { file, time, text }),
+            _ => None,
+        }
+    }
+}
+
+/// Returns whether the own bytes of a record are the name of its zone, a comma, and its time.
+#[inline(always)]
+fn begins_row(piece: &Piece<'_, '_>, given: &Record, time: Span) -> bool
+    requires split { IsSplit piece.now.bytes.now (wanted_by piece.now.layout.now) given.now }
+    requires time { IsWithin piece.now.bytes.now time }
+    ensures { IsTrue result → bytes_at piece.now.bytes.now given.now.own
+        ≡ zone_in piece.now.layout.now.zone (record_at piece.now.bytes.now given.now).fields
+        ++ 44 ∷ bytes_at piece.now.bytes.now time }
+{
+    let (ZoneFrom::Field(_), Field::Plain(zone)) = (&piece.layout.zone, given.zone) else {
+        return false;
+    };
+    let own = given.own;
+    if zone.start == own.start && zone.end + 1 == time.start && time.end == own.end {
+        return piece.bytes[zone.end] == b',';
+    }
+    false
+}
+
+/// Appends what a row begins with, with commas, up to the last bytes of it that stand together in the
+/// piece, and returns where these stand.
+#[inline(always)]
+fn push_front(
+    text: &mut RowText,
+    piece: &Piece<'_, '_>,
+    given: &Record,
+    row: &QuickRow<'_>,
+) -> Result<Span, AllocError>
+    requires split { IsSplit piece.now.bytes.now (wanted_by piece.now.layout.now) given.now }
+    requires row { IsQuickRow piece.now given.now row.now }
+    ensures stands { IfOk result (IsWithin piece.now.bytes.now) }
+    ensures text { IfOk result (λ span. text.new ++ bytes_at piece.now.bytes.now span
+        ≡ text.old ++ field_start piece.now.layout.now.start
+        (bytes_at piece.now.bytes.now given.now.own)
+        (zone_in piece.now.layout.now.zone (record_at piece.now.bytes.now given.now).fields)
+        (field_text piece.now.bytes.now given.now.time)) }
+{
+    match piece.layout.start {
+        RowStart::Record => Ok(given.own),
+        RowStart::Fields => {
+            let Field::Plain(time) = given.time else {
+                unreachable!()
+            };
+            if begins_row(piece, given, time) {
+                return Ok(given.own);
+            }
+            text.push(piece.zones.name(row.file))?;
+            text.push(b",")?;
+            Ok(time)
+        }
+    }
+}
+
+/// Puts the delimiter and commas back in their places, from a place of the text on.
+#[inline(always)]
+fn put_back(text: &mut RowText, start: usize, delimiter: u8)
+    requires { start ≤ length text.old }
+    ensures { text.new ≡ take start text.old ++ exchanged delimiter (drop start text.old) }
+{
+    if delimiter != b',' {
+        text.exchange(start, delimiter);
+    }
+}
+
+/// Appends the text of the row of a record, with the delimiter put back. Where memory runs out, a part
+/// of the row may be there.
+#[inline(always)]
+pub(crate) fn push_quick(
+    text: &mut RowText,
+    piece: &Piece<'_, '_>,
+    given: &Record,
+    row: &QuickRow<'_>,
+) -> Result<(), AllocError>
+    requires split { IsSplit piece.now.bytes.now (wanted_by piece.now.layout.now) given.now }
+    requires row { IsQuickRow piece.now given.now row.now }
+    ensures { OnOk result ((made : List ℕ) × (text.new ≡ text.old ++ made)
+        × IsTextBy piece.now.layout.now piece.now.zones.now (put_back
+        piece.now.layout.now.delimiter (record_at piece.now.bytes.now given.now)) made) }
+{
+    // The name of a file has no byte that can stand between fields.
+    piece.zones.are_sound();
+    let start = text.len();
+    let last = push_front(text, piece, given, row)?;
+    text.push_row(piece.bytes, last.start, last.end, row.time, row.text)?;
+    put_back(text, start, piece.layout.delimiter.byte());
+    Ok(())
+}

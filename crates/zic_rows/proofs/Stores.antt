@@ -1,0 +1,35 @@
+-- What a store of fixed size leaves before the place where the next one begins.
+use Rattle.std.proofs.Common.{◌≡◌, ℕ, ◌+◌, ◌-◌, ◌≤◌, ◌++◌, List, length, take, drop, ap, sym, ◌∙◌, append_assoc, arith}
+use Rattle.std.proofs.Math.Seq.{take-append-add}
+use Rattle.std.specs.Simd.Lanes.{put_chunk}
+use Rattle.std.proofs.lemmas.List.{length-take-le, take-append-le, take-take}
+use Rattle.std.proofs.lemmas.Simd.{put_chunk_is}
+
+-- the part that was stored, and what is left of the text after it
+pub stored : (text part rest : List ℕ) (at len : ℕ) → at ≤ length text → len ≤ length part
+    → take (at + len) (take at text ++ (part ++ rest)) ≡ take at text ++ take len part
+stored text part rest at len room short =
+    let front : length (take at text) ≡ at = length-take-le at text room in
+    ap (λ (m : ℕ). take (m + len) (take at text ++ (part ++ rest))) (sym front)
+    ∙ take-append-add (take at text) (part ++ rest) len
+    ∙ ap (λ (t : List ℕ). take at text ++ t) (take-append-le len part rest short)
+
+-- the same of a vector
+pub stored_lanes : (text part : List ℕ) (at len : ℕ) → at + length part ≤ length text → len ≤ length part
+    → take (at + len) (put_chunk at text part) ≡ take at text ++ take len part
+stored_lanes text part at len room short =
+    ap (λ (t : List ℕ). take (at + len) t) (put_chunk_is at text part room) ∙ stored text part _ at len (omega arith) short
+
+-- the first elements of a load
+pub loaded : (source : List ℕ) (from size len : ℕ) → len ≤ size → take len (take size (drop from source)) ≡ take (from + len - from) (drop from source)
+loaded source from size len short = take-take len size (drop from source) short ∙ ap (λ (m : ℕ). take m (drop from source)) (omega arith)
+
+-- what stands first in a text that was written back
+pub written_back : (new behind : List ℕ) (len size : ℕ) → len ≤ size → len ≤ length new → take len (take size (new ++ behind)) ≡ take len new
+written_back new behind len size within long = take-take len size (new ++ behind) within ∙ take-append-le len new behind long
+
+-- a row, written after its start
+pub row_written : (old started new behind start rest : List ℕ) (len size : ℕ) → started ≡ old ++ start → take len new ≡ started ++ rest → len ≤ size → len ≤ length new
+    → take len (take size (new ++ behind)) ≡ old ++ (start ++ rest)
+row_written old started new behind start rest len size with_start written within long =
+    written_back new behind len size within long ∙ written ∙ ap (λ (l : List ℕ). l ++ rest) with_start ∙ append_assoc old start rest

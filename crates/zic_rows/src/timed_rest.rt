@@ -1,0 +1,81 @@
+//! What follows the instant in a row, written into a text with room.
+
+ghost use Rattle.std.specs.Prelude.{◌≡◌, ◌+◌, ◌<◌, ◌≤◌, ◌++◌, length, take};
+ghost use Rattle.zic_base.specs.Digits.{clock_text};
+ghost use Rattle.zic_rows.specs.Row.{state_text};
+ghost use Rattle.zic_rows.specs.Count.{fraction_text, units_of_second};
+ghost use Rattle.zic_rows.specs.code.Kept.{kept_date};
+
+use crate::count::three_digits;
+use crate::digits::time_text;
+use crate::kept_date::KeptDate;
+use crate::limit::DAY;
+use crate::row_time::RowTime;
+use crate::state_text::StateText;
+use crate::store::{put_8, put_16};
+use std::simd::prelude::*;
+use zic_plan::Unit;
+
+/// The room that is wanted after the instant, in bytes.
+pub(crate) const TIMED_ROOM: usize = 64;
+
+/// Writes what follows an instant: a date, a second of the day, the fraction of a time, and a state.
+/// Returns where it ends.
+#[inline(always)]
+pub(crate) fn put_rest(
+    text: &mut [u8],
+    at: usize,
+    date: &KeptDate,
+    second: u32,
+    time: RowTime,
+    state: &StateText,
+) -> usize
+    requires room { at + TIMED_ROOM ≤ length text.old }
+    requires second { second < DAY }
+    requires fraction { time.fraction < units_of_second time.unit }
+    ensures end { result ≤ at + TIMED_ROOM }
+    ensures kept { length text.new ≡ length text.old }
+    ensures written { take result text.new ≡ take at text.old ++ (kept_date date.now.day
+        ++ (clock_text second ++ (fraction_text time.unit time.fraction ++ state_text state.now))) }
+{
+    date.put(text, at);
+    put_8(text, at + 12, time_text(second));
+    let end = put_fraction(text, at + 20, time.unit, time.fraction);
+    state.put(text, end)
+}
+
+/// Writes this number of units of a second, as `.123`, or nothing where seconds are counted, and
+/// returns where it ends.
+#[inline(always)]
+fn put_fraction(text: &mut [u8], at: usize, unit: Unit, n: u32) -> usize
+    requires room { at + 16 ≤ length text.old }
+    requires below { n < units_of_second unit }
+    ensures end { result ≤ at + 10 }
+    ensures kept { length text.new ≡ length text.old }
+    ensures written { take result text.new ≡ take at text.old ++ fraction_text unit n }
+{
+    match unit {
+        Unit::Second => at,
+        Unit::Millisecond => {
+            let [a, b, c] = three_digits(n);
+            let octets = [b'.', a, b, c, 0, 0, 0, 0, 0, 0, 0, 0, 0, 0, 0, 0];
+            put_16(text, at, u8x16::from_array(octets), 4);
+            at + 4
+        }
+        Unit::Microsecond => {
+            let [a, b, c] = three_digits(n / 1_000);
+            let [d, e, f] = three_digits(n % 1_000);
+            let octets = [b'.', a, b, c, d, e, f, 0, 0, 0, 0, 0, 0, 0, 0, 0];
+            put_16(text, at, u8x16::from_array(octets), 7);
+            at + 7
+        }
+        Unit::Nanosecond => {
+            let [a, b, c] = three_digits(n / 1_000_000);
+            let [d, e, f] = three_digits(n / 1_000 % 1_000);
+            let [g, h, i] = three_digits(n % 1_000);
+            let octets = [b'.', a, b, c, d, e, f, g, h, i, 0, 0, 0, 0, 0, 0];
+            put_16(text, at, u8x16::from_array(octets), 10);
+            at + 10
+        }
+    }
+}

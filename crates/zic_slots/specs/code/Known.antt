@@ -1,0 +1,10 @@
+-- What is known of some instants.
+use Rattle.std.specs.Prelude.{ℕ, ℤ, List}
+use Rattle.zic_posix.specs.Instants.{Includes}
+use Rattle.zic_slots.specs.Slots.{Says}
+use Rattle.zic_slots.specs.declared.table.Known.{Known}
+use Rattle.zic_tzif.specs.Content.{Content}
+
+-- The number is right at each of the instants, or says nothing.
+pub record IsKnown (content : Content) (numbers : List ℕ) (known : Known) : Type 0 where
+  pub says : (t : ℤ) → Includes known.instants t → Says content numbers t known.number

@@ -1,0 +1,125 @@
+-- What is made ready of files.
+use Rattle.std.proofs.Common.{◌≡◌, ◌∙◌, ◌<◌, ◌++◌, ℕ, zero, suc, List, [], ◌∷◌, length, Option, Some, None, inl, inr, ap, refl, subst, sym, length-append, arith}
+use Rattle.std.specs.Prelude.{ℤ, pos, ◌+◌, ◌+ℤ◌, IfSome, slice_get, slice_index_or}
+use Rattle.std.proofs.lemmas.Option.{none-some, same_Some, slice_get_within}
+use Rattle.zic_base.proofs.Options.{if_at}
+use Rattle.zic_base.specs.State.{Shown}
+use Rattle.zic_files.specs.File.{File}
+use Rattle.zic_slots.proofs.Slots.{got_more}
+use Rattle.zic_slots.specs.Places.{IsPlaceOf, base_of, start_of}
+use Rattle.zic_slots.specs.Slots.{number_at}
+use Rattle.zic_slots.specs.declared.place.Place.{Place}
+use Rattle.zic_slots.specs.declared.slot.Slot.{Slot}
+use Rattle.zic_tzif.specs.Content.{Content}
+use Rattle.zic_zones.proofs.Held.{names_still, no_names}
+use Rattle.zic_zones.proofs.Slotted.{table_still}
+use Rattle.zic_zones.proofs.Numbered.{numbers_still}
+use Rattle.zic_zones.specs.code.Ready.{AnswersState, AreReady, IsReadyZone, IsTextOf}
+use Rattle.zic_zones.specs.code.NameKeys.{AreNamesOf}
+use Rattle.zic_zones.specs.code.Tables.{HasTexts}
+use Rattle.zic_zones.specs.Zones.{AnswersAt}
+use Rattle.zic_tzif.specs.States.{IsStateOfNumber}
+use Rattle.zic_zones.specs.code.Texts.{IsText, Keeps}
+use Rattle.zic_zones.specs.declared.ready.Ready.{Ready}
+use Rattle.zic_zones.specs.declared.ready.ReadyZone.{ReadyZone}
+
+got_before : {X : Type 0} (xs ys : List X) (i : ℕ) (x : X) → i < length xs → slice_get (xs ++ ys) i ≡ Some x → slice_get xs i ≡ Some x
+got_before [] ys i x lt e = absurd (omega (arith, lt))
+got_before (z ∷ xs) ys zero x lt e = e
+got_before (z ∷ xs) ys (suc i) x lt e = got_before xs ys i x (omega (arith, lt)) e
+
+-- what follows for each value follows for whatever is there
+pub if_some_then : {X : Type 0} (o : Option X) {P Q : X → Type 0} → IfSome o P → ((x : X) → P x → Q x) → IfSome o Q
+if_some_then None holds then = tt
+if_some_then (Some x) holds then = then x holds
+
+-- a table of the first era alone
+pub tables_by_era : (holds : ℕ → ℕ → Type 0) (first : Option ℕ) → IfSome first (holds 0) → (era start : ℕ) → slice_index_or (first ∷ None ∷ None ∷ None ∷ []) era None ≡ Some start
+    → holds era start
+tables_by_era holds first is zero start at = if_at first (holds 0) start is at
+tables_by_era holds first is (suc zero) start at = absurd (none-some start at)
+tables_by_era holds first is (suc (suc zero)) start at = absurd (none-some start at)
+tables_by_era holds first is (suc (suc (suc zero))) start at = absurd (none-some start at)
+tables_by_era holds first is (suc (suc (suc (suc era)))) start at = absurd (none-some start at)
+
+zone_still : (content : Content) (texts texts' : List Shown) (slots slots' : List Slot) (zone : ReadyZone) → Keeps texts texts' → Keeps slots slots'
+    → IsReadyZone content texts slots zone → IsReadyZone content texts' slots' zone
+zone_still content texts texts' slots slots' zone keeps keeps' is = record {
+  numbers = numbers_still content texts texts' zone.numbers.items keeps is.numbers;
+  tables = λ era start at. table_still texts texts' slots slots' (AnswersState content) (base_of era) start keeps keeps' (is.tables era start at);
+}
+
+pub none_ready : (ready : Ready) → ready.names ≡ [] → ready.zones.items ≡ [] → (files : List File) → AreReady files ready
+none_ready ready unnamed none files = record {
+  names = subst (λ (l : List (List ℕ)). AreNamesOf files l) (sym unnamed) (no_names files);
+  few = rw none (omega arith);
+  each = λ i file zone at ready_at.
+      let at_none : slice_get {X = ReadyZone} [] i ≡ Some zone = ap (λ (l : List ReadyZone). slice_get l i) (sym none) ∙ ready_at in
+      absurd cc;
+}
+
+-- files that follow aren't ready
+pub files_added : (files more : List File) (ready : Ready) → AreReady files ready → AreReady (files ++ more) ready
+files_added files more ready are = record {
+  names = names_still files ready.names are.names more;
+  few = let few = are.few in omega (arith, few, length-append files more);
+  each = λ i file zone at ready_at.
+      let few = are.few in
+      let lt = slice_get_within ready.zones.items i zone ready_at in
+      let within : i < length files = omega (arith, few, lt) in
+      are.each i file zone (got_before files more i file within at) ready_at;
+}
+
+-- the files stay ready as texts and tables are added
+pub ready_as_more : (files : List File) (old new : Ready) → new.names ≡ old.names → new.zones.items ≡ old.zones.items → Keeps old.texts new.texts → Keeps old.tables new.tables
+    → AreReady files old → AreReady files new
+ready_as_more files old new named same texts tables are = record {
+  names = subst (λ (l : List (List ℕ)). AreNamesOf files l) (sym named) are.names;
+  few = rw same are.few;
+  each = λ i file zone at ready_at.
+      let before : slice_get old.zones.items i ≡ Some zone = ap (λ (l : List ReadyZone). slice_get l i) (sym same) ∙ ready_at in
+      zone_still file.image.content old.texts new.texts old.tables new.tables zone texts tables (are.each i file zone at before);
+}
+
+-- one file more is ready
+pub ready_added : (files : List File) (old new : Ready) (zone : ReadyZone) (content : Content) → new.names ≡ old.names → new.zones.items ≡ old.zones.items ++ zone ∷ []
+    → new.texts ≡ old.texts → new.tables ≡ old.tables → length old.zones.items < length files
+    → IfSome (slice_get files (length old.zones.items)) (λ file. content ≡ file.image.content) → IsReadyZone content new.texts new.tables zone → AreReady files old → AreReady files new
+ready_added files old new zone content named pushed texts tables lt is made are = record {
+  names = subst (λ (l : List (List ℕ)). AreNamesOf files l) (sym named) are.names;
+  few = rw pushed (omega (arith, lt, length-append old.zones.items (zone ∷ [])));
+  each = λ i file one at ready_at.
+      let more : slice_get (old.zones.items ++ zone ∷ []) i ≡ Some one = ap (λ (l : List ReadyZone). slice_get l i) (sym pushed) ∙ ready_at in
+      elim (got_more old.zones.items zone one i more) [
+        | inl before ↦
+            subst (λ (l : List Shown). IsReadyZone file.image.content l new.tables one) (sym texts)
+            (subst (λ (l : List Slot). IsReadyZone file.image.content old.texts l one) (sym tables) (are.each i file one at before))
+        | inr last ↦
+            let same = if_at (slice_get files (length old.zones.items)) (λ (f : File). content ≡ f.image.content) file is (ap (slice_get files) last.0 ∙ at) in
+            subst (λ (z : ReadyZone). IsReadyZone file.image.content new.texts new.tables z) last.1 (subst (λ (c : Content). IsReadyZone c new.texts new.tables zone) same made)
+      ];
+}
+
+-- what follows of each value follows of whatever is there
+pub if_each : {X : Type 0} (o : Option X) {P : X → Type 0} → ((x : X) → o ≡ Some x → P x) → IfSome o P
+if_each None each = tt
+if_each (Some x) each = each x refl
+
+module _ (files : List File) (ready : Ready) (are : AreReady files ready) (file : ℕ) (zone : ReadyZone) (ready_at : slice_get ready.zones.items file ≡ Some zone) where
+  -- the text of a state
+  pub text_told : (number n : ℕ) (text : Shown) → slice_get zone.numbers.items number ≡ Some n → IsText ready.texts n text → IsTextOf files file number text
+  text_told number n text named is = if_each (slice_get files file) (λ f at.
+      let (other, got, of) = (are.each file f zone at ready_at).numbers.each number n named is.0 in
+      subst (λ (s : Shown). IsStateOfNumber f.image.content number s) (same_Some other text (sym got ∙ is.1)) of)
+
+  -- the text that a table tells
+  pub quick_told : (instant : ℤ) (place : Place) (start : ℕ) (slot : Slot) (text : Shown) → IsPlaceOf instant place → slice_index_or zone.tables place.era None ≡ Some start
+      → slice_get ready.tables (start + place.slot) ≡ Some slot → IsText ready.texts (number_at slot place.second) text → AnswersAt files file instant text
+  quick_told instant place start slot text lies begins at_slot is = if_each (slice_get files file) (λ f at.
+      let content = f.image.content in
+      let table = (are.each file f zone at ready_at).tables place.era start begins in
+      let (other, at_other, has) = table.is place.slot lies.slot in
+      let texts = subst (λ (s : Slot). HasTexts ready.texts (AnswersState content) (start_of place.era place.slot) s) (same_Some other slot (sym at_other ∙ at_slot)) has in
+      let (state, got, answers) = texts place.second lies.second is.0 in
+      subst (λ (t : ℤ). AnswersState content t text) lies.is
+      (subst (λ (s : Shown). AnswersState content (start_of place.era place.slot +ℤ pos place.second) s) (same_Some state text (sym got ∙ is.1)) answers))

@@ -1,0 +1,25 @@
+-- Tables of slots.
+use Rattle.std.specs.Prelude.{◌≡◌, ◌<◌, ◌+◌, ◌*◌, ℕ, ℤ, pos, ◌+ℤ◌, List, Some, slice_get}
+use Rattle.zic_base.specs.State.{Shown}
+use Rattle.zic_slots.specs.Slots.{IsRight, number_at}
+use Rattle.zic_slots.specs.declared.limit.TheConstants.{SLOT_SECONDS, SLOTS}
+use Rattle.zic_slots.specs.declared.slot.Slot.{Slot}
+use Rattle.zic_tzif.specs.Content.{Content}
+use Rattle.zic_zones.specs.code.Texts.{HasText}
+
+-- each slot of the table that begins there is one of which this holds, with its first instant
+abbrev pub IsTableOf : List Slot → ℤ → ℕ → (ℤ → Slot → Type 0) → Type 0
+IsTableOf slots base start holds =
+    (place : ℕ) → place < SLOTS → (slot : Slot) × (slice_get slots (start + place) ≡ Some slot) × holds (base +ℤ pos (place * SLOT_SECONDS)) slot
+
+-- A table of the numbers that a zone's states have, from an instant on.
+pub record HasTable (content : Content) (numbers : List ℕ) (slots : List Slot) (base : ℤ) (start : ℕ) : Type 0 where
+  pub is : IsTableOf slots base start (IsRight content numbers)
+
+-- the numbers of a slot, from its first instant on, are those of texts of states at the instants
+abbrev pub HasTexts : List Shown → (ℤ → Shown → Type 0) → ℤ → Slot → Type 0
+HasTexts texts at from slot = (second : ℕ) → second < SLOT_SECONDS → HasText texts (number_at slot second) (at (from +ℤ pos second))
+
+-- A table of texts of states at instants.
+pub record IsTable (texts : List Shown) (slots : List Slot) (at : ℤ → Shown → Type 0) (base : ℤ) (start : ℕ) : Type 0 where
+  pub is : IsTableOf slots base start (HasTexts texts at)
