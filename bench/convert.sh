@@ -1,14 +1,16 @@
 #!/bin/sh
 # Times `pzic convert` beside two other converters, each by 1 and 4 workers: the plain Rust of
-# `convert.rs`, and Debian's C++ date library with a cache of spans (`convert.cpp`).
+# `convert.rs`, which goes through batches of records column by column, and Debian's C++ date library
+# with a cache of spans (`convert.cpp`).
 #
-# usage: convert.sh [ROWS] | convert.sh others [ROWS] | convert.sh stream [ROWS]
+# usage: convert.sh [ROWS] | convert.sh options [ROWS] | convert.sh others [ROWS] |
+#        convert.sh stream [ROWS]
 #
 # The columns have ROWS rows, by default 10,000,000. `random` has random zones of the system's
 # release of the tz database and random instants from 1970 to 2037; `rising` has America/New_York,
 # with instants that rise through the same years; `footer` has random zones and instants from 2040
 # to 2400, the years of footers; `quoted` is `random` with both fields in double quotes. The rows go
-# to /dev/null. The converters take turns, RUNS times each, by default 3. The table has the best
+# to /dev/null. The converters take turns, RUNS times each, by default 7. The table has the best
 # time of each in seconds and in million rows a second. For pzic it also has the speed relative to 1
 # worker, and the greatest memory of a run. For the others it has the speed of pzic in percent of
 # theirs.
@@ -19,6 +21,12 @@
 # source, and `--append` on records of ten fields, beside the C++ library. The last line is the time
 # of a whole run with a column of one row.
 #
+# With the word `options`, only pzic runs, by 1 and 4 workers: on `random` (`plain`), on the same with
+# `--unit ms`, with `--keep-going`, with both fields in double quotes (`quoted`), and with `--append`.
+# The columns have ROWS rows, by default 2,000,000. First the rows are compared: they must be the same,
+# except for the zeros of milliseconds. Each line has the M rows/s of the best run, in percent of those
+# of `plain`, and the greatest memory and number of page faults of a run.
+#
 # With the word `others`, pzic runs beside other languages: the C++ library and Go (`convert.go`), by 1
 # and 4 workers, and zoneinfo of Python (`convert.py`), which converts a twentieth of the rows. The
 # columns are `random` and `rising` of ROWS rows, by default 2,000,000. All rows must be the same, and
@@ -27,20 +35,21 @@
 # With the word `stream`, only pzic runs. It converts a column of ROWS rows through pipes, by
 # default 100,000,000 rows, which are just under 4 GiB.
 #
-# The variable PZIC names the program, if it shouldn't be built. Needs `rt`, `rustc`, `g++`, GNU
-# time, the release, and the C++ library and Go or apt-get to install them.
+# The variable PZIC names the program, if it shouldn't be built. Needs `rt`, `rustc`, `g++`, the
+# release, and GNU time, the C++ library and Go or apt-get to install them.
 set -eu
 . "$(dirname "$0")/common.sh"
 mode=table
 case ${1:-} in
-others | stream)
+options | others | stream)
     mode=$1
     shift
     ;;
 esac
-runs=${RUNS:-3}
+runs=${RUNS:-7}
 program=${PZIC:-crates/zic_main/out/zic_main}
 [ "${PZIC:-}" ] || build zic_main check -
+has /usr/bin/time time
 plain column
 "$program" build "$work/tree" "$release"
 # The C++ library leaves out Factory.
@@ -70,12 +79,13 @@ fi
 
 # ------------------------------------------------------------------ the converters
 
-has /usr/include/date/tz.h libhowardhinnant-date-dev
-g++ -std=c++17 -O2 -DUSE_OS_TZDB=1 -pthread -o "$work/library" bench/convert.cpp -ldate-tz
-
-# convert CONVERTER WORKERS: converts standard input, and keeps the memory of the run in kilobytes.
+# convert CONVERTER WORKERS: converts standard input, and keeps the memory of the run in kilobytes, and
+# its number of page faults.
 convert() {
     case $1:$kind in
+    pzic:unit) set -- "$program" convert --workers "$2" --unit ms "$release" ;;
+    pzic:keep-going) set -- "$program" convert --workers "$2" --keep-going "$release" ;;
+    pzic:append) set -- "$program" convert --workers "$2" --append "$release" ;;
     pzic:wide) set -- "$program" convert --workers "$2" --append --zone-field 3 --time-field 6 "$release" ;;
     pzic:*) set -- "$program" convert --workers "$2" "$release" ;;
     tree:*) set -- "$program" convert --workers "$2" --tree "$work/tree" ;;
@@ -85,7 +95,7 @@ convert() {
     convert.go:*) set -- env ZONEINFO="$work/tree" "$work/go" "$2" ;;
     convert.py:*) set -- env PYTHONTZPATH="$work/tree" "$python" bench/convert.py "$few" ;;
     esac
-    command time -f %M -o "$work/kilobytes" "$@"
+    command time -f '%M %R' -o "$work/usage" "$@"
 }
 
 # column KIND ROWS: makes a column.
@@ -94,16 +104,22 @@ column() {
     "$work/column" "$1" "$2" <"$work/zones" >"$work/column.csv"
 }
 
-# once CONVERTER WORKERS: runs a converter, and keeps the nanoseconds and kilobytes of the run.
+# once CONVERTER WORKERS: runs a converter on the column, and keeps the nanoseconds, kilobytes and page
+# faults of the run.
 once() {
     start=$(date +%s%N)
     convert "$1" "$2" <"$work/column.csv" >/dev/null
-    echo "$(($(date +%s%N) - start)) $(tail -n 1 "$work/kilobytes")" >>"$work/runs.$1.$2"
+    echo "$(($(date +%s%N) - start)) $(tail -n 1 "$work/usage")" >>"$work/runs.$kind.$1.$2"
 }
 
 # best_of CONVERTER WORKERS: prints the nanoseconds of the best run.
 best_of() {
-    sort -n "$work/runs.$1.$2" | head -n 1 | cut -d ' ' -f 1
+    sort -n "$work/runs.$kind.$1.$2" | head -n 1 | cut -d ' ' -f 1
+}
+
+# most CONVERTER WORKERS FIELD: prints the greatest kilobytes (2) or page faults (3) of a run.
+most() {
+    cut -d ' ' -f "$3" "$work/runs.$kind.$1.$2" | sort -n | tail -n 1
 }
 
 # compare KIND CONVERTER WORKERS: compares the rows with those of pzic by 1 worker.
@@ -114,6 +130,68 @@ compare() {
     echo "$1: $others of $sample rows of $2 with $3 workers are others than those of pzic with 1"
     [ "$1 $2" = 'footer convert.cpp' ]
 }
+
+# ------------------------------------------------------------------ options
+
+# turn_to KIND: turns to an option and its column.
+turn_to() {
+    kind=$1
+    case $kind in
+    unit | quoted) ln -f "$work/$kind.csv" "$work/column.csv" ;;
+    *) ln -f "$work/plain.csv" "$work/column.csv" ;;
+    esac
+}
+
+# rows_of WORKERS: prints the rows of the column, without the zeros of milliseconds.
+rows_of() {
+    if [ "$kind" != unit ]; then
+        convert pzic "$1" <"$work/column.csv"
+    else
+        convert pzic "$1" <"$work/column.csv" | sed 's/000,/,/; s/\.000,/,/'
+    fi
+}
+
+if [ "$mode" = options ]; then
+    rows=${1:-2000000}
+    column quoted "$rows"
+    mv "$work/column.csv" "$work/quoted.csv"
+    tr -d '"' <"$work/quoted.csv" >"$work/plain.csv"
+    sed 's/$/000/' "$work/plain.csv" >"$work/unit.csv"
+    options='plain unit keep-going quoted append'
+    turn_to plain
+    rows_of 1 >"$work/wanted"
+    for option in $options; do
+        turn_to "$option"
+        for workers in 1 4; do rows_of "$workers" | cmp "$work/wanted" -; done
+    done
+    echo "columns of $rows rows, to nowhere, best of $runs: $(load)"
+    turn=0
+    while [ "$turn" -lt "$runs" ]; do
+        for option in $options; do
+            turn_to "$option"
+            for workers in 1 4; do once pzic "$workers"; done
+        done
+        turn=$((turn + 1))
+    done
+    echo 'column     workers | M rows/s of plain   MB page faults'
+    for workers in 1 4; do
+        turn_to plain
+        plain=$(best_of pzic "$workers")
+        for option in $options; do
+            turn_to "$option"
+            echo "$(best_of pzic "$workers") $plain $(most pzic "$workers" 2) $(most pzic "$workers" 3)" |
+                awk -v kind="$kind" -v workers="$workers" -v rows="$rows" '{
+                    printf "%-10s %7d | %8.2f %6.0f %% %4.0f %11d\n",
+                        kind, workers, rows * 1e3 / $1, 100 * $2 / $1, $3 / 1e3, $4
+                }'
+        done
+    done
+    load
+    exit
+fi
+
+has /usr/include/date/tz.h libhowardhinnant-date-dev
+g++ -std=c++17 -O2 -DUSE_OS_TZDB=1 -pthread -o "$work/library" bench/convert.cpp -ldate-tz
 
 # ------------------------------------------------------------------ other languages
 
@@ -191,8 +269,7 @@ echo "all other rows of columns of $sample rows are the same"
 
 # line KIND WORKERS: prints a line of the table.
 line() {
-    most=$(cut -d ' ' -f 2 "$work/runs.pzic.$2" | sort -n | tail -n 1)
-    echo "$(best_of pzic "$2") $(best_of convert.rs "$2") $(best_of convert.cpp "$2") $(best_of pzic 1) $most" |
+    echo "$(best_of pzic "$2") $(best_of convert.rs "$2") $(best_of convert.cpp "$2") $(best_of pzic 1) $(most pzic "$2" 2)" |
         awk -v kind="$1" -v workers="$2" -v rows="$rows" '{
             printf "%-6s %7d |", kind, workers
             printf " %7.2f %8.2f %7.2f %4.0f |", $1 / 1e9, rows * 1e3 / $1, $4 / $1, $5 / 1e3

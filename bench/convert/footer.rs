@@ -1,79 +1,120 @@
-//! The meaning of a footer, prepared for rows.
+//! The meaning of a footer: local time after the last transition.
 
-use crate::calendar::{Calendar, DAY, DAYS_TO_1970, KINDS};
-use crate::posix::{self, Dst};
-use crate::tail::Tail;
-use crate::zone::Span;
+use crate::calendar::{Calendar, DAY, FIRST_LEAP_KIND, KINDS};
+use crate::local_time_types::TypeNumber;
+use crate::zone::Transition;
+use std::ops::RangeInclusive;
 
-/// Some years among which each kind of year occurs.
-const YEARS_OF_ALL_KINDS: std::ops::RangeInclusive<usize> = 2001..=2028;
-
-/// The two edges of a year, in seconds from its start in UT.
-type Edges = [i64; 2];
-
-pub enum Footer {
-    /// Standard time all year.
-    Fixed(Tail),
-    /// Two edges a year, always in the same order and each within its own UT year. They are the
-    /// same for all years of a kind.
-    Yearly { outside: Tail, between: Tail, edges: [Edges; KINDS] },
-    /// Any other footer with daylight saving time.
-    Walk { standard: Tail, daylight: Tail, footer: posix::Footer },
+pub struct Footer {
+    pub standard: TypeNumber,
+    pub daylight: Option<Daylight>,
 }
 
-/// Returns the start and the stop of daylight saving time for each kind of year.
-fn edges_of_kinds(offset: i32, dst: &Dst, calendar: &Calendar) -> [Edges; KINDS] {
-    let mut edges = [[0; 2]; KINDS];
-    for number in YEARS_OF_ALL_KINDS {
-        let year = calendar.year(number);
-        let start = posix::instant_in(number as i64, &dst.start, offset);
-        let stop = posix::instant_in(number as i64, &dst.stop, dst.offset);
-        edges[usize::from(year.kind)] = [start - year.start(), stop - year.start()];
+/// Daylight saving time.
+pub struct Daylight {
+    pub number: TypeNumber,
+    pub edges: [Edges; KINDS],
+}
+
+/// When daylight saving time starts and stops, in seconds from the start of the year in UT. This is
+/// the same for all years of a kind.
+#[derive(Clone, Copy)]
+pub struct Edges {
+    pub start: i64,
+    pub stop: i64,
+}
+
+/// When daylight saving time starts and stops, by rules.
+pub struct Rule {
+    pub start: Edge,
+    pub stop: Edge,
+}
+
+pub struct Edge {
+    pub day: DayRule,
+    /// The time of day in UT, in seconds. It may be on another day.
+    pub time: i32,
+}
+
+pub enum DayRule {
+    /// A day from 1 to 365, without February 29.
+    J(i32),
+    /// A day from 0 to 365.
+    N(i32),
+    /// A weekday of a week from 1 to 5 of a month.
+    M { month: i32, week: i32, weekday: i32 },
+}
+
+/// The days of a common year before each month, and of the whole year.
+const DAYS_BEFORE: [i32; 13] = [0, 31, 59, 90, 120, 151, 181, 212, 243, 273, 304, 334, 365];
+
+/// Returns the days before a month, from 1 to 13, in a year of a kind.
+fn days_before(month: i32, kind: usize) -> i32 {
+    let leap_days = i32::from(kind >= FIRST_LEAP_KIND && month > 2);
+    DAYS_BEFORE[month as usize - 1] + leap_days
+}
+
+impl DayRule {
+    /// Returns the day in a year of a kind, from 0 on.
+    fn day_in(&self, kind: usize) -> i32 {
+        match *self {
+            DayRule::J(day) => day - 1 + i32::from(kind >= FIRST_LEAP_KIND && day >= 60),
+            DayRule::N(day) => day,
+            DayRule::M { month, week, weekday } => {
+                let first = days_before(month, kind);
+                let first_weekday = (kind % FIRST_LEAP_KIND) as i32 + first;
+                let day = first + (weekday - first_weekday).rem_euclid(7) + 7 * (week - 1);
+                // The fifth week stands for the last one.
+                if day < days_before(month + 1, kind) { day } else { day - 7 }
+            }
+        }
     }
-    edges
+}
+
+impl Edge {
+    fn second_in(&self, kind: usize) -> i64 {
+        i64::from(self.day.day_in(kind)) * DAY + i64::from(self.time)
+    }
+}
+
+impl Rule {
+    /// Returns daylight saving time by this rule and with this local time type.
+    pub fn daylight(&self, number: TypeNumber) -> Daylight {
+        let edges =
+            |kind| Edges { start: self.start.second_in(kind), stop: self.stop.second_in(kind) };
+        Daylight { number, edges: std::array::from_fn(edges) }
+    }
 }
 
 impl Footer {
-    pub fn new(footer: posix::Footer, calendar: &Calendar) -> Footer {
-        let standard = Tail::new(footer.offset, false, &footer.std);
-        let Some(dst) = &footer.dst else { return Footer::Fixed(standard) };
-        let daylight = Tail::new(dst.offset, true, &dst.name);
-        let edges = edges_of_kinds(footer.offset, dst, calendar);
-        // No year has fewer days.
-        let are_within = edges.as_flattened().iter().all(|edge| (0..365 * DAY).contains(edge));
-        if are_within && edges.iter().all(|[start, stop]| start < stop) {
-            return Footer::Yearly { outside: standard, between: daylight, edges };
-        }
-        if are_within && edges.iter().all(|[start, stop]| stop < start) {
-            let edges = edges.map(|[start, stop]| [stop, start]);
-            return Footer::Yearly { outside: daylight, between: standard, edges };
-        }
-        Footer::Walk { standard, daylight, footer }
+    /// Returns the transitions in some years, in rising order. If daylight saving time starts when
+    /// it stops, it goes on.
+    pub fn transitions(
+        &self,
+        years: RangeInclusive<usize>,
+        calendar: &Calendar,
+    ) -> Vec<Transition> {
+        let Some(daylight) = &self.daylight else {
+            return Vec::new();
+        };
+        let transitions_of = |year| {
+            let Edges { start, stop } = daylight.edges[calendar.kind(year)];
+            let first = calendar.start(year);
+            [
+                Transition { at: first + start, number: daylight.number },
+                Transition { at: first + stop, number: self.standard },
+            ]
+        };
+        let mut all = years.flat_map(transitions_of).collect::<Vec<_>>();
+        all.sort_by_key(|transition| (transition.at, transition.number == daylight.number));
+        all
     }
 
-    /// Returns the state that the footer means at an instant of the years 1 to 9999, and the span
-    /// of instants for which it lasts.
-    #[inline(always)]
-    pub fn span(&self, t: i64, calendar: &Calendar) -> Span<'_> {
-        match self {
-            Footer::Fixed(tail) => Span { tail, first: i64::MIN, last: i64::MAX },
-            Footer::Yearly { outside, between, edges } => {
-                let day = t.div_euclid(DAY) + DAYS_TO_1970;
-                let (year, next) = calendar.year_and_next(day as u32);
-                let [first, second] = edges[usize::from(year.kind)].map(|edge| year.start() + edge);
-                if t < first {
-                    Span { tail: outside, first: year.start(), last: first - 1 }
-                } else if t < second {
-                    Span { tail: between, first, last: second - 1 }
-                } else {
-                    Span { tail: outside, first: second, last: next.start() - 1 }
-                }
-            }
-            Footer::Walk { standard, daylight, footer } => {
-                let span = footer.span(t);
-                let tail = if span.state.daylight { daylight } else { standard };
-                Span { tail, first: span.first, last: span.last }
-            }
-        }
+    /// Returns the last transition that isn't after an instant. Edges are at most ten days outside
+    /// their year.
+    pub fn last_transition(&self, t: i64, calendar: &Calendar) -> Option<Transition> {
+        let year = calendar.year_at(t);
+        let all = self.transitions(year - 1..=year + 1, calendar);
+        all.into_iter().rfind(|transition| transition.at <= t)
     }
 }

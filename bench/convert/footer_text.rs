@@ -1,49 +1,49 @@
-//! Reads the text of a footer, without checks.
+//! Reads the text of a footer, a POSIX TZ string, without checks.
 
-use crate::posix::{DayRule, Dst, Edge, Footer};
+use crate::footer::{DayRule, Edge, Footer, Rule};
+use crate::local_time_types::{LocalTimeType, LocalTimeTypes};
 
 /// Returns the footer that a text spells. The text must not be empty.
-pub fn parse(text: &str) -> Footer {
-    Rest(text).footer()
+pub fn parse(text: &str, types: &mut LocalTimeTypes) -> Footer {
+    let mut rest = Rest(text);
+    let designation = rest.designation();
+    let utc_offset = -rest.seconds();
+    let standard = types.number(LocalTimeType::new(utc_offset, false, designation));
+    if rest.0.is_empty() {
+        return Footer { standard, daylight: None };
+    }
+    let designation = rest.designation();
+    let ahead = if rest.0.starts_with(',') { utc_offset + 3600 } else { -rest.seconds() };
+    let number = types.number(LocalTimeType::new(ahead, true, designation));
+    let rule = Rule { start: rest.edge(utc_offset), stop: rest.edge(ahead) };
+    Footer { standard, daylight: Some(rule.daylight(number)) }
 }
 
 /// The rest of the text.
 struct Rest<'a>(&'a str);
 
-impl Rest<'_> {
-    fn footer(&mut self) -> Footer {
-        let std = self.name();
-        let offset = -self.seconds();
-        if self.0.is_empty() {
-            return Footer { std, offset, dst: None };
-        }
-        let name = self.name();
-        let ahead = if self.0.starts_with(',') { offset + 3600 } else { -self.seconds() };
-        let dst = Dst { name, offset: ahead, start: self.edge(), stop: self.edge() };
-        Footer { std, offset, dst: Some(dst) }
-    }
-
-    /// Returns the text before the first of some bytes, and skips it.
-    fn take(&mut self, is_end: impl Fn(char) -> bool) -> &str {
+impl<'a> Rest<'a> {
+    /// Returns the text before the first of some characters, and skips it.
+    fn take(&mut self, is_end: impl Fn(char) -> bool) -> &'a str {
         let (text, rest) = self.0.split_at(self.0.find(is_end).unwrap_or(self.0.len()));
         self.0 = rest;
         text
     }
 
-    /// Returns whether the text begins with a sign, and skips the sign.
-    fn passes(&mut self, sign: char) -> bool {
-        let rest = self.0.strip_prefix(sign);
+    /// Returns whether the text begins with a character, and skips that.
+    fn passes(&mut self, wanted: char) -> bool {
+        let rest = self.0.strip_prefix(wanted);
         self.0 = rest.unwrap_or(self.0);
         rest.is_some()
     }
 
-    fn name(&mut self) -> Vec<u8> {
+    fn designation(&mut self) -> &'a [u8] {
         if !self.passes('<') {
-            return self.take(|letter| !letter.is_ascii_alphabetic()).into();
+            return self.take(|letter| !letter.is_ascii_alphabetic()).as_bytes();
         }
-        let name = self.take(|letter| letter == '>').into();
+        let designation = self.take(|letter| letter == '>').as_bytes();
         self.passes('>');
-        name
+        designation
     }
 
     fn number(&mut self) -> i32 {
@@ -59,21 +59,23 @@ impl Rest<'_> {
         sign * (hours * 3600 + minutes * 60 + seconds)
     }
 
-    fn edge(&mut self) -> Edge {
+    /// Reads an edge whose time of day is told by clocks with a UTC offset.
+    fn edge(&mut self, utc_offset: i32) -> Edge {
         self.passes(',');
         let day = self.day_rule();
-        Edge { day, time: if self.passes('/') { self.seconds() } else { 7200 } }
+        let time = if self.passes('/') { self.seconds() } else { 7200 };
+        Edge { day, time: time - utc_offset }
     }
 
     fn day_rule(&mut self) -> DayRule {
         if self.passes('J') {
-            return DayRule::J(self.number() as u16);
+            return DayRule::J(self.number());
         }
         if !self.passes('M') {
-            return DayRule::N(self.number() as u16);
+            return DayRule::N(self.number());
         }
         let mut next = || {
-            let number = self.number() as u8;
+            let number = self.number();
             self.passes('.');
             number
         };

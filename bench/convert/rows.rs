@@ -1,162 +1,75 @@
-//! The rows of a piece.
+//! The last step: the text of a batch.
 
-use crate::calendar::{Calendar, DAY, DAYS_TO_1970};
-use crate::octets::{BLOCK, copy};
-use crate::record::{Instant, Record, instant, record};
-use crate::refuse;
-use crate::zone::Zone;
-use crate::zones::{Zones, is_same};
+use crate::batch::{Batch, Lines};
+use crate::calendar::{Calendar, Date, DayAndSecond};
+use crate::general;
+use crate::local_time_types::{SHORT, ShortType};
+use crate::tables::Tables;
+use crate::text::Text;
 
-/// The room for a row, in addition to the bytes of its line: more than what follows the instant,
-/// and more than a copy of a whole block may write past its end.
-const ROOM: usize = 128;
+/// The bytes of a line that are copied, whatever its length. That is enough for a name of 31 bytes,
+/// a comma, and an instant with a sign.
+const LINE: usize = 48;
 
-/// The initial capacity of a text: enough for a piece of usual rows.
-const FIRST_ROOM: usize = 1 << 16;
+/// The room that rows need in addition to the bytes of their lines, for each row.
+const ROOM_FOR_ROW: usize = 64;
+
+/// The room that the last row needs in addition, because it is copied with a fixed size.
+const ROOM_FOR_LAST: usize = 128;
 
 /// The number of bytes of `,YYYY-MM-DDThh:mm:ss`.
-const TIME_LEN: usize = 20;
+const LOCAL_TIME: usize = 20;
 
-/// The text of rows, in a buffer that can be kept and filled again.
-#[derive(Default)]
-pub struct Text {
-    buffer: Vec<u8>,
-    len: usize,
-}
-
-impl Text {
-    pub fn octets(&self) -> &[u8] {
-        &self.buffer[..self.len]
-    }
-
-    pub fn clear(&mut self) {
-        self.len = 0;
-    }
-
-    /// Ensures that there is room for `count` bytes, and returns it.
-    #[inline(always)]
-    fn room(&mut self, count: usize) -> &mut [u8] {
-        if self.buffer.len() < self.len + count {
-            self.buffer.resize((2 * self.buffer.len()).max(FIRST_ROOM) + count, 0);
-        }
-        &mut self.buffer[self.len..]
-    }
-}
-
-/// Writes rows, and keeps from one row to the next what they have in common.
-pub struct Rows<'a> {
-    zones: &'a Zones,
+/// Writes local times, and keeps the date while the day is the same.
+struct LocalTimes<'a> {
     calendar: &'a Calendar,
-    /// The name of the last row, empty before the first row.
-    name: &'a [u8],
-    zone: Option<&'a Zone>,
-    /// The first and the last instant at which the zone shows the same. If the first is greater
-    /// than the last, there is none.
-    first: i64,
-    last: i64,
-    /// The UT offset in seconds, positive east.
-    offset: i64,
-    /// The day, counted from 0001-01-01.
     day: u32,
-    /// The text after the instant, without the time of day, and zeros after it.
-    rest: [u8; 2 * BLOCK],
-    rest_len: usize,
+    date: Date,
 }
 
-impl<'a> Rows<'a> {
-    pub fn new(zones: &'a Zones, calendar: &'a Calendar) -> Rows<'a> {
-        Rows {
-            zones,
-            calendar,
-            name: b"",
-            zone: None,
-            first: 0,
-            last: -1,
-            offset: 0,
-            day: u32::MAX,
-            rest: [b','; 2 * BLOCK],
-            rest_len: 0,
-        }
-    }
-
-    /// Writes the rows of the lines from `start` to `end`. Two blocks of bytes must follow the
-    /// lines.
-    pub fn write(&mut self, octets: &'a [u8], start: usize, end: usize, text: &mut Text) {
-        let mut at = start;
-        while at < end {
-            let record = record(octets, at);
-            let instant = instant(octets, &record.instant);
-            self.turn_to(&octets[record.name.clone()], instant.seconds);
-            let out = text.room(record.end - at + ROOM);
-            let head = write_head(out, octets, at, &record, instant);
-            let rest = self.write_rest(&mut out[head..], instant.seconds);
-            text.len += head + rest;
-            at = record.end + 1;
-        }
-    }
-
-    /// Updates the kept state to the one that a zone shows at an instant.
+impl LocalTimes<'_> {
+    /// Writes the local time and the end of a row.
     #[inline(always)]
-    fn turn_to(&mut self, name: &'a [u8], t: i64) {
-        if name.len() != self.name.len() || !is_same(name, self.name) {
-            let Some(zone) = self.zones.find(name) else { refuse("RowZone") };
-            (self.name, self.zone) = (name, Some(zone));
-            self.turn_to_span(zone, t);
-        } else if t < self.first || self.last < t {
-            let Some(zone) = self.zone else { refuse("RowZone") };
-            self.turn_to_span(zone, t);
-        }
-    }
-
-    #[inline(always)]
-    fn turn_to_span(&mut self, zone: &'a Zone, t: i64) {
-        let span = zone.span(t, self.calendar);
-        (self.first, self.last) = (span.first, span.last);
-        self.offset = span.tail.offset;
-        self.rest[TIME_LEN..TIME_LEN + BLOCK].copy_from_slice(&span.tail.octets);
-        self.rest_len = TIME_LEN + span.tail.len;
-    }
-
-    /// Writes the text after the instant, and returns its length. It is copied first, and the time
-    /// of day is then written into the copy, because a copy of bytes that were just stored would
-    /// wait for them.
-    #[inline(always)]
-    fn write_rest(&mut self, out: &mut [u8], t: i64) -> usize {
-        let local = (t + self.offset + DAYS_TO_1970 * DAY) as u64;
-        let (day, second) = ((local / DAY as u64) as u32, (local % DAY as u64) as u32);
+    fn write(&mut self, out: &mut [u8; 64], instant: i64, local_type: &ShortType) {
+        let DayAndSecond { day, second } = DayAndSecond::new(instant, local_type.utc_offset);
         if day != self.day {
-            self.calendar.write_date((&mut self.rest[1..13]).try_into().unwrap(), day);
-            self.day = day;
+            (self.day, self.date) = (day, self.calendar.date(day));
         }
-        let row: &mut [u8; 2 * BLOCK] = (&mut out[..2 * BLOCK]).try_into().unwrap();
-        *row = self.rest;
-        self.calendar.write_time((&mut row[12..TIME_LEN]).try_into().unwrap(), second);
-        self.rest_len
+        // Each part begins where the one before ends, or overwrites what follows it.
+        out[..8].copy_from_slice(&self.date.year);
+        out[5..13].copy_from_slice(&self.date.month_and_day);
+        out[12..LOCAL_TIME].copy_from_slice(&self.calendar.time_of_day(second));
+        out[LOCAL_TIME..LOCAL_TIME + SHORT].copy_from_slice(&local_type.text);
     }
 }
 
-/// Writes the name, a comma and the instant as a plain decimal, and returns their length. Usually
-/// the line that begins at `at` is exactly that.
-#[inline(always)]
-fn write_head(
-    out: &mut [u8],
-    octets: &[u8],
-    at: usize,
-    record: &Record,
-    instant: Instant,
-) -> usize {
-    if !record.has_quotes && instant.is_plain {
-        copy(out, octets, at, record.end - at);
-        return record.end - at;
+/// Writes the rows of a batch that begins at a place of the lines.
+#[inline(never)]
+pub fn write_rows(tables: &Tables, lines: Lines<'_>, start: u32, batch: &Batch, text: &mut Text) {
+    let count = batch.len();
+    let room =
+        |at: u32, rows: usize| (batch.end() - at) as usize + rows * ROOM_FOR_ROW + ROOM_FOR_LAST;
+    let mut local_times =
+        LocalTimes { calendar: &tables.calendar, day: u32::MAX, date: Date::default() };
+    let mut at = start;
+    let mut out = text.room(room(at, count));
+    let mut written = 0;
+    for i in 0..count {
+        let end = batch.line_ends[i];
+        if let Some(local_type) = tables.types.short.get(usize::from(batch.types[i])) {
+            let row: &mut [u8; ROOM_FOR_LAST] = out[written..].first_chunk_mut().unwrap();
+            row[..LINE].copy_from_slice(lines.block::<LINE>(at));
+            let len = (end - at) as usize % 64;
+            let rest = (&mut row[len..len + 64]).try_into().unwrap();
+            local_times.write(rest, batch.instants[i], local_type);
+            written += len + LOCAL_TIME + local_type.len as usize;
+        } else {
+            text.advance(written);
+            general::write_line(tables, lines.part(at, end), text);
+            out = text.room(room(end, count - i));
+            written = 0;
+        }
+        at = end + 1;
     }
-    copy(out, octets, record.name.start, record.name.len());
-    let comma = record.name.len();
-    out[comma] = b',';
-    if instant.is_plain {
-        copy(&mut out[comma + 1..], octets, record.instant.start, record.instant.len());
-        return comma + 1 + record.instant.len();
-    }
-    let decimals = instant.seconds.to_string();
-    out[comma + 1..][..decimals.len()].copy_from_slice(decimals.as_bytes());
-    comma + 1 + decimals.len()
+    text.advance(written);
 }

@@ -1,6 +1,6 @@
 -- Records of two plain fields, by a layout.
-use Rattle.std.proofs.Common.{◌≡◌, ◌+◌, ◌==◌, ℕ, ℤ, Bool, true, false, List, [], ◌∷◌, ◌++◌, length, Option, Some, None, append_assoc, refl, sym, ap, subst, ◌∙◌, arith}
-use Rattle.std.specs.Prelude.{is_some, option_map}
+use Rattle.std.proofs.Common.{◌≡◌, ◌+◌, ◌==◌, ℕ, ℤ, Bool, true, false, List, [], ◌∷◌, ◌++◌, length, Option, Some, None, append_assoc, refl, sym, ap, subst, ◌∙◌, arith, drop}
+use Rattle.std.specs.Prelude.{◌↔◌, is_some, option_map}
 use Rattle.std.specs.Fmt.{signed_decimal}
 use Rattle.std.proofs.lemmas.Bool.{eqb-true, ne_eqb}
 use Rattle.std.proofs.lemmas.List.{map-append}
@@ -10,12 +10,13 @@ use Rattle.zic_base.specs.State.{Shown}
 use Rattle.zic_base.specs.declared.row_fault.RowKind.{RowKind}
 use Rattle.zic_columns.proofs.Exchanges.{comma_exchanged}
 use Rattle.zic_columns.proofs.Wholes.{wholes_fields}
-use Rattle.zic_columns.specs.Column.{column_records}
+use Rattle.zic_columns.specs.Column.{AreColumnRecords, column_records}
 use Rattle.zic_columns.specs.Exchange.{config_of, exchange, exchanged}
 use Rattle.zic_columns.specs.Laws.{ColumnRecordsAreRead, DelimitedRecordsAreOne}
 use Rattle.zic_columns.specs.Own.{Whole, whole_records}
 use Rattle.zic_files.specs.File.{File}
-use Rattle.zic_plan.specs.Layout.{HasPlainRows}
+use Rattle.zic_plan.specs.Layout.{HasPlainRows, records_before}
+use Rattle.zic_plan.specs.declared.layout.Header.TheVariants as header
 use Rattle.zic_plan.specs.declared.layout.Layout.{Layout}
 use Rattle.zic_plan.specs.declared.layout.RowStart.TheVariants as starts
 use Rattle.zic_plan.specs.declared.layout.Unit.{Unit}
@@ -25,6 +26,7 @@ use Rattle.zic_rows.specs.Count.{counted_rest_text, counted_row_text, second_of}
 use Rattle.zic_rows.specs.Instant.{instant_of}
 use Rattle.zic_rows.specs.Row.{row_text}
 use Rattle.zic_zones.specs.Zones.{is_named}
+use Rattle.zic_convert.specs.Column.{AreRowRecords, ConvertsBodyTo, ConvertsBy, ConvertsTo}
 use Rattle.zic_convert.specs.Laws.{PlainColumnsConvertAlike}
 use Rattle.zic_convert.specs.Rows.{ComeTo, IsTextOf, fault_of, instant_in, is_row_instant, name_in}
 use Rattle.zic_convert.specs.LayoutRows.{ComeToBy, IsRowAt, IsTextBy, ends_by, fault_by, start_text}
@@ -77,7 +79,23 @@ module _ (layout : Layout) (plain : HasPlainRows layout) (files : List File) whe
     pub plain_ends : (number : ℕ) (fields : List (List ℕ)) → ends_by layout files most number fields ≡ fault_of files most number fields
     plain_ends number fields = rw plain.at_fault (plain_fault number fields)
 
-  -- a record of two fields has the text that it has without a layout
+  -- a record of two fields has the text that it has in a plain column, whatever its own bytes are
+  text_by : (own : List ℕ) (fields : List (List ℕ)) (name field text : List ℕ) → fields ≡ name ∷ field ∷ [] → IsTextOf files fields text
+      → IsTextBy layout files (record { own = own; fields = fields }) text
+  text_by own fields name field text two is =
+      let says = rw two at is.says in
+      record {
+        file = is.file;
+        among = is.among;
+        named = rw (plain.zone, two) (rw two at is.named);
+        count = is.instant;
+        says = rw (plain.time, plain.unit, two, count_seconds field) says;
+        state = is.state;
+        answers = rw (plain.unit, second_one is.instant) is.answers;
+        is = is.is ∙ sym (plain_row_text own is.file.name is.instant is.state);
+      }
+
+  -- and the other way round
   text_plainly : (whole : Whole) (name field text : List ℕ) → whole.fields ≡ name ∷ field ∷ [] → IsTextBy layout files whole text → IsTextOf files whole.fields text
   text_plainly whole name field text two is =
       let says = rw (plain.time, plain.unit, two, count_seconds field) at is.says in
@@ -109,19 +127,85 @@ module _ (layout : Layout) (plain : HasPlainRows layout) (files : List File) whe
       let row = subst (λ (o : Option RowKind). IsRowAt layout files o whole text) (plain_fault most number whole.fields ∙ sound) come.1 in
       (sound, text_plainly whole two.0 two.1 text two.2 row, come_plainly most (number + 1) wholes texts fault come.2)
 
+  -- and the other way round
+  come_by : (most number : ℕ) (wholes : List Whole) (texts : List (List ℕ)) (fault : Option RowKind) → ComeTo files most number (fields_of_all wholes) texts fault
+      → ComeToBy layout files most number wholes texts fault
+  come_by most number [] texts fault come = come
+  come_by most number (whole ∷ wholes) [] fault come = (come.0 ∙ sym (plain_ends most number whole.fields), come.1)
+  come_by most number (whole ∷ wholes) (text ∷ texts) fault come =
+      let two = two_of most number whole.fields come.0 in
+      let row = text_by whole.own whole.fields two.0 two.1 text two.2 come.1 in (
+        plain_ends most number whole.fields ∙ come.0,
+        subst (λ (o : Option RowKind). IsRowAt layout files o whole text) (sym (plain_fault most number whole.fields ∙ come.0)) row,
+        come_by most (number + 1) wholes texts fault come.2,
+      )
+
+fields_after : (wholes : List Whole) → fields_of_all (drop 1 wholes) ≡ drop 1 (fields_of_all wholes)
+fields_after [] = refl
+fields_after (whole ∷ wholes) = refl
+
 -- a comma is what stands between fields by default
 comma_config : config_of 44 ≡ default_config
 comma_config = refl
 
--- A column of plain rows without a header converts as it does without a layout.
+module _ (read : ColumnRecordsAreRead) (one : DelimitedRecordsAreOne) (files : List File) (layout : Layout) (most : ℕ) (column : List ℕ) (texts : List (List ℕ)) (fault : Option RowKind)
+    (plain : HasPlainRows layout) where
+  -- a column's records, by a reader
+  records_are : (records : List (List (List ℕ))) → AreColumnRecords (strip_bom column) records → records ≡ column_records (strip_bom column)
+  records_are records are = one 44 (strip_bom column) records (column_records (strip_bom column)) are (read (strip_bom column))
+
+  -- those that make rows, with their own bytes
+  rows_are : (wholes : List Whole) → AreRowRecords layout column wholes → wholes ≡ drop (records_before layout.header) (whole_records (strip_bom column))
+  rows_are wholes are =
+      let same = records_are are.records (rw plain.delimiter at are.are) in
+      rw (plain.delimiter, same) at are.is
+
+  all_rows : AreRowRecords layout column (drop (records_before layout.header) (whole_records (strip_bom column)))
+  all_rows = record {
+    records = column_records (strip_bom column);
+    are = rw plain.delimiter (read (strip_bom column));
+    is = rw plain.delimiter refl;
+  }
+
+  -- the rows of a column are those of its records after the header, if it has one, without a layout
+  plainly : ConvertsBy files layout most column texts fault → ComeTo files most 1 (fields_of_all (drop (records_before layout.header) (whole_records (strip_bom column)))) texts fault
+  plainly come =
+      subst (λ (l : List Whole). ComeTo files most 1 (fields_of_all l) texts fault) (rows_are come.wholes come.are) (come_plainly layout plain files most 1 come.wholes texts fault come.rows)
+
+  by_layout : ComeTo files most 1 (fields_of_all (drop (records_before layout.header) (whole_records (strip_bom column)))) texts fault → ConvertsBy files layout most column texts fault
+  by_layout come =
+      let wholes = drop (records_before layout.header) (whole_records (strip_bom column)) in
+      record { wholes = wholes; are = all_rows; rows = come_by layout plain files most 1 wholes texts fault come }
+
+  without_header : layout.header ≡ header.Absent → ConvertsBy files layout most column texts fault ↔ ConvertsTo files most column texts fault
+  without_header none =
+      let bytes = strip_bom column in
+      let same : fields_of_all (drop (records_before layout.header) (whole_records bytes)) ≡ column_records bytes = rw none (wholes_fields bytes) in (
+        λ by. record {
+          records = column_records bytes;
+          are = read bytes;
+          rows = subst (λ (l : List (List (List ℕ))). ComeTo files most 1 l texts fault) same (plainly by);
+        },
+        λ to.
+            let is = records_are to.records to.are ∙ sym same in
+            by_layout (subst (λ (l : List (List (List ℕ))). ComeTo files most 1 l texts fault) is to.rows),
+      )
+
+  with_header : layout.header ≡ header.First → ConvertsBy files layout most column texts fault ↔ ConvertsBodyTo files most column texts fault
+  with_header first =
+      let bytes = strip_bom column in
+      let same : fields_of_all (drop (records_before layout.header) (whole_records bytes)) ≡ drop 1 (column_records bytes) =
+      rw first (fields_after (whole_records bytes) ∙ ap (λ (l : List (List (List ℕ))). drop 1 l) (wholes_fields bytes)) in (
+        λ by. record {
+          records = column_records bytes;
+          are = read bytes;
+          rows = subst (λ (l : List (List (List ℕ))). ComeTo files most 1 l texts fault) same (plainly by);
+        },
+        λ to.
+            let is = ap (λ (l : List (List (List ℕ))). drop 1 l) (records_are to.records to.are) ∙ sym same in
+            by_layout (subst (λ (l : List (List (List ℕ))). ComeTo files most 1 l texts fault) is to.rows),
+      )
+
+-- A column of plain rows converts as it does without a layout.
 pub plain_columns : ColumnRecordsAreRead → DelimitedRecordsAreOne → PlainColumnsConvertAlike
-plain_columns read one files layout most column texts fault plain none come =
-    let bytes = strip_bom column in
-    let are = rw plain.delimiter at come.are.are in
-    let same : come.are.records ≡ column_records bytes = one 44 bytes come.are.records (column_records bytes) are (read bytes) in
-    let wholes : come.wholes ≡ whole_records bytes = rw (plain.delimiter, none, same) at come.are.is in
-    record {
-      records = column_records bytes;
-      are = read bytes;
-      rows = subst (λ (l : List (List (List ℕ))). ComeTo files most 1 l texts fault) (ap fields_of_all wholes ∙ wholes_fields bytes) (come_plainly layout plain files most 1 come.wholes texts fault come.rows);
-    }
+plain_columns read one = record { all = without_header read one; body = with_header read one }

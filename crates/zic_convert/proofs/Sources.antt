@@ -43,7 +43,7 @@ module _ (alike : PlainColumnsConvertAlike) (layout : Layout) (plain : HasPlainR
 
   module _ (column : List ℕ) (wholes : List Whole) (are : AreRowRecords layout column wholes) where
     converts : (texts : List (List ℕ)) (fault : Option RowKind) → ComeToBy layout files most 1 wholes texts fault → ConvertsTo files most column texts fault
-    converts texts fault come = alike files layout most column texts fault plain none (record { wholes = wholes; are = are; rows = come })
+    converts texts fault come = (alike.all files layout most column texts fault plain none).0 (record { wholes = wholes; are = are; rows = come })
 
     module _ (held held' : Option (List ℕ)) where
       same_text : (texts : List (List ℕ)) → Appends held held' (header_text layout column ++ concat texts) → Appends held held' (concat texts)

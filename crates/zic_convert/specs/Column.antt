@@ -24,6 +24,12 @@ pub record ConvertsTo (files : List File) (most : ℕ) (column : List ℕ) (text
   pub are : AreColumnRecords (strip_bom column) records
   pub rows : ComeTo files most 1 records texts fault
 
+-- The same of a column whose first record is a header: own choice. A header makes no row, and isn't counted.
+pub record ConvertsBodyTo (files : List File) (most : ℕ) (column : List ℕ) (texts : List (List ℕ)) (fault : Option RowKind) : Type 0 where
+  pub records : List (List (List ℕ))
+  pub are : AreColumnRecords (strip_bom column) records
+  pub rows : ComeTo files most 1 (drop 1 records) texts fault
+
 -- The records of a column that make rows by a layout, each with its own bytes: those of CSV with the layout's delimiter and double quotes,
 -- but for the header, if there is one. A byte order mark at the start is none of the column, and a line without a byte makes no record.
 pub record AreRowRecords (layout : Layout) (column : List ℕ) (wholes : List Whole) : Type 0 where

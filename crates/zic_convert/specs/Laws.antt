@@ -1,12 +1,12 @@
 -- Laws of converted columns: each is the contract of a function of the module `laws`.
-use Rattle.std.specs.Prelude.{◌≡◌, ℕ, List, Option}
+use Rattle.std.specs.Prelude.{◌≡◌, ◌↔◌, ℕ, List, Option}
 use Rattle.zic_files.specs.File.{File}
 use Rattle.zic_files.specs.Sound.{AreSoundFiles}
 use Rattle.zic_plan.specs.Layout.{HasPlainRows}
 use Rattle.zic_plan.specs.declared.layout.Header.TheVariants as header
 use Rattle.zic_plan.specs.declared.layout.Layout.{Layout}
 use Rattle.zic_base.specs.declared.row_fault.RowKind.{RowKind}
-use Rattle.zic_convert.specs.Column.{ConvertsBy, ConvertsTo}
+use Rattle.zic_convert.specs.Column.{ConvertsBodyTo, ConvertsBy, ConvertsTo}
 
 -- By the files of a source a column converts to one list of texts, and one fault or none, also by each layout.
 pub record ColumnsConvertOnce : Type 0 where
@@ -15,7 +15,10 @@ pub record ColumnsConvertOnce : Type 0 where
   pub by : (files : List File) (layout : Layout) (most : ℕ) (column : List ℕ) (a b : List (List ℕ)) (fault other : Option RowKind) → AreSoundFiles files
       → ConvertsBy files layout most column a fault → ConvertsBy files layout most column b other → (a ≡ b) × (fault ≡ other)
 
--- A layout of plain rows without a header converts a column as it converts without a layout.
-abbrev pub PlainColumnsConvertAlike : Type 0
-PlainColumnsConvertAlike = (files : List File) (layout : Layout) (most : ℕ) (column : List ℕ) (texts : List (List ℕ)) (fault : Option RowKind)
-    → HasPlainRows layout → layout.header ≡ header.Absent → ConvertsBy files layout most column texts fault → ConvertsTo files most column texts fault
+-- By a layout of plain rows a column converts to what it converts to without a layout, and to nothing else, whether its first record is a
+-- header or not.
+pub record PlainColumnsConvertAlike : Type 0 where
+  pub all : (files : List File) (layout : Layout) (most : ℕ) (column : List ℕ) (texts : List (List ℕ)) (fault : Option RowKind) → HasPlainRows layout
+      → layout.header ≡ header.Absent → (ConvertsBy files layout most column texts fault ↔ ConvertsTo files most column texts fault)
+  pub body : (files : List File) (layout : Layout) (most : ℕ) (column : List ℕ) (texts : List (List ℕ)) (fault : Option RowKind) → HasPlainRows layout
+      → layout.header ≡ header.First → (ConvertsBy files layout most column texts fault ↔ ConvertsBodyTo files most column texts fault)

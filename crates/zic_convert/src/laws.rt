@@ -15,8 +15,8 @@ pub fn columns_convert_once()
     files_answer_once();
 }
 
-/// States that by a layout of plain rows without a header a column has the rows, and the fault or
-/// none, that it has without a layout.
+/// States that by a layout of plain rows a column has the rows, and the fault or none, that it has
+/// without a layout, and no others, whether its first record is a header or not.
 pub fn plain_columns_convert_alike()
     ensures { PlainColumnsConvertAlike }
 {

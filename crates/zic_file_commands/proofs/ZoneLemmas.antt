@@ -1,6 +1,6 @@
 -- The zone that all rows are to be in, by zones that were asked for it.
 use Rattle.std.proofs.Common.{◌≡◌, ◌∙◌, ℕ, List, sym, subst, true, false}
-use Rattle.std.specs.Prelude.{Option, Some, None}
+use Rattle.std.specs.Prelude.{Some, None}
 use Rattle.zic_files.specs.File.{File}
 use Rattle.zic_zones.specs.Zones.{Agree, is_named, number_of}
 use Rattle.zic_convert.proofs.RowFaults.{named, unnamed}

@@ -1,5 +1,5 @@
 -- The output of `convert` by zones, and why it gives up.
-use Rattle.std.specs.Prelude.{◌≡◌, ◌⊎◌, ℕ, true, false, List, Option, string_bytes}
+use Rattle.std.specs.Prelude.{◌≡◌, ◌⊎◌, ℕ, true, false, List, string_bytes}
 use Rattle.zic_base.specs.declared.run_stop.RunStop.{RunStop}
 use Rattle.zic_base.specs.declared.run_stop.RunStop.TheVariants as stop
 use Rattle.zic_convert.specs.Convert.{IsCauseOf}
@@ -38,18 +38,32 @@ pub record IsUntouched {R W : Type 0} (run : Run R W) : Type 0 where
   pub unwritten : run.writer' ≡ run.writer
   pub unnoted : run.output.log' ≡ run.output.log
 
+-- no zone was asked for but the one that all rows are to be in, if there is to be one
+abbrev pub IsZoneAsked : {Z : Type 0} → (Z → List ℕ → Z → Type 0) → ZoneFrom → Z → Z → Type 0
+IsZoneAsked AsksFor (zone.Field index) old new = new ≡ old
+IsZoneAsked AsksFor (zone.Name name) old new = AsksFor old (string_bytes name) new
+
 -- Why zones have none for all rows: memory was refused as the zone was asked for, or by all files that rows may be made by then, there is
 -- none.
 abbrev pub IsFailureOfZones : {Z : Type 0} → (Grows Breaks : Z → Z → Type 0) → (Z → List File → Type 0) → Z → Z → ZoneFrom → Failure → Type 0
-IsFailureOfZones Grows Breaks MayBe old new from failure =
+IsFailureOfZones Grows Breaks MayBe old new (zone.Field index) failure = ⊥
+IsFailureOfZones Grows Breaks MayBe old new (zone.Name name) failure =
     ((failure ≡ failures.Memory) × Breaks old new)
-    ⊎ (Grows old new × ((files : List File) → MayBe new files → IsFailureOfZone files from failure))
+    ⊎ (Grows old new × ((files : List File) → MayBe new files → IsFailureOfZone files (zone.Name name) failure))
 
--- the zones have one for all rows, if there is to be one, and the writer failed at the line of names
-pub record IsFailureOfNames {R W Z : Type 0} (Grows : Z → Z → Type 0) (MayBe : Z → List File → Type 0) (layout : Layout) (run : Run R W) (old new : Z)
-    (failure : Failure) : Type 0 where
+-- the zones have none for all rows; nothing was read or written, and no other zone was asked for
+pub record IsFailureWithoutZone {R W Z : Type 0} (Grows Breaks : Z → Z → Type 0) (AsksFor : Z → List ℕ → Z → Type 0) (MayBe : Z → List File → Type 0)
+    (layout : Layout) (run : Run R W) (old new : Z) (failure : Failure) : Type 0 where
+  pub untouched : IsUntouched run
+  pub asked : IsZoneAsked AsksFor layout.zone old new
+  pub of_zones : IsFailureOfZones Grows Breaks MayBe old new layout.zone failure
+
+-- the zones have one for all rows, if there is to be one, no other zone was asked for, and the writer failed at the line of names
+pub record IsFailureOfNames {R W Z : Type 0} (Grows : Z → Z → Type 0) (AsksFor : Z → List ℕ → Z → Type 0) (MayBe : Z → List File → Type 0) (layout : Layout)
+    (run : Run R W) (old new : Z) (failure : Failure) : Type 0 where
   pub is : failure ≡ failures.CannotWriteRows
   pub grown : Grows old new
+  pub asked : IsZoneAsked AsksFor layout.zone old new
   pub has_zone : (files : List File) → MayBe new files → HasZone files layout.zone
   pub ends : EndsAtNames layout stop.WriteFailed run new new
   pub failed : HasFailedSince run.writer' run.writer.failures
@@ -63,9 +77,9 @@ pub record IsFailureOfRows {R W Z : Type 0} (Grows Breaks : Z → Z → Type 0) 
   pub ends : EndsByZones Grows Breaks MayBe old new stop (λ files. HasZone files layout.zone × EndsBy layout plan.max_rows stop run files)
 
 -- why zones don't convert a column by a layout
-abbrev pub IsFailureOfConvert : {R W Z : Type 0} → (Grows Breaks : Z → Z → Type 0) → (Z → List File → Type 0) → Limits → Layout → Run R W → Z → Z → Failure
-    → Type 0
-IsFailureOfConvert Grows Breaks MayBe plan layout run old new failure =
-    (IsUntouched run × IsFailureOfZones Grows Breaks MayBe old new layout.zone failure)
-    ⊎ IsFailureOfNames Grows MayBe layout run old new failure
+abbrev pub IsFailureOfConvert : {R W Z : Type 0} → (Grows Breaks : Z → Z → Type 0) → (Z → List ℕ → Z → Type 0) → (Z → List File → Type 0) → Limits → Layout
+    → Run R W → Z → Z → Failure → Type 0
+IsFailureOfConvert Grows Breaks AsksFor MayBe plan layout run old new failure =
+    IsFailureWithoutZone Grows Breaks AsksFor MayBe layout run old new failure
+    ⊎ IsFailureOfNames Grows AsksFor MayBe layout run old new failure
     ⊎ IsFailureOfRows Grows Breaks MayBe plan layout run old new failure

@@ -4,7 +4,7 @@ ghost use Rattle.std.specs.Prelude.{◌≤◌, ◌+◌, ◌≡◌, List, IfOk, I
 ghost use Rattle.zic_convert.specs.Run.{run_of};
 ghost use Rattle.zic_counted.specs.Counts.{HasFailedSince};
 ghost use Rattle.zic_file_commands.specs.Converting.{Converts, HasZone};
-ghost use Rattle.zic_file_commands.specs.Converting.{IsFailureOfConvert, IsFailureOfZones};
+ghost use Rattle.zic_file_commands.specs.Converting.{IsFailureOfConvert, IsFailureOfZones, IsZoneAsked};
 ghost use Rattle.zic_files.specs.File.{File};
 
 use std::alloc::Global;
@@ -20,7 +20,8 @@ use zic_plan::ZoneFrom;
 use zic_zones::Zones;
 
 /// Converts a column by a layout and zones. Before anything else, the zones are asked for the one that
-/// all rows are to be in, if there is one. Returns the number of rows, without the header.
+/// all rows are to be in, if there is one, and for no other until the line of names is written. Returns
+/// the number of rows, without the header.
 ///
 /// # Errors
 ///
@@ -45,7 +46,7 @@ pub fn convert<T: Threads + Wait + Sync, G: Gate + Sync, Z: Zones, R: Read, W: W
         (λ _. reader.new.taken ≤ reader.old.taken + conversion.now.plan.now.max_bytes) }
     ensures unfailed { IfOk result (λ _. HasFailedSince reader.new reader.old.failures → ⊥) }
     ensures flushed { IfOk result (λ _. writer.new.failures ≡ writer.old.failures) }
-    ensures err { IfErr result (IsFailureOfConvert Z.grown Z.broken Z.may_be
+    ensures err { IfErr result (IsFailureOfConvert Z.grown Z.broken Z.asked_for Z.may_be
         conversion.now.plan.now conversion.now.layout.now
         (run_of R.remaining W.contents L.noted reader.old reader.new writer.old writer.new
         log.old log.new) zones.old zones.new) }
@@ -58,7 +59,8 @@ pub fn convert<T: Threads + Wait + Sync, G: Gate + Sync, Z: Zones, R: Read, W: W
     }
 }
 
-/// Tells whether there is the zone that all rows are to be in, if they are to be in one.
+/// Tells whether there is the zone that all rows are to be in, if they are to be in one. The zones are
+/// asked for no other.
 ///
 /// # Errors
 ///
@@ -69,6 +71,7 @@ fn find_zone<Z: Zones>(alloc: Global, zones: &mut Z, zone: &ZoneFrom) -> Result<
         → OnOk result (HasZone files zone.now) }
     ensures err { IfErr result
         (IsFailureOfZones Z.grown Z.broken Z.may_be zones.old zones.new zone.now) }
+    ensures asked { IsZoneAsked Z.asked_for zone.now zones.old zones.new }
 {
     let ZoneFrom::Name(name) = zone else {
         return Ok(());

@@ -3,12 +3,8 @@
 //! are read.
 #![tactic(auto)]
 
-mod column;
-mod explained;
 mod failure;
-mod refused;
 
-use explained::Kept;
 use failure::Refusal;
 use std::fs::{self, File, Files};
 use std::io::{self, BufWriter, IsTerminal, Read, Write};
@@ -23,6 +19,7 @@ use zic_command_line::{Conversion, Links, Request, Zones};
 use zic_commands::{Disk, Failure, LinkKind, LinkedFolder, Progress, Told, TreeZones};
 use zic_counted::{Counted, flush, write_all};
 use zic_dump::Years;
+use zic_failures::Explainer;
 use zic_io::{FaultList, ZoneFolder};
 use zic_pieces::Open;
 use zic_plan::{Header, Plan};
@@ -48,10 +45,19 @@ fn run<
         answer(rt, errors, asked.request, &mut texts)?;
         return Ok(());
     }
-    let mut kept = Kept::new(rt, &asked.request)?;
-    match answer(rt, errors, asked.request, &mut kept.texts) {
+    let mut explainer = Explainer::new(rt, &asked.request)?;
+    match answer(rt, errors, asked.request, &mut explainer.texts) {
         Ok(()) => Ok(()),
-        Err(failure) => Err(kept.explained(rt, failure)),
+        Err(failure) => Err(explained(rt, &explainer, failure)),
+    }
+}
+
+/// Returns the refusal for a failure, with its explanation. Where memory runs out for that, there is
+/// none.
+fn explained<R: Files + AllocGlobal>(rt: &R, explainer: &Explainer, failure: Failure) -> Refusal {
+    match explainer.explanation(rt, &failure) {
+        Ok(text) if !text.is_empty() => Refusal::Explained { failure, text },
+        _ => Refusal::Command(failure),
     }
 }
 

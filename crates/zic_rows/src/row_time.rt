@@ -56,7 +56,7 @@ fn time_from(bytes: &[u8], start: usize, end: usize, unit: Unit) -> Option<RowTi
 }
 
 /// Reads an instant before 1970, whose digits follow a `-`.
-#[inline(never)]
+#[inline(always)]
 fn time_before(digits: &[u8], unit: Unit) -> Option<RowTime>
     ensures { IfSome result (IsPlainTime unit (45 ∷ digits.now)) }
 {

@@ -1,7 +1,7 @@
 -- The zones of a tree that was asked for names: own choice.
 use Rattle.std.specs.Prelude.{ℕ, List, ◌++◌, Option, Contains}
 use Rattle.zic_files.specs.File.{File}
-use Rattle.zic_files.specs.Tree.{AreAsked, Gains, IsKnown, IsLearntFrom, Learnt, Reply}
+use Rattle.zic_files.specs.Tree.{AreAsked, AreOfName, Gains, IsKnown, IsLearntFrom, Learnt, Reply}
 
 -- a tree, and the names and files that were learnt of it
 pub record TreeOf (T : Type 0) : Type 0 where
@@ -21,3 +21,9 @@ pub record Grows {T : Type 0} (replied : T → Option (List Reply)) (old new : T
 abbrev pub Breaks : {T : Type 0} → (T → Option (List Reply)) → TreeOf T → TreeOf T → Type 0
 Breaks replied old new =
     (replies : List Reply) → IsLearntFrom replies old.learnt → (more : List Reply) × Gains (replied old.tree) (replied new.tree) more × AreAsked (replies ++ more)
+
+-- The tree was asked for no name but this one: at most once, also before, and only if a zone may have that name.
+abbrev pub AsksFor : {T : Type 0} → (T → Option (List Reply)) → TreeOf T → List ℕ → TreeOf T → Type 0
+AsksFor replied old name new =
+    (replies : List Reply) → IsLearntFrom replies old.learnt
+    → (more : List Reply) × Gains (replied old.tree) (replied new.tree) more × AreAsked (replies ++ more) × AreOfName name more

@@ -141,7 +141,7 @@ impl<T: ZoneTree> TreeZones<T> {
 impl<T: ZoneTree> Zones for TreeZones<T> {
     ghost use Rattle.zic_files.specs.Tree.{IsKnown};
     ghost use Rattle.zic_zones.specs.Growing.{grows_narrows, grows_same, grows_then};
-    ghost use Rattle.zic_zones.specs.Tree.{Breaks, Grows};
+    ghost use Rattle.zic_zones.specs.Tree.{AsksFor, Breaks, Grows};
     ghost use Rattle.zic_zones.specs.Zones.{Agree};
 
     ghost known = { λ z. z.learnt.files };
@@ -153,6 +153,8 @@ impl<T: ZoneTree> Zones for TreeZones<T> {
     ghost grown = { λ a b. Grows T.replied a b };
 
     ghost broken = { λ a b. Breaks T.replied a b };
+
+    ghost asked_for = { λ a name b. AsksFor T.replied a name b };
 
     fn learn(&mut self, alloc: Global, name: &[u8]) -> Result<(), AllocError> {
         match self.learnt.learn(alloc, &mut self.tree, name) {

@@ -27,7 +27,10 @@ pub trait Zones {
     // The second may come of the first as memory is refused.
     ghost broken: { Self → Self → Type 0 };
 
-    /// Makes the zone of a name ready, if there is one.
+    // The second may come of the first as this name is asked for, and no other.
+    ghost asked_for: { Self → List ℕ → Self → Type 0 };
+
+    /// Makes the zone of a name ready, if there is one. Asks for no other name.
     ///
     /// # Errors
     ///
@@ -35,7 +38,8 @@ pub trait Zones {
     fn learn(&mut self, alloc: Global, name: &[u8]) -> Result<(), AllocError>
         ensures grown { OnOk result (grown self.old self.new) }
         ensures settled { OnOk result (settled self.new name.now) }
-        ensures broken { OnErr result (broken self.old self.new) };
+        ensures broken { OnErr result (broken self.old self.new) }
+        ensures asked { asked_for self.old name.now self.new };
 
     /// Makes the zones ready that the records of a round name.
     ///

@@ -1,4 +1,4 @@
-use Rattle.std.proofs.Common.{inl, inr, refl, rules}
+use Rattle.std.proofs.Common.{inl, inr, refl}
 use Rattle.std.proofs.lemmas.Result.{err_from_is_err_and}
 use Rattle.zic_convert.specs.Run.{run_of}
 use Rattle.zic_file_commands.proofs.ConvertingLemmas.{names_fail, rows_fail}
@@ -7,7 +7,11 @@ use Rattle.zic_file_commands.proofs.convert_command.convert.Goals as goal
 pub returns-in_err-find_zone-clause-err : goal.returns-in_err-find_zone-clause-err
 returns-in_err-find_zone-clause-err g c =
     let p = err_from_is_err_and c.from_residual.result c.from_residual.ensures.1 in
-    rw (p.1, p.2) (inl (record { unread = refl; unwritten = refl; unnoted = refl }, c.in_err-find_zone.ensures.err))
+    rw (p.1, p.2) (inl (record {
+      untouched = record { unread = refl; unwritten = refl; unnoted = refl };
+      asked = c.in_err-find_zone.ensures.asked;
+      of_zones = c.in_err-find_zone.ensures.err;
+    }))
 
 pub returns-in-Ok-clause-grown : goal.returns-in-Ok-clause-grown
 returns-in-Ok-clause-grown g c = g.met.Z.Zones.then c.args.zones.now c.find_zone.new.zones c.convert_column.new.zones c.in_ok-find_zone.ensures.grown c.in-Ok.ensures.grown
@@ -27,8 +31,8 @@ returns-in-Err-clause-err g c =
     let run = run_of g.R.Read.remaining g.W.Write.contents g.L.FaultLog.noted c.args.reader.now c.convert_column.new.reader c.args.writer.now c.convert_column.new.writer c.args.log.now
     c.convert_column.new.log in
     elim c.in-Err.ensures.err [
-      | inl names ↦ inr (inl (names_fail g.Z.Zones.grown g.Z.Zones.broken g.Z.Zones.may_be g.met.Z.Zones.then g.met.Z.Zones.narrows zones mid new c.in_ok-find_zone.ensures.grown layout
+      | inl names ↦ inr (inl (names_fail g.Z.Zones.grown g.Z.Zones.broken g.Z.Zones.asked_for g.Z.Zones.may_be g.met.Z.Zones.then g.met.Z.Zones.narrows zones mid new c.in_ok-find_zone.ensures.grown layout c.in_ok-find_zone.ensures.asked
           c.in_ok-find_zone.ensures.ok run c.in-Err.stop c.run_failure.result c.run_failure.ensures c.args.conversion.now.plan.now.max_bytes c.in-Err.ensures.cause names))
-      | inr rows ↦ inr (inr (rows_fail g.Z.Zones.grown g.Z.Zones.broken g.Z.Zones.may_be g.met.Z.Zones.then g.met.Z.Zones.narrows zones mid new c.in_ok-find_zone.ensures.grown layout
+      | inr rows ↦ inr (inr (rows_fail g.Z.Zones.grown g.Z.Zones.broken g.Z.Zones.asked_for g.Z.Zones.may_be g.met.Z.Zones.then g.met.Z.Zones.narrows zones mid new c.in_ok-find_zone.ensures.grown layout c.in_ok-find_zone.ensures.asked
           c.in_ok-find_zone.ensures.ok run c.in-Err.stop c.run_failure.result c.run_failure.ensures c.args.conversion.now.plan.now c.in-Err.ensures.cause rows))
     ]

@@ -24,7 +24,7 @@ returns-in-Some-clause-ok g c = λ files may.
 pub returns-in_err-learn-clause-err : goal.returns-in_err-learn-clause-err
 returns-in_err-learn-clause-err g c =
     let p = err_from_is_err_and c.from_residual.result c.from_residual.ensures.1 in
-    rw (p.1, p.2) (inl (refl, c.in_err-learn.ensures.broken))
+    rw (p.1, p.2) (rw c.in-Name.is (inl (refl, c.in_err-learn.ensures.broken)))
 
 pub returns-in-None-clause-err : goal.returns-in-None-clause-err
 returns-in-None-clause-err g c =

@@ -1,8 +1,6 @@
-//! What is told of a failure after its first line, where that is asked for. It is help for people:
-//! no contract says what it tells.
+//! Explains a failure, by the request and by what was read.
 
 use crate::column::{Found, column_start, find_record, text_of};
-use crate::failure::Refusal;
 use crate::refused::refused_file;
 use std::alloc::{AllocError, Global};
 use std::fs::Files;
@@ -13,13 +11,13 @@ use zic_explain::{RecordForm, entries, expectation, line_place, nearest_zone, ro
 use zic_io::Failure;
 use zic_plan::{Header, Layout, ZoneFrom};
 
-/// What is kept of a request and of what was read, to explain a failure.
+/// Explains the failure of a request.
 #[derive(Drop)]
-pub(crate) struct Kept {
+pub struct Explainer {
     /// The words that name sources or a file.
     words: Vec<String>,
-    /// The texts of the sources, as far as all of them were read.
-    pub(crate) texts: Vec<Vec<u8>>,
+    /// The texts of the sources, which the caller adds once all of them are read.
+    pub texts: Vec<Vec<u8>>,
     /// Where standard input begins in its file, if it is one.
     start: Option<u64>,
     /// The number of records before the rows of the column: 1 for a header, else 0.
@@ -30,10 +28,14 @@ pub(crate) struct Kept {
     folder: Option<String>,
 }
 
-impl Kept {
-    /// Returns what is kept of a request before it is answered.
-    pub(crate) fn new<R: Files + AllocGlobal>(rt: &R, request: &Request) -> Result<Kept, Failure> {
-        Ok(Kept {
+impl Explainer {
+    /// Returns what explains the failures of a request, before it is answered.
+    ///
+    /// # Errors
+    ///
+    /// `Memory`.
+    pub fn new<R: Files + AllocGlobal>(rt: &R, request: &Request) -> Result<Explainer, Failure> {
+        Ok(Explainer {
             words: words_of(rt.alloc(), request)?,
             texts: Vec::new(rt.alloc()),
             start: column_start(rt),
@@ -43,17 +45,12 @@ impl Kept {
         })
     }
 
-    /// Returns the refusal for a failure, with its explanation. Where memory runs out for that,
-    /// there is none.
-    pub(crate) fn explained<R: Files + AllocGlobal>(&self, rt: &R, failure: Failure) -> Refusal {
-        match self.explanation(rt, &failure) {
-            Ok(text) if !text.is_empty() => Refusal::Explained { failure, text },
-            _ => Refusal::Command(failure),
-        }
-    }
-
-    /// Returns the lines that explain a failure, without the last line end.
-    fn explanation<R: Files + AllocGlobal>(
+    /// Returns the lines that explain a failure, without the last line end. They may be none.
+    ///
+    /// # Errors
+    ///
+    /// Fails where memory is refused.
+    pub fn explanation<R: Files + AllocGlobal>(
         &self,
         rt: &R,
         failure: &Failure,

@@ -1,5 +1,4 @@
-//! Why the file of a zone in a folder is refused. It is help for people: no contract says what it
-//! tells.
+//! Why the file of a zone in a folder is refused.
 
 use std::alloc::{AllocError, Global};
 use std::fs::Files;
