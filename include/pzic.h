@@ -32,6 +32,15 @@
 extern "C" {
 #endif
 
+/*
+ * The version of this header: 10,000 times its first number, 100 times the second, and the third. So
+ * 0.1.0 is 100.
+ */
+#define PZIC_VERSION 100
+
+/* Returns the version of the library that the program runs with, as PZIC_VERSION counts. */
+uint32_t pzic_version(void);
+
 /* What a call answers. */
 enum {
     /* The call did what it is for. */
@@ -84,14 +93,17 @@ enum {
 };
 
 /*
- * A handle. All zeros, as by `= {0}`, is one that holds nothing; each call may be given it. Only
- * calls change a handle. Don't copy it: pzic_share does.
+ * A handle. All zeros, as by `= PZIC_HANDLE_INIT`, is one that holds nothing; each call may be given
+ * it. Only calls change a handle. Don't copy it: pzic_share does.
  */
 typedef struct pzic_handle {
     void *at;
     /* 0 for nothing, 1 for a zone, 2 for files, 3 for rows. */
     uint32_t kind;
 } pzic_handle;
+
+/* A handle that holds nothing. */
+#define PZIC_HANDLE_INIT {NULL, 0}
 
 /* Local time at an instant. */
 typedef struct pzic_state {
@@ -195,7 +207,10 @@ typedef struct pzic_fault {
 int32_t pzic_compile(const uint8_t *texts, size_t texts_length, const size_t *lengths,
                      size_t count, pzic_handle *files, pzic_fault *fault);
 
-/* Tells how many files there are: PZIC_OK, or PZIC_NO_HANDLE where `files` holds no files. */
+/*
+ * Tells how many files there are: PZIC_OK; or PZIC_NO_HANDLE if `files` holds no files, and *count
+ * isn't written.
+ */
 int32_t pzic_files_len(pzic_handle *files, size_t *count);
 
 /*
