@@ -478,6 +478,32 @@ static void fill(pzic_handle *handle, pzic_handle *other) {
     CHECK(pzic_share(handle, other) == PZIC_OK && other->kind == handle->kind && other->kind != 0);
 }
 
+// A pointer to no items may be NULL.
+static void give_no_items(void) {
+    pzic_handle zone = PZIC_HANDLE_INIT, files = PZIC_HANDLE_INIT, rows = PZIC_HANDLE_INIT;
+    uint32_t reason = 0;
+    pzic_fault fault;
+    pzic_row_fault row;
+    size_t length = 7;
+    int64_t instant = 0;
+    CHECK(pzic_zone_read(NULL, 0, &zone, &reason) == PZIC_BAD_FILE && reason == PZIC_REASON_SHORT);
+    CHECK(pzic_compile(NULL, 0, NULL, 0, &files, &fault) == PZIC_OK);
+    CHECK(pzic_files_len(&files, &length) == PZIC_OK && length == 0);
+    CHECK(compile(source, &files, &fault) == PZIC_OK && pzic_zone_of(&files, 0, &zone) == PZIC_OK);
+    CHECK(pzic_zone_offsets(&zone, NULL, 0, NULL, 0, NULL, 0) == PZIC_OK);
+    CHECK(pzic_zone_offsets(&zone, &instant, 1, NULL, 0, NULL, 0) == PZIC_LENGTHS);
+    CHECK(pzic_files_find(&files, NULL, 0, &length) == PZIC_NO_SUCH && length == 0);
+    CHECK(pzic_files_name(&files, 0, NULL, 0, &length) == PZIC_OK && length == strlen("Test/Fixed"));
+    CHECK(pzic_files_bytes(&files, 0, NULL, 0, &length) == PZIC_OK && length > 44);
+    CHECK(pzic_rows(&files, NULL, 0, &rows, &row) == PZIC_OK && rows.kind == 3);
+    CHECK(pzic_rows_text(&rows, NULL, 0, &length) == PZIC_OK && length == 0);
+    CHECK(pzic_name_of_fault(1, NULL, 0, &length) == PZIC_OK && length == strlen("NotAscii"));
+    CHECK(pzic_name_of_reason(1, NULL, 0, &length) == PZIC_OK && length == strlen("Short"));
+    pzic_free(&rows);
+    pzic_free(&files);
+    pzic_free(&zone);
+}
+
 static bool is_empty(const pzic_handle *handle) { return handle->kind == 0 && handle->at == NULL; }
 
 // A call that fails leaves the handle that it is to fill empty, whatever this held before, and writes
@@ -658,6 +684,7 @@ int main(int count, char **words) {
     order_files();
     find_names();
     convert_columns();
+    give_no_items();
     empty_handles();
     name_faults();
     for (int i = 2; i < count; i++) {

@@ -35,7 +35,7 @@ done
 
 # The shared library has the calls, and no other name.
 nm -D --defined-only "$built/lib/libpzic.so" | awk '{ print $3 }' | sort >"$work/names"
-grep -o 'pzic_[a-z_]*(' include/pzic.h | tr -d '(' | sort -u >"$work/declared"
+grep -o 'pzic_[a-z_]*[a-z](' include/pzic.h | tr -d '(' | sort -u >"$work/declared"
 diff "$work/declared" "$work/names"
 
 # Python. Debian's own may have numpy and pandas.

@@ -46,8 +46,8 @@ impl Handle {
         Some(owned.into_parts().into_box())
     }
 
-    /// Asks what the handle holds. Returns the status that the answer gives, or `NO_HANDLE` if it holds
-    /// nothing.
+    /// Calls `answer` with what the handle holds, and returns its status, or `NO_HANDLE` if the handle
+    /// holds nothing.
     pub(crate) fn ask<F: FnMut(&Held) -> i32>(&mut self, alloc: Global, answer: &mut F) -> i32
         requires handle { IsHandle self.old }
         requires callable { (held : _) → F.pre answer.old held }
