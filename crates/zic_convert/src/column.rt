@@ -1,6 +1,6 @@
 //! Converts columns in memory.
 
-ghost use Rattle.std.specs.Prelude.{◌+◌, ◌≤◌, IfOk, length};
+ghost use Rattle.std.specs.Prelude.{◌≡◌, ◌+◌, ◌≤◌, IfOk, length};
 ghost use Rattle.zic_convert.specs.Column.{AreRowsOfColumn};
 
 use crate::piece::{Piece, rows_of_piece};
@@ -21,6 +21,19 @@ pub struct ColumnRows {
     pub fault: Option<RowKind>,
 }
 
+/// The least length of a column, in bytes, that is taken to have many rows.
+const MANY_ROWS: usize = 65_536;
+
+/// Makes the zones of files ready for a column of this length in bytes.
+fn zones_for(alloc: Global, files: &Files, len: usize) -> Result<SourceZones<'_>, AllocError>
+    ensures { IfOk result (λ zones. zones ≡ files.now) }
+{
+    if len < MANY_ROWS {
+        return SourceZones::new(alloc, files);
+    }
+    SourceZones::for_many_rows(alloc, files)
+}
+
 /// Converts a column in memory on the calling thread, to the rows of [`crate::convert`]. Returns
 /// those up to the first that has a fault, and that fault. There may be at most `max_rows` rows.
 ///
@@ -38,7 +51,7 @@ pub fn rows_of_column(
     ensures few { IfOk result (λ rows. rows.count ≤ length column.now + 1) }
 {
     column_records_are_read();
-    let zones = SourceZones::new(alloc, files)?;
+    let zones = zones_for(alloc, files, column.len())?;
     let layout = Layout::plain(Header::Absent);
     let piece = Piece {
         bytes: without_mark(column),

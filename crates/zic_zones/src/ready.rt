@@ -7,7 +7,7 @@ ghost use Rattle.zic_zones.specs.code.Ready.{AreReady, IsFileOf, IsReadyZone, Is
 ghost use Rattle.zic_zones.specs.code.Texts.{Keeps};
 
 use crate::name_keys::NameKeys;
-use crate::tables::Tables;
+use crate::tables::{Expected, Tables};
 use crate::texts::Texts;
 use std::alloc::{AllocError, Global};
 use zic_files::Files;
@@ -37,13 +37,13 @@ pub(crate) struct Ready {
 
 impl Ready {
     /// Returns what is ready of no file.
-    pub(crate) fn new(alloc: Global) -> Ready
+    pub(crate) fn new(alloc: Global, expected: Expected) -> Ready
         ensures { (files : List File) → AreReady files result }
     {
         Ready {
             names: NameKeys::new(alloc),
             texts: Texts::new(alloc),
-            tables: Tables::new(alloc),
+            tables: Tables::new(alloc, expected),
             zones: Vec::new(alloc),
         }
     }

@@ -1,9 +1,11 @@
 //! The zones of the files of a source.
 
 ghost use Rattle.std.specs.Prelude.{◌≡◌, IfOk};
+ghost use Rattle.zic_zones.specs.code.Ready.{AreReady};
 
 use crate::ready::Ready;
 use crate::row_zones::RowZones;
+use crate::tables::Expected;
 use crate::zones::Zones;
 use std::alloc::{AllocError, Global};
 use std::marker::Model;
@@ -16,6 +18,15 @@ use zic_plan::ZoneFrom;
 pub struct SourceZones<'a> {
     files: &'a Files,
     ready: Ready,
+    rounds: Rounds,
+}
+
+/// The rounds that were prepared.
+#[derive(Clone, Copy, Drop)]
+enum Rounds {
+    None,
+    One,
+    Several,
 }
 
 impl<'a> Model for SourceZones<'a> {
@@ -31,7 +42,8 @@ impl<'a> Model for SourceZones<'a> {
 }
 
 impl<'a> SourceZones<'a> {
-    /// Makes the zones of all files ready.
+    /// Makes the zones of all files ready. Tables by which rows are made faster come with the second
+    /// round: a short column has only one.
     ///
     /// # Errors
     ///
@@ -39,10 +51,39 @@ impl<'a> SourceZones<'a> {
     pub fn new(alloc: Global, files: &'a Files) -> Result<SourceZones<'a>, AllocError>
         ensures { IfOk result (λ zones. zones ≡ files.now) }
     {
-        let mut ready = Ready::new(alloc);
-        ready.extend(alloc, files)?;
-        Ok(SourceZones { files, ready })
+        Ok(SourceZones {
+            files,
+            ready: ready_of(alloc, files, Expected::FewRows)?,
+            rounds: Rounds::None,
+        })
     }
+
+    /// Makes the zones of all files ready for many rows.
+    ///
+    /// # Errors
+    ///
+    /// Fails where memory is refused.
+    pub fn for_many_rows(
+        alloc: Global,
+        files: &'a Files,
+    ) -> Result<SourceZones<'a>, AllocError>
+        ensures { IfOk result (λ zones. zones ≡ files.now) }
+    {
+        Ok(SourceZones {
+            files,
+            ready: ready_of(alloc, files, Expected::ManyRows)?,
+            rounds: Rounds::Several,
+        })
+    }
+}
+
+/// Makes files ready.
+fn ready_of(alloc: Global, files: &Files, expected: Expected) -> Result<Ready, AllocError>
+    ensures { IfOk result (AreReady files.now) }
+{
+    let mut ready = Ready::new(alloc, expected);
+    ready.extend(alloc, files)?;
+    Ok(ready)
 }
 
 impl<'a> Zones for SourceZones<'a> {
@@ -68,10 +109,18 @@ impl<'a> Zones for SourceZones<'a> {
 
     fn prepare(
         &mut self,
-        _alloc: Global,
+        alloc: Global,
         _zone: &ZoneFrom,
         _round: &Round<'_>,
     ) -> Result<(), AllocError> {
+        match self.rounds {
+            Rounds::None => self.rounds = Rounds::One,
+            Rounds::One => {
+                self.ready = ready_of(alloc, self.files, Expected::ManyRows)?;
+                self.rounds = Rounds::Several;
+            }
+            Rounds::Several => {}
+        }
         Ok(())
     }
 

@@ -10,10 +10,19 @@ use std::marker::Model;
 use zic_slots::{Slot, slots_of};
 use zic_tzif::Zone;
 
+/// How many rows are expected. Tables pay for many: those of a whole release take as long as some
+/// thousand rows.
+#[derive(Clone, Copy, Debug, Drop)]
+pub(crate) enum Expected {
+    FewRows,
+    ManyRows,
+}
+
 /// The slots of tables, one table after another. Clauses see the slots.
 #[derive(Drop)]
 pub(crate) struct Tables {
     slots: Vec<Slot>,
+    expected: Expected,
 }
 
 impl Model for Tables {
@@ -27,16 +36,17 @@ impl Model for Tables {
 
 impl Tables {
     /// Returns no tables.
-    pub(crate) fn new(alloc: Global) -> Tables
+    pub(crate) fn new(alloc: Global, expected: Expected) -> Tables
         ensures { result ≡ [] }
     {
         Tables {
             slots: Vec::new(alloc),
+            expected,
         }
     }
 
-    /// Adds the table of a zone from an instant on, and returns where it begins, or `None` where
-    /// there are too many.
+    /// Adds the table of a zone from an instant on, and returns where it begins, or `None` where few
+    /// rows are expected or there are too many tables.
     pub(crate) fn add(
         &mut self,
         alloc: Global,
@@ -49,6 +59,9 @@ impl Tables {
         ensures table { IfOk result (λ start. IfSome start
             (HasTable zone.now numbers.now self.new base)) }
     {
+        if let Expected::FewRows = self.expected {
+            return Ok(None);
+        }
         let Ok(start) = u32::try_from(self.slots.len()) else {
             return Ok(None);
         };

@@ -10,6 +10,7 @@ ghost use Rattle.zic_zones.specs.Zones.{field_at};
 
 use crate::ready::Ready;
 use crate::row_zones::RowZones;
+use crate::tables::Expected;
 use crate::zones::Zones;
 use std::alloc::{AllocError, Global};
 use std::marker::Model;
@@ -49,7 +50,7 @@ impl<T: ZoneTree> TreeZones<T> {
         TreeZones {
             tree,
             learnt: TreeFiles::new(alloc),
-            ready: Ready::new(alloc),
+            ready: Ready::new(alloc, Expected::ManyRows),
         }
     }
 
@@ -161,7 +162,7 @@ impl<T: ZoneTree> Zones for TreeZones<T> {
             Ok(()) => self.ready.extend(alloc, self.learnt.files()),
             Err(error) => {
                 // What was learnt is open now.
-                self.ready = Ready::new(alloc);
+                self.ready = Ready::new(alloc, Expected::ManyRows);
                 Err(error)
             }
         }
