@@ -178,9 +178,14 @@ static void refuse_bytes(const file *f) {
     CHECK(zone.at == NULL);
 }
 
+// The library is of the version of the header.
+static void compare_versions(void) {
+    CHECK(pzic_version() == PZIC_VERSION);
+}
+
 // A handle that holds nothing is refused by each call, and may be freed.
 static void refuse_nothing(void) {
-    pzic_handle zone = {0}, other = {0};
+    pzic_handle zone = PZIC_HANDLE_INIT, other = PZIC_HANDLE_INIT;
     pzic_state state = {.offset = 5};
     int64_t instant = 0, first = 6, last = 7;
     int32_t offset = 8;
@@ -287,15 +292,14 @@ static void compile_source(void) {
     CHECK(pzic_zone_of(&other, 2, &again) == PZIC_OK && again.kind == 1);
     CHECK(pzic_zone_of(&other, 3, &zone) == PZIC_NO_SUCH && zone.kind == 0);
     // Neither kind of handle is the other.
+    count = 5, number = 9, state.offset = 6, room[0] = 'x';
     CHECK(pzic_zone_at(&other, 0, &state) == PZIC_NO_HANDLE);
     CHECK(pzic_files_len(&again, &count) == PZIC_NO_HANDLE);
     CHECK(find(&again, "Test/York", &number) == PZIC_NO_HANDLE);
     CHECK(pzic_files_name(&again, 0, room, 1, &count) == PZIC_NO_HANDLE);
     CHECK(pzic_files_bytes(&again, 0, room, 1, &count) == PZIC_NO_HANDLE);
-    CHECK(pzic_zone_of(&again, 0, &zone) == PZIC_NO_HANDLE);
-    pzic_row_fault row;
-    CHECK(pzic_rows(&again, room, 0, &zone, &row) == PZIC_NO_HANDLE && zone.kind == 0);
     CHECK(pzic_rows_text(&again, room, 1, &count) == PZIC_NO_HANDLE);
+    CHECK(count == 5 && number == 9 && state.offset == 6 && room[0] == 'x');
     // The zone stays without the files.
     pzic_free(&other);
     CHECK(pzic_zone_at(&again, 1704067200, &state) == PZIC_OK);
@@ -470,6 +474,79 @@ static void convert_columns(void) {
     pzic_free(&files);
 }
 
+static void fill(pzic_handle *handle, pzic_handle *other) {
+    CHECK(pzic_share(handle, other) == PZIC_OK && other->kind == handle->kind && other->kind != 0);
+}
+
+// A pointer to no items may be NULL.
+static void give_no_items(void) {
+    pzic_handle zone = PZIC_HANDLE_INIT, files = PZIC_HANDLE_INIT, rows = PZIC_HANDLE_INIT;
+    uint32_t reason = 0;
+    pzic_fault fault;
+    pzic_row_fault row;
+    size_t length = 7;
+    int64_t instant = 0;
+    CHECK(pzic_zone_read(NULL, 0, &zone, &reason) == PZIC_BAD_FILE && reason == PZIC_REASON_SHORT);
+    CHECK(pzic_compile(NULL, 0, NULL, 0, &files, &fault) == PZIC_OK);
+    CHECK(pzic_files_len(&files, &length) == PZIC_OK && length == 0);
+    CHECK(compile(source, &files, &fault) == PZIC_OK && pzic_zone_of(&files, 0, &zone) == PZIC_OK);
+    CHECK(pzic_zone_offsets(&zone, NULL, 0, NULL, 0, NULL, 0) == PZIC_OK);
+    CHECK(pzic_zone_offsets(&zone, &instant, 1, NULL, 0, NULL, 0) == PZIC_LENGTHS);
+    CHECK(pzic_files_find(&files, NULL, 0, &length) == PZIC_NO_SUCH && length == 0);
+    CHECK(pzic_files_name(&files, 0, NULL, 0, &length) == PZIC_OK && length == strlen("Test/Fixed"));
+    CHECK(pzic_files_bytes(&files, 0, NULL, 0, &length) == PZIC_OK && length > 44);
+    CHECK(pzic_rows(&files, NULL, 0, &rows, &row) == PZIC_OK && rows.kind == 3);
+    CHECK(pzic_rows_text(&rows, NULL, 0, &length) == PZIC_OK && length == 0);
+    CHECK(pzic_name_of_fault(1, NULL, 0, &length) == PZIC_OK && length == strlen("NotAscii"));
+    CHECK(pzic_name_of_reason(1, NULL, 0, &length) == PZIC_OK && length == strlen("Short"));
+    pzic_free(&rows);
+    pzic_free(&files);
+    pzic_free(&zone);
+}
+
+static bool is_empty(const pzic_handle *handle) { return handle->kind == 0 && handle->at == NULL; }
+
+// A call that fails leaves the handle that it is to fill empty, whatever this held before, and writes
+// nothing that the header doesn't name.
+static void empty_handles(void) {
+    static const uint8_t bytes[] = "TZ";
+    pzic_handle zone = {0}, files = {0}, rows = {0}, none = {0}, filled = {0};
+    pzic_handle *const held[] = {&zone, &files, &rows};
+    pzic_fault fault = {1, 2, 3}, other;
+    pzic_row_fault row = {4, 5};
+    CHECK(compile(source, &files, &fault) == PZIC_OK && pzic_zone_of(&files, 0, &zone) == PZIC_OK);
+    CHECK(convert(&files, column, &rows, &row) == PZIC_OK);
+    for (int i = 0; i < 3; i++) {
+        uint32_t reason = 77;
+        size_t length = 1;
+        fill(held[i], &filled);
+        CHECK(pzic_zone_read(bytes, 2, &filled, &reason) == PZIC_BAD_FILE && is_empty(&filled));
+        CHECK(reason == PZIC_REASON_SHORT);
+        fill(held[i], &filled);
+        CHECK(pzic_zone_of(&none, 0, &filled) == PZIC_NO_HANDLE && is_empty(&filled));
+        fill(held[i], &filled);
+        CHECK(pzic_zone_of(&rows, 0, &filled) == PZIC_NO_HANDLE && is_empty(&filled));
+        fill(held[i], &filled);
+        CHECK(pzic_zone_of(&files, 3, &filled) == PZIC_NO_SUCH && is_empty(&filled));
+        fill(held[i], &filled);
+        CHECK(convert(&none, column, &filled, &row) == PZIC_NO_HANDLE && is_empty(&filled));
+        fill(held[i], &filled);
+        CHECK(convert(&zone, column, &filled, &row) == PZIC_NO_HANDLE && is_empty(&filled));
+        fill(held[i], &filled);
+        CHECK(pzic_compile(bytes, 2, &length, 1, &filled, &fault) == PZIC_LENGTHS && is_empty(&filled));
+        CHECK(fault.text == 1 && fault.line == 2 && fault.kind == 3 && row.row == 4 && row.kind == 5);
+        fill(held[i], &filled);
+        CHECK(compile("Word\n", &filled, &other) == PZIC_BAD_SOURCE && is_empty(&filled));
+        fill(held[i], &filled);
+        CHECK(pzic_share(&none, &filled) == PZIC_NO_HANDLE && is_empty(&filled));
+        fill(held[i], &filled);
+        growths_left = 0;
+        CHECK(pzic_zone_of(&files, 0, &filled) == PZIC_NO_MEMORY && is_empty(&filled));
+        growths_left = -1;
+    }
+    for (int i = 0; i < 3; i++) pzic_free(held[i]);
+}
+
 typedef int32_t namer(uint32_t number, uint8_t *room, size_t room_length, size_t *length);
 
 static void expect_name(namer *call, uint32_t number, const char *want) {
@@ -569,6 +646,7 @@ static void *work(void *argument) {
     }
     compile_source();
     convert_columns();
+    empty_handles();
     compile_texts();
     name_faults();
     pzic_free(&mine->zone);
@@ -597,6 +675,7 @@ static void use_threads(const file *f) {
 
 int main(int count, char **words) {
     CHECK(count >= 3);
+    compare_versions();
     refuse_nothing();
     leave_open();
     compile_source();
@@ -605,6 +684,8 @@ int main(int count, char **words) {
     order_files();
     find_names();
     convert_columns();
+    give_no_items();
+    empty_handles();
     name_faults();
     for (int i = 2; i < count; i++) {
         file f = load(words[1], words[i]);

@@ -11,7 +11,9 @@ built=$work/library tree=$work/zones
 build zic_main check -
 crates/zic_main/out/zic_main build "$tree" "$release"
 
-# The header alone.
+# The header alone, and its version.
+IFS=. read -r first second third < <(sed -n 's/^pzic //p' docs/help/version.txt)
+grep -qx "#define PZIC_VERSION $((10000 * first + 100 * second + third))" include/pzic.h
 echo '#include "pzic.h"' >"$work/alone.c"
 strict=(-Wall -Wextra -Wpedantic -Werror -I include -fsyntax-only)
 cc -std=c99 "${strict[@]}" "$work/alone.c"
@@ -33,7 +35,7 @@ done
 
 # The shared library has the calls, and no other name.
 nm -D --defined-only "$built/lib/libpzic.so" | awk '{ print $3 }' | sort >"$work/names"
-grep -o 'pzic_[a-z_]*(' include/pzic.h | tr -d '(' | sort -u >"$work/declared"
+grep -o 'pzic_[a-z_]*[a-z](' include/pzic.h | tr -d '(' | sort -u >"$work/declared"
 diff "$work/declared" "$work/names"
 
 # Python. Debian's own may have numpy and pandas.

@@ -7,10 +7,11 @@
  * No call prints, starts a thread, ends the process or keeps state of its own between calls. A call
  * that fails returns a status that says why, and writes only what this header names.
  *
- * Pointers. No pointer may be NULL, also where a length is 0. It points to as many values as the
- * length beside it says, aligned as their type wants. What a call writes to overlaps nothing else
- * that it is given. Memory that a call is given stays the caller's, and no call keeps a pointer to
- * it. Lengths are numbers of items, at most PTRDIFF_MAX bytes in all.
+ * Pointers. A pointer points to as many values as the length beside it says, aligned as their type
+ * wants. It may be NULL where that length is 0, and no other pointer may be NULL. (This header sees
+ * to that: what calls the library without it gives no NULL at all.) What a call writes to overlaps
+ * nothing else that it is given. Memory that a call is given stays the caller's, and no call keeps a
+ * pointer to it. Lengths are numbers of items, at most PTRDIFF_MAX bytes in all.
  *
  * Threads. Any number of calls may run at once. Each handle, array or state that a call is given is
  * used by no other call meanwhile. So each thread has handles of its own: pzic_share makes one
@@ -31,6 +32,15 @@
 #ifdef __cplusplus
 extern "C" {
 #endif
+
+/*
+ * The version of this header: 10,000 times its first number, 100 times the second, and the third. So
+ * 0.1.0 is 100.
+ */
+#define PZIC_VERSION 100
+
+/* Returns the version of the library that the program runs with, as PZIC_VERSION counts. */
+uint32_t pzic_version(void);
 
 /* What a call answers. */
 enum {
@@ -84,14 +94,17 @@ enum {
 };
 
 /*
- * A handle. All zeros, as by `= {0}`, is one that holds nothing; each call may be given it. Only
- * calls change a handle. Don't copy it: pzic_share does.
+ * A handle. All zeros, as by `= PZIC_HANDLE_INIT`, is one that holds nothing; each call may be given
+ * it. Only calls change a handle. Don't copy it: pzic_share does.
  */
 typedef struct pzic_handle {
     void *at;
     /* 0 for nothing, 1 for a zone, 2 for files, 3 for rows. */
     uint32_t kind;
 } pzic_handle;
+
+/* A handle that holds nothing. */
+#define PZIC_HANDLE_INIT {NULL, 0}
 
 /* Local time at an instant. */
 typedef struct pzic_state {
@@ -195,7 +208,10 @@ typedef struct pzic_fault {
 int32_t pzic_compile(const uint8_t *texts, size_t texts_length, const size_t *lengths,
                      size_t count, pzic_handle *files, pzic_fault *fault);
 
-/* Tells how many files there are: PZIC_OK, or PZIC_NO_HANDLE where `files` holds no files. */
+/*
+ * Tells how many files there are: PZIC_OK; or PZIC_NO_HANDLE if `files` holds no files, and *count
+ * isn't written.
+ */
 int32_t pzic_files_len(pzic_handle *files, size_t *count);
 
 /*
@@ -269,6 +285,93 @@ int32_t pzic_rows_text(pzic_handle *rows, uint8_t *room, size_t room_length, siz
  */
 int32_t pzic_name_of_fault(uint32_t kind, uint8_t *room, size_t room_length, size_t *length);
 int32_t pzic_name_of_reason(uint32_t reason, uint8_t *room, size_t room_length, size_t *length);
+
+/*
+ * What follows lets a pointer to no items be NULL: the library is given another pointer in its place.
+ * The name of a call stands for the function with `_` after that name.
+ */
+static inline void *pzic_nowhere_(void) {
+    static uint64_t nothing;
+    return &nothing;
+}
+
+static inline int32_t pzic_zone_read_(const uint8_t *bytes, size_t length, pzic_handle *zone,
+                                      uint32_t *reason) {
+    if (length == 0) bytes = (const uint8_t *)pzic_nowhere_();
+    return pzic_zone_read(bytes, length, zone, reason);
+}
+
+static inline int32_t pzic_zone_offsets_(pzic_handle *zone, const int64_t *instants,
+                                         size_t instants_length, int32_t *offsets,
+                                         size_t offsets_length, uint8_t *flags,
+                                         size_t flags_length) {
+    if (instants_length == 0) instants = (const int64_t *)pzic_nowhere_();
+    if (offsets_length == 0) offsets = (int32_t *)pzic_nowhere_();
+    if (flags_length == 0) flags = (uint8_t *)pzic_nowhere_();
+    return pzic_zone_offsets(zone, instants, instants_length, offsets, offsets_length, flags,
+                             flags_length);
+}
+
+static inline int32_t pzic_compile_(const uint8_t *texts, size_t texts_length,
+                                    const size_t *lengths, size_t count, pzic_handle *files,
+                                    pzic_fault *fault) {
+    if (texts_length == 0) texts = (const uint8_t *)pzic_nowhere_();
+    if (count == 0) lengths = (const size_t *)pzic_nowhere_();
+    return pzic_compile(texts, texts_length, lengths, count, files, fault);
+}
+
+static inline int32_t pzic_files_find_(pzic_handle *files, const uint8_t *name, size_t length,
+                                       size_t *number) {
+    if (length == 0) name = (const uint8_t *)pzic_nowhere_();
+    return pzic_files_find(files, name, length, number);
+}
+
+static inline int32_t pzic_files_name_(pzic_handle *files, size_t number, uint8_t *room,
+                                       size_t room_length, size_t *length) {
+    if (room_length == 0) room = (uint8_t *)pzic_nowhere_();
+    return pzic_files_name(files, number, room, room_length, length);
+}
+
+static inline int32_t pzic_files_bytes_(pzic_handle *files, size_t number, uint8_t *room,
+                                        size_t room_length, size_t *length) {
+    if (room_length == 0) room = (uint8_t *)pzic_nowhere_();
+    return pzic_files_bytes(files, number, room, room_length, length);
+}
+
+static inline int32_t pzic_rows_(pzic_handle *files, const uint8_t *column, size_t length,
+                                 pzic_handle *rows, pzic_row_fault *fault) {
+    if (length == 0) column = (const uint8_t *)pzic_nowhere_();
+    return pzic_rows(files, column, length, rows, fault);
+}
+
+static inline int32_t pzic_rows_text_(pzic_handle *rows, uint8_t *room, size_t room_length,
+                                      size_t *length) {
+    if (room_length == 0) room = (uint8_t *)pzic_nowhere_();
+    return pzic_rows_text(rows, room, room_length, length);
+}
+
+static inline int32_t pzic_name_of_fault_(uint32_t kind, uint8_t *room, size_t room_length,
+                                          size_t *length) {
+    if (room_length == 0) room = (uint8_t *)pzic_nowhere_();
+    return pzic_name_of_fault(kind, room, room_length, length);
+}
+
+static inline int32_t pzic_name_of_reason_(uint32_t reason, uint8_t *room, size_t room_length,
+                                           size_t *length) {
+    if (room_length == 0) room = (uint8_t *)pzic_nowhere_();
+    return pzic_name_of_reason(reason, room, room_length, length);
+}
+
+#define pzic_zone_read pzic_zone_read_
+#define pzic_zone_offsets pzic_zone_offsets_
+#define pzic_compile pzic_compile_
+#define pzic_files_find pzic_files_find_
+#define pzic_files_name pzic_files_name_
+#define pzic_files_bytes pzic_files_bytes_
+#define pzic_rows pzic_rows_
+#define pzic_rows_text pzic_rows_text_
+#define pzic_name_of_fault pzic_name_of_fault_
+#define pzic_name_of_reason pzic_name_of_reason_
 
 #ifdef __cplusplus
 }

@@ -29,7 +29,8 @@ pub record AreTold (content : Content) (instants : List ℤ) (offsets : List ℤ
   pub offsets_told : AllZip (IsOffsetAt content) instants offsets
   pub flags_told : AllZip (AreFlagsAt content) instants flags
 
--- The column is told, or its arrays differ in length.
-abbrev pub IsColumnTold : Content → List ℤ → ℤ → List ℤ → List ℕ → Type 0
-IsColumnTold content instants status offsets flags =
-    ((status ≡ OK) × AreTold content instants offsets flags) ⊎ ((status ≡ LENGTHS) × (AreAsLong instants offsets flags → ⊥))
+-- The column is told; or its arrays differ in length, and stay as they were.
+abbrev pub IsColumnTold : Content → List ℤ → ℤ → List ℤ → List ℕ → List ℤ → List ℕ → Type 0
+IsColumnTold content instants status offsets_before flags_before offsets flags =
+    ((status ≡ OK) × AreTold content instants offsets flags)
+    ⊎ ((status ≡ LENGTHS) × (AreAsLong instants offsets flags → ⊥) × (offsets ≡ offsets_before) × (flags ≡ flags_before))

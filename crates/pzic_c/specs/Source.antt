@@ -1,10 +1,11 @@
 -- What the call that compiles a source tells. Own choice.
-use Rattle.std.specs.Prelude.{◌≡◌, ◌≢◌, ℕ, ℤ, ◌⊎◌, List, [], ◌∷◌, length, take, drop, Option, Some, None, IfSome}
+use Rattle.std.specs.Prelude.{◌≡◌, ◌≢◌, ℕ, ℤ, ◌⊎◌, List, [], ◌∷◌, length, take, drop, Option, Some, None, IfSome, IsSomeAnd}
 use Rattle.std.specs.List.{sum}
 use Rattle.zic_base.specs.Fault.{kind_number}
 use Rattle.zic_base.specs.declared.fault.Fault.{Fault}
-use Rattle.zic_files.specs.File.{File}
 use Rattle.zic_compile.specs.Build.{AreFilesOfTexts, IsFaultOfTexts}
+use Rattle.pzic_c.specs.Handle.{files_of}
+use Rattle.pzic_c.specs.declared.held.Held.{Held}
 use Rattle.pzic_c.specs.declared.compiling.SourceFault.{SourceFault}
 use Rattle.pzic_c.specs.declared.status.TheConstants.{OK, NO_MEMORY, BAD_SOURCE, LENGTHS}
 
@@ -21,13 +22,13 @@ IsFaultTold None status before told = (status ≡ NO_MEMORY) × (told ≡ before
 
 -- The texts were compiled, and the handle holds their files; or they weren't, the handle holds nothing, and the first fault is told, or that memory ran
 -- out, which may come at any time.
-abbrev pub IsCompiled : List (List ℕ) → ℤ → SourceFault → SourceFault → Option (List File) → Type 0
-IsCompiled texts status before told (Some files) = (status ≡ OK) × (told ≡ before) × AreFilesOfTexts texts files
+abbrev pub IsCompiled : List (List ℕ) → ℤ → SourceFault → SourceFault → Option Held → Type 0
+IsCompiled texts status before told (Some held) = (status ≡ OK) × (told ≡ before) × IsSomeAnd (files_of held) (AreFilesOfTexts texts)
 IsCompiled texts status before told None =
     (fault : Option Fault) × IfSome fault (IsFaultOfTexts texts) × IsFaultTold fault status before told
 
--- The texts of these lengths were compiled, or not; or the lengths aren't those of texts that lie one after another here.
-abbrev pub AreCompiled : List ℕ → List ℕ → ℤ → SourceFault → SourceFault → Option (List File) → Type 0
-AreCompiled bytes lengths status before told files =
-    ((sum lengths ≡ length bytes) × IsCompiled (texts_in lengths bytes) status before told files)
-    ⊎ ((sum lengths ≢ length bytes) × (status ≡ LENGTHS) × (told ≡ before) × (files ≡ None))
+-- The texts of these lengths were compiled, or not; or the lengths aren't those of texts that lie one after another here, and the handle holds nothing.
+abbrev pub AreCompiled : List ℕ → List ℕ → ℤ → SourceFault → SourceFault → Option Held → Type 0
+AreCompiled bytes lengths status before told held =
+    ((sum lengths ≡ length bytes) × IsCompiled (texts_in lengths bytes) status before told held)
+    ⊎ ((sum lengths ≢ length bytes) × (status ≡ LENGTHS) × (told ≡ before) × (held ≡ None))

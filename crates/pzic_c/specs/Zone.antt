@@ -1,5 +1,5 @@
 -- What the calls on a zone tell. Own choice.
-use Rattle.std.specs.Prelude.{◌≡◌, ℕ, ℤ, List, Option, Some, None, MatchOption}
+use Rattle.std.specs.Prelude.{◌≡◌, ℕ, ℤ, List, Option, Some, None, MatchOption, IsSomeAnd}
 use Rattle.zic_base.specs.State.{Shown}
 use Rattle.zic_tzif.specs.Content.{Content}
 use Rattle.zic_posix.specs.Instants.{Includes, AreBetween}
@@ -8,7 +8,9 @@ use Rattle.zic_tzif.specs.Answer.{Answers, AnswersThroughout, MayChangeAt}
 use Rattle.zic_tzif.specs.Reading.{IsFile, IsFault, ReadNeedsMemory}
 use Rattle.zic_tzif.specs.declared.reason.Reason.{Reason}
 use Rattle.zic_tzif.specs.Reason.{reason_number}
+use Rattle.pzic_c.specs.Handle.{content_of}
 use Rattle.pzic_c.specs.State.{IsStateOf, state_of}
+use Rattle.pzic_c.specs.declared.held.Held.{Held}
 use Rattle.pzic_c.specs.declared.state.State.{State}
 use Rattle.pzic_c.specs.declared.status.TheConstants.{OK, UNSPECIFIED, NO_MEMORY, BAD_FILE}
 
@@ -33,16 +35,17 @@ pub record IsToldRound (content : Content) (t : ℤ) (instants : Instants) (stat
   pub between : AreBetween (MayChangeAt content) instants
   pub told : (answer : Option Shown) × AnswersThroughout content instants answer × IsTold answer status state
 
--- The status and the number tell why bytes weren't read: the reason's number, or that memory ran out.
-abbrev pub IsRefusalTold : Option Reason → ℤ → ℕ → Type 0
-IsRefusalTold (Some r) status number = (status ≡ BAD_FILE) × (number ≡ reason_number r)
-IsRefusalTold None status number = status ≡ NO_MEMORY
+-- The status and the number tell why bytes weren't read: the reason's number, or that memory ran out, and then the number stays as it was.
+abbrev pub IsRefusalTold : Option Reason → ℤ → ℕ → ℕ → Type 0
+IsRefusalTold (Some r) status before number = (status ≡ BAD_FILE) × (number ≡ reason_number r)
+IsRefusalTold None status before number = (status ≡ NO_MEMORY) × (number ≡ before)
 
 -- The bytes were read, and the handle holds the zone of what they say; or they weren't, it holds nothing, and the reason that is told is that of the
 -- first check that they fail, or memory ran out at what may take it.
-abbrev pub IsRead : List ℕ → ℤ → ℕ → Option Content → Type 0
-IsRead octets status number (Some content) = (status ≡ OK) × IsFile octets content
-IsRead octets status number None = (refusal : Option Reason) × MatchOption refusal (ReadNeedsMemory octets) (IsFault octets) × IsRefusalTold refusal status number
+abbrev pub IsRead : List ℕ → ℤ → ℕ → ℕ → Option Held → Type 0
+IsRead octets status before number (Some held) = (status ≡ OK) × (number ≡ before) × IsSomeAnd (content_of held) (IsFile octets)
+IsRead octets status before number None =
+    (refusal : Option Reason) × MatchOption refusal (ReadNeedsMemory octets) (IsFault octets) × IsRefusalTold refusal status before number
 
 -- the instants from the first to the last
 abbrev pub instants : ℤ → ℤ → Instants

@@ -7,7 +7,7 @@ ghost use Rattle.zic_base.specs.Memory.{IfRefusal};
 ghost use Rattle.zic_compile.specs.Build.{AreFilesOfTexts, IsFaultOfTexts};
 ghost use Rattle.zic_source.specs.Texts.{texts_of};
 ghost use Rattle.pzic_c.specs.Source.{AreCompiled, IsFaultTold, texts_in};
-ghost use Rattle.pzic_c.specs.Handle.{IsHandle, files_in};
+ghost use Rattle.pzic_c.specs.Handle.{IsHandle, held_in};
 
 use crate::handle::Handle;
 use crate::held::hold_files;
@@ -99,7 +99,7 @@ pub extern "C" fn pzic_compile(
     requires { IsHandle files.old }
     ensures handle { IsHandle files.new }
     ensures compiled { AreCompiled texts.now lengths.now result
-        fault.old fault.new (files_in files.new) }
+        fault.old fault.new (held_in files.new) }
 {
     drop(files.take(alloc));
     if !is_whole(lengths, texts.len()) {

@@ -2,7 +2,7 @@
 
 ghost use Rattle.std.specs.Prelude.{◌≡◌, None, length, MatchOption};
 ghost use Rattle.pzic_c.specs.Files.{IsFound, IsPartTold, IsZoneTold};
-ghost use Rattle.pzic_c.specs.Handle.{IsHandle, Keeps, files_in, held_in, zone_in};
+ghost use Rattle.pzic_c.specs.Handle.{IsHandle, Keeps, files_in, held_in};
 ghost use Rattle.pzic_c.specs.declared.status.TheConstants.{NO_HANDLE, OK};
 
 use crate::copying::copy;
@@ -14,30 +14,35 @@ use std::sync::Arc;
 use zic_files::Files;
 
 /// Tells how many files there are.
+fn tell_len(files: &Files, count: &mut usize) -> i32
+    ensures status { result ≡ OK }
+    ensures told { count.new ≡ length files.now }
+{
+    *count = files.len();
+    OK
+}
+
+/// Tells how many files a handle holds.
 #[unsafe(no_mangle)]
 pub extern "C" fn pzic_files_len(alloc: Global, files: &mut Handle, count: &mut usize) -> i32
     requires { IsHandle files.old }
     ensures kept { Keeps files.old files.new }
-    ensures told { MatchOption (files_in files.old) (result ≡ NO_HANDLE)
+    ensures told { MatchOption (files_in files.old)
+        ((result ≡ NO_HANDLE) × (count.new ≡ count.old))
         (λ all. (result ≡ OK) × (count.new ≡ length all)) }
 {
-    let Some(held) = files.take(alloc) else {
-        return NO_HANDLE;
-    };
-    let status = match held.files() {
-        Some(all) => {
-            *count = all.len();
-            OK
-        }
-        None => NO_HANDLE,
-    };
-    files.put(held);
-    status
+    files.ask(
+        alloc,
+        &mut |held: &Held| match held.files() {
+            Some(all) => tell_len(all, count),
+            None => NO_HANDLE,
+        },
+    )
 }
 
 /// Tells the number of the file of a name.
 fn find(files: &Files, name: &[u8], number: &mut usize) -> i32
-    ensures { IsFound files.now name.now result number.new }
+    ensures { IsFound files.now name.now result number.old number.new }
 {
     match files.find(name) {
         Some(found) => {
@@ -58,23 +63,23 @@ pub extern "C" fn pzic_files_find(
 ) -> i32
     requires { IsHandle files.old }
     ensures kept { Keeps files.old files.new }
-    ensures found { MatchOption (files_in files.old) (result ≡ NO_HANDLE)
-        (λ all. IsFound all name.now result number.new) }
+    ensures found { MatchOption (files_in files.old)
+        ((result ≡ NO_HANDLE) × (number.new ≡ number.old))
+        (λ all. IsFound all name.now result number.old number.new) }
 {
-    let Some(held) = files.take(alloc) else {
-        return NO_HANDLE;
-    };
-    let status = match held.files() {
-        Some(all) => find(all, name, number),
-        None => NO_HANDLE,
-    };
-    files.put(held);
-    status
+    files.ask(
+        alloc,
+        &mut |held: &Held| match held.files() {
+            Some(all) => find(all, name, number),
+            None => NO_HANDLE,
+        },
+    )
 }
 
 /// Tells the name of a file.
 fn copy_name(files: &Files, number: usize, room: &mut [u8], count: &mut usize) -> i32
-    ensures { IsPartTold (λ file. file.name) files.now number result room.old room.new count.new }
+    ensures { IsPartTold (λ file. file.name) files.now number result room.old room.new count.old
+        count.new }
 {
     if number >= files.len() {
         return NO_SUCH;
@@ -86,7 +91,7 @@ fn copy_name(files: &Files, number: usize, room: &mut [u8], count: &mut usize) -
 /// Tells the bytes of a file.
 fn copy_bytes(files: &Files, number: usize, room: &mut [u8], count: &mut usize) -> i32
     ensures { IsPartTold (λ file. file.image.octets) files.now number result room.old room.new
-        count.new }
+        count.old count.new }
 {
     if number >= files.len() {
         return NO_SUCH;
@@ -106,18 +111,18 @@ pub extern "C" fn pzic_files_name(
 ) -> i32
     requires { IsHandle files.old }
     ensures kept { Keeps files.old files.new }
-    ensures told { MatchOption (files_in files.old) (result ≡ NO_HANDLE) (λ all.
-        IsPartTold (λ file. file.name) all number result room.old room.new count.new) }
+    ensures told { MatchOption (files_in files.old)
+        ((result ≡ NO_HANDLE) × (room.new ≡ room.old) × (count.new ≡ count.old))
+        (λ all. IsPartTold (λ file. file.name) all number result room.old room.new count.old
+        count.new) }
 {
-    let Some(held) = files.take(alloc) else {
-        return NO_HANDLE;
-    };
-    let status = match held.files() {
-        Some(all) => copy_name(all, number, room, count),
-        None => NO_HANDLE,
-    };
-    files.put(held);
-    status
+    files.ask(
+        alloc,
+        &mut |held: &Held| match held.files() {
+            Some(all) => copy_name(all, number, room, count),
+            None => NO_HANDLE,
+        },
+    )
 }
 
 /// Copies the bytes of a file, as many as there is room for.
@@ -131,18 +136,18 @@ pub extern "C" fn pzic_files_bytes(
 ) -> i32
     requires { IsHandle files.old }
     ensures kept { Keeps files.old files.new }
-    ensures told { MatchOption (files_in files.old) (result ≡ NO_HANDLE) (λ all.
-        IsPartTold (λ file. file.image.octets) all number result room.old room.new count.new) }
+    ensures told { MatchOption (files_in files.old)
+        ((result ≡ NO_HANDLE) × (room.new ≡ room.old) × (count.new ≡ count.old))
+        (λ all. IsPartTold (λ file. file.image.octets) all number result room.old room.new
+        count.old count.new) }
 {
-    let Some(held) = files.take(alloc) else {
-        return NO_HANDLE;
-    };
-    let status = match held.files() {
-        Some(all) => copy_bytes(all, number, room, count),
-        None => NO_HANDLE,
-    };
-    files.put(held);
-    status
+    files.ask(
+        alloc,
+        &mut |held: &Held| match held.files() {
+            Some(all) => copy_bytes(all, number, room, count),
+            None => NO_HANDLE,
+        },
+    )
 }
 
 /// Has an empty handle hold the zone of a file.
@@ -150,7 +155,7 @@ fn put_zone(alloc: Global, files: &Arc<Files>, number: usize, zone: &mut Handle)
     requires handle { IsHandle zone.old }
     requires empty { held_in zone.old ≡ None }
     ensures handle { IsHandle zone.new }
-    ensures told { IsZoneTold files.now.value number result (zone_in zone.new) }
+    ensures told { IsZoneTold files.now.value number result (held_in zone.new) }
 {
     if number >= files.len() {
         return NO_SUCH;
@@ -176,17 +181,16 @@ pub extern "C" fn pzic_zone_of(
     requires zone { IsHandle zone.old }
     ensures kept { Keeps files.old files.new }
     ensures handle { IsHandle zone.new }
-    ensures zone { MatchOption (files_in files.old) (result ≡ NO_HANDLE)
-        (λ all. IsZoneTold all number result (zone_in zone.new)) }
+    ensures zone { MatchOption (files_in files.old)
+        ((result ≡ NO_HANDLE) × (held_in zone.new ≡ None))
+        (λ all. IsZoneTold all number result (held_in zone.new)) }
 {
     drop(zone.take(alloc));
-    let Some(held) = files.take(alloc) else {
-        return NO_HANDLE;
-    };
-    let status = match held.as_ref() {
-        Held::Files(all) => put_zone(alloc, all, number, zone),
-        Held::Zone(_) | Held::Member(_) | Held::Text(_) => NO_HANDLE,
-    };
-    files.put(held);
-    status
+    files.ask(
+        alloc,
+        &mut |held: &Held| match held.files() {
+            Some(all) => put_zone(alloc, all, number, zone),
+            None => NO_HANDLE,
+        },
+    )
 }

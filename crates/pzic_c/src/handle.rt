@@ -1,12 +1,15 @@
 //! Handles: what C holds of the library's values.
 
-ghost use Rattle.std.specs.Prelude.{◌≡◌, Some, None, option_map};
+ghost use Rattle.std.specs.Prelude.{◌≡◌, Some, None, MatchOption, option_map};
 ghost use Rattle.std.specs.Box.{box_value};
-ghost use Rattle.pzic_c.specs.Handle.{IsHandle, held_in};
+ghost use Rattle.std.specs.Fn.{CalledAt};
+ghost use Rattle.pzic_c.specs.Handle.{IsHandle, Keeps, held_in};
+ghost use Rattle.pzic_c.specs.declared.status.TheConstants.{NO_HANDLE};
 
 use crate::held::Held;
 use crate::owned::Owned;
 use crate::parts::Parts;
+use crate::status::NO_HANDLE;
 use std::alloc::Global;
 use std::mem::replace;
 
@@ -41,6 +44,24 @@ impl Handle {
         }
         self.kind = NOTHING;
         Some(owned.into_parts().into_box())
+    }
+
+    /// Calls `answer` with what the handle holds, and returns its status, or `NO_HANDLE` if the handle
+    /// holds nothing.
+    pub(crate) fn ask<F: FnMut(&Held) -> i32>(&mut self, alloc: Global, answer: &mut F) -> i32
+        requires handle { IsHandle self.old }
+        requires callable { (held : _) → F.pre answer.old held }
+        ensures kept { Keeps self.old self.new }
+        ensures answered { MatchOption (held_in self.old)
+            ((result ≡ NO_HANDLE) × (answer.new ≡ answer.old))
+            (λ held. CalledAt F.FnMut answer.old held result answer.new) }
+    {
+        let Some(held) = self.take(alloc) else {
+            return NO_HANDLE;
+        };
+        let status = answer(held.as_ref());
+        self.put(held);
+        status
     }
 
     /// Has the handle, which holds nothing, hold this.

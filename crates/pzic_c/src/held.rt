@@ -32,8 +32,9 @@ impl Held {
     }
 
     /// Returns the files, if there are any.
-    pub(crate) fn files(&self) -> Option<&Files>
-        ensures { option_copied result ≡ files_of self.now }
+    pub(crate) fn files(&self) -> Option<&Arc<Files>>
+        ensures { MatchOption result (files_of self.now ≡ None)
+            (λ files. files_of self.now ≡ Some files.now.value) }
     {
         match self {
             Held::Files(files) => Some(files),

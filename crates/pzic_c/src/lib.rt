@@ -16,4 +16,5 @@ mod rows;
 mod sharing;
 mod state;
 mod status;
+mod version;
 mod zone;

@@ -8,7 +8,7 @@ ghost use Rattle.pzic_c.specs.declared.status.TheConstants.{NO_HANDLE};
 
 use crate::copying::copy;
 use crate::handle::Handle;
-use crate::held::hold_text;
+use crate::held::{Held, hold_text};
 use crate::status::{BAD_ROW, NO_HANDLE, NO_MEMORY, OK};
 use std::alloc::Global;
 use zic_base::RowKind;
@@ -29,7 +29,7 @@ pub struct RowFault {
 /// Tells the fault of the row after `count` rows, if it has one.
 fn tell_fault(fault: Option<RowKind>, count: u64, told: &mut RowFault) -> i32
     requires { count + 1 < 2 ^ 64 }
-    ensures { IsRowTold fault count result told.new }
+    ensures { IsRowTold fault count result told.old told.new }
 {
     let Some(kind) = fault else {
         return OK;
@@ -52,7 +52,8 @@ fn put_rows(
     requires handle { IsHandle rows.old }
     requires empty { held_in rows.old ≡ None }
     ensures handle { IsHandle rows.new }
-    ensures told { AreRowsTold files.now column.now result fault.new (text_in rows.new) }
+    ensures told { AreRowsTold files.now column.now result fault.old fault.new
+        (held_in rows.new) }
 {
     let Ok(made) = rows_of_column(alloc, files, MAX_ROWS, column) else {
         return NO_MEMORY;
@@ -79,19 +80,18 @@ pub extern "C" fn pzic_rows(
     requires rows { IsHandle rows.old }
     ensures kept { Keeps files.old files.new }
     ensures handle { IsHandle rows.new }
-    ensures told { MatchOption (files_in files.old) (result ≡ NO_HANDLE)
-        (λ all. AreRowsTold all column.now result fault.new (text_in rows.new)) }
+    ensures told { MatchOption (files_in files.old)
+        ((result ≡ NO_HANDLE) × (fault.new ≡ fault.old) × (held_in rows.new ≡ None))
+        (λ all. AreRowsTold all column.now result fault.old fault.new (held_in rows.new)) }
 {
     drop(rows.take(alloc));
-    let Some(held) = files.take(alloc) else {
-        return NO_HANDLE;
-    };
-    let status = match held.files() {
-        Some(all) => put_rows(alloc, all, column, rows, fault),
-        None => NO_HANDLE,
-    };
-    files.put(held);
-    status
+    files.ask(
+        alloc,
+        &mut |held: &Held| match held.files() {
+            Some(all) => put_rows(alloc, all, column, rows, fault),
+            None => NO_HANDLE,
+        },
+    )
 }
 
 /// Copies the text of rows, as much as there is room for.
@@ -104,19 +104,18 @@ pub extern "C" fn pzic_rows_text(
 ) -> i32
     requires { IsHandle rows.old }
     ensures kept { Keeps rows.old rows.new }
-    ensures told { MatchOption (text_in rows.old) (result ≡ NO_HANDLE)
+    ensures told { MatchOption (text_in rows.old)
+        ((result ≡ NO_HANDLE) × (room.new ≡ room.old) × (count.new ≡ count.old))
         (λ text. IsTextTold text result room.old room.new count.new) }
 {
-    let Some(held) = rows.take(alloc) else {
-        return NO_HANDLE;
-    };
-    let status = match held.text() {
-        Some(text) => {
-            copy(text, room, count);
-            OK
-        }
-        None => NO_HANDLE,
-    };
-    rows.put(held);
-    status
+    rows.ask(
+        alloc,
+        &mut |held: &Held| match held.text() {
+            Some(text) => {
+                copy(text, room, count);
+                OK
+            }
+            None => NO_HANDLE,
+        },
+    )
 }

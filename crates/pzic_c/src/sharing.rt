@@ -4,7 +4,8 @@ ghost use Rattle.std.specs.Prelude.{◌≡◌, None};
 ghost use Rattle.pzic_c.specs.Handle.{IsHandle, IsShared, Keeps, held_in};
 
 use crate::handle::Handle;
-use crate::status::{NO_HANDLE, NO_MEMORY, OK};
+use crate::held::Held;
+use crate::status::{NO_MEMORY, OK};
 use std::alloc::Global;
 
 /// Has another handle hold the same too. It is let go with the last of its handles.
@@ -17,18 +18,16 @@ pub extern "C" fn pzic_share(alloc: Global, handle: &mut Handle, other: &mut Han
     ensures shared { IsShared (held_in handle.old) result (held_in other.new) }
 {
     drop(other.take(alloc));
-    let Some(held) = handle.take(alloc) else {
-        return NO_HANDLE;
-    };
-    let status = match held.again(alloc) {
-        Ok(twin) => {
-            other.put(twin);
-            OK
-        }
-        Err(_) => NO_MEMORY,
-    };
-    handle.put(held);
-    status
+    handle.ask(
+        alloc,
+        &mut |held: &Held| match held.again(alloc) {
+            Ok(twin) => {
+                other.put(twin);
+                OK
+            }
+            Err(_) => NO_MEMORY,
+        },
+    )
 }
 
 /// Lets go what a handle holds, which then holds nothing.

@@ -1,7 +1,7 @@
 //! The calls on zones.
 
 ghost use Rattle.std.specs.Prelude.{◌≡◌, MatchOption};
-ghost use Rattle.pzic_c.specs.Handle.{IsHandle, Keeps, content_of, zone_in};
+ghost use Rattle.pzic_c.specs.Handle.{IsHandle, Keeps, held_in, zone_in};
 ghost use Rattle.pzic_c.specs.Zone.{IsRead, IsRefusalTold, IsToldAt, IsToldRound, instants};
 ghost use Rattle.pzic_c.specs.Column.{IsColumnTold};
 ghost use Rattle.zic_tzif.specs.Reading.{reason_of};
@@ -17,7 +17,7 @@ use zic_tzif::{ReadStop, Zone, read};
 
 /// Tells why bytes weren't read.
 fn refuse_bytes(stop: ReadStop, reason: &mut u32) -> i32
-    ensures { IsRefusalTold (reason_of stop) result reason.new }
+    ensures { IsRefusalTold (reason_of stop) result reason.old reason.new }
 {
     match stop {
         ReadStop::Bad(why) => {
@@ -28,15 +28,11 @@ fn refuse_bytes(stop: ReadStop, reason: &mut u32) -> i32
     }
 }
 
-/// Tells local time of the zone that is held at an instant.
-fn tell_at(held: &Held, instant: i64, state: &mut State) -> i32
-    ensures { MatchOption (content_of held.now) (result ≡ NO_HANDLE)
-        (λ content. IsToldAt content instant result state.new) }
+/// Tells local time at an instant.
+fn tell_at(zone: &Zone, instant: i64, state: &mut State) -> i32
+    ensures { IsToldAt zone.now instant result state.new }
 {
-    match held.zone() {
-        Some(zone) => state.tell(zone.at(instant)),
-        None => NO_HANDLE,
-    }
+    state.tell(zone.at(instant))
 }
 
 /// Tells local time at an instant, and the first and the last of the instants round it.
@@ -51,7 +47,8 @@ fn tell_round(zone: &Zone, instant: i64, state: &mut State, first: &mut i64, las
 
 /// Tells local time at each of many instants, where the arrays are as long.
 fn tell_column(zone: &Zone, instants: &[i64], offsets: &mut [i32], flags: &mut [u8]) -> i32
-    ensures { IsColumnTold zone.now instants.now result offsets.new flags.new }
+    ensures { IsColumnTold zone.now instants.now result offsets.old flags.old offsets.new
+        flags.new }
 {
     if offsets.len() != instants.len() || flags.len() != instants.len() {
         return LENGTHS;
@@ -70,7 +67,7 @@ pub extern "C" fn pzic_zone_read(
 ) -> i32
     requires { IsHandle zone.old }
     ensures handle { IsHandle zone.new }
-    ensures read { IsRead octets.now result reason.new (zone_in zone.new) }
+    ensures read { IsRead octets.now result reason.old reason.new (held_in zone.new) }
 {
     drop(zone.take(alloc));
     let made = match read(alloc, octets) {
@@ -96,15 +93,17 @@ pub extern "C" fn pzic_zone_at(
 ) -> i32
     requires { IsHandle zone.old }
     ensures kept { Keeps zone.old zone.new }
-    ensures told { MatchOption (zone_in zone.old) (result ≡ NO_HANDLE)
+    ensures told { MatchOption (zone_in zone.old)
+        ((result ≡ NO_HANDLE) × (state.new ≡ state.old))
         (λ content. IsToldAt content instant result state.new) }
 {
-    let Some(held) = zone.take(alloc) else {
-        return NO_HANDLE;
-    };
-    let status = tell_at(&held, instant, state);
-    zone.put(held);
-    status
+    zone.ask(
+        alloc,
+        &mut |held: &Held| match held.zone() {
+            Some(zone) => tell_at(zone, instant, state),
+            None => NO_HANDLE,
+        },
+    )
 }
 
 /// Tells local time at an instant, and the instants round it at which it is the same.
@@ -119,18 +118,18 @@ pub extern "C" fn pzic_zone_span(
 ) -> i32
     requires { IsHandle zone.old }
     ensures kept { Keeps zone.old zone.new }
-    ensures told { MatchOption (zone_in zone.old) (result ≡ NO_HANDLE)
+    ensures told { MatchOption (zone_in zone.old)
+        ((result ≡ NO_HANDLE) × (state.new ≡ state.old) × (first.new ≡ first.old)
+        × (last.new ≡ last.old))
         (λ content. IsToldRound content instant (instants first.new last.new) result state.new) }
 {
-    let Some(held) = zone.take(alloc) else {
-        return NO_HANDLE;
-    };
-    let status = match held.zone() {
-        Some(zone) => tell_round(zone, instant, state, first, last),
-        None => NO_HANDLE,
-    };
-    zone.put(held);
-    status
+    zone.ask(
+        alloc,
+        &mut |held: &Held| match held.zone() {
+            Some(zone) => tell_round(zone, instant, state, first, last),
+            None => NO_HANDLE,
+        },
+    )
 }
 
 /// Tells local time at each of many instants, in any order.
@@ -144,16 +143,16 @@ pub extern "C" fn pzic_zone_offsets(
 ) -> i32
     requires { IsHandle zone.old }
     ensures kept { Keeps zone.old zone.new }
-    ensures told { MatchOption (zone_in zone.old) (result ≡ NO_HANDLE)
-        (λ content. IsColumnTold content instants.now result offsets.new flags.new) }
+    ensures told { MatchOption (zone_in zone.old)
+        ((result ≡ NO_HANDLE) × (offsets.new ≡ offsets.old) × (flags.new ≡ flags.old))
+        (λ content. IsColumnTold content instants.now result offsets.old flags.old offsets.new
+        flags.new) }
 {
-    let Some(held) = zone.take(alloc) else {
-        return NO_HANDLE;
-    };
-    let status = match held.zone() {
-        Some(zone) => tell_column(zone, instants, offsets, flags),
-        None => NO_HANDLE,
-    };
-    zone.put(held);
-    status
+    zone.ask(
+        alloc,
+        &mut |held: &Held| match held.zone() {
+            Some(zone) => tell_column(zone, instants, offsets, flags),
+            None => NO_HANDLE,
+        },
+    )
 }

@@ -27,3 +27,4 @@ pub mod WalkFacts
 pub mod SplitFacts
 pub mod LowestBit
 pub mod EndsFacts
+pub mod PlainFacts

@@ -2,12 +2,14 @@
 use Rattle.std.proofs.Common.{◌≡◌, ℕ, ◌+◌, ◌-◌, ◌*◌, ◌%◌, ◌^◌, ◌<◌, ◌≤◌, ◌==◌, ◌||◌, ◌&&◌, not, Bool, true, false, cond, eqb, List, [], ◌∷◌, map, length, get_or, replicate, Some, inl, inr, ◌⊎◌, refl, sym, ap, ap₂, subst, ◌∙◌, arith, w64, bit_and, bit_or}
 use Rattle.std.specs.Int.{bit_at, trailing_zeros}
 use mir.Val.{bool_byte}
+use Rattle.std.specs.Int.Bits.{and_le_r}
 use Rattle.std.specs.Int.RustNames.{count_ones}
 use Rattle.std.specs.Simd.Lanes.{chunk, mask_l, top, zip2}
+use Rattle.std.proofs.Math.Nat.{mod-eq_of_lt}
 use Rattle.std.proofs.lemmas.Bool.{both_ways, cases_lt, eqb-false}
 use Rattle.std.proofs.lemmas.List.{get_or-map, get_or_default, get_or_past, length-map}
 use Rattle.std.proofs.lemmas.Nat.Bits.{bit_at-trailing_zeros}
-use Rattle.std.proofs.lemmas.Nat.{and_block, and_comm, and-not}
+use Rattle.std.proofs.lemmas.Nat.{and_block, and_comm, and_mod, and-not}
 use Rattle.std.proofs.lemmas.Simd.{bit_mask_l, get_or-chunk, length-chunk, map-map, mask_l-lt, mask_l-mod, none_from_empty_mask, ones-mask_l_cons, zip2_of_maps, zip2_splat}
 use Rattle.memchr.specs.Find.{IsFirst, Passes}
 use Rattle.zic_columns.specs.Column.{HasNoQuote, ends_line}
@@ -142,11 +144,11 @@ first_in_mask test bytes at within some =
     )
 
 -- an empty mask shows that no byte is a double quote
-pub none_in_mask : (bytes : List ℕ) (at : ℕ) → at + 32 ≤ length bytes → mask_at (λ byte. byte == 34) bytes at ≡ 0 → HasNoQuote (chunk at 32 bytes)
+pub none_in_mask : (bytes : List ℕ) (at : ℕ) → at + 64 ≤ length bytes → mask_l (map (λ byte. byte == 34) (chunk at 64 bytes)) ≡ 0 → HasNoQuote (chunk at 64 bytes)
 none_in_mask bytes at within none = λ k d lt is.
-    let below : k < 32 = omega (arith, lt, length-chunk at 32 bytes within) in
-    let clear = none_from_empty_mask (λ byte. byte == 34) bytes at 32 0 within none (at + k) (omega arith) (omega (arith, below)) in
-    eqb-false (get_or bytes (at + k) 0) 34 clear (sym (get_or-chunk at 32 bytes k 0 below) ∙ sym (get_or_default (chunk at 32 bytes) k d 0 lt) ∙ is)
+    let below : k < 64 = omega (arith, lt, length-chunk at 64 bytes within) in
+    let clear = none_from_empty_mask (λ byte. byte == 34) bytes at 64 0 within none (at + k) (omega arith) (omega (arith, below)) in
+    eqb-false (get_or bytes (at + k) 0) 34 clear (sym (get_or-chunk at 64 bytes k 0 below) ∙ sym (get_or_default (chunk at 64 bytes) k d 0 lt) ∙ is)
 
 -- ---- the records that end in a block
 
@@ -188,23 +190,26 @@ ends_apart before (byte ∷ bytes) =
     ap₂ bit_and (omega arith) (omega arith) ∙ and_block 1 (2 * later + here) later (cond before 1 0) here (one_or_none before) (one_or_none (ends_line byte)) in
     omega (arith, both, ends_apart (ends_line byte) bytes, last_bit before (ends_line byte))
 
-pub ends_masked : (before : Bool) (bytes : List ℕ) (at : ℕ) → at + 32 ≤ length bytes → (follow : ℕ) → follow ≡ 2 * mask_at ends_line bytes at + cond before 1 0
-    → count_ones (bit_and (mask_at ends_line bytes at) (2 ^ 64 - 1 - follow)) ≡ records_ended before (chunk at 32 bytes)
+pub ends_masked : (before : Bool) (bytes : List ℕ) (at : ℕ) → at + 64 ≤ length bytes → (follow : ℕ)
+    → follow ≡ (2 * mask_l (map ends_line (chunk at 64 bytes)) + cond before 1 0) % 2 ^ 64
+    → count_ones (bit_and (mask_l (map ends_line (chunk at 64 bytes))) (2 ^ 64 - 1 - follow)) ≡ records_ended before (chunk at 64 bytes)
 ends_masked before bytes at within follow is =
-    let mask = mask_at ends_line bytes at in
-    let small = mask_small bytes at within ends_line in
-    let fits : follow < 2 ^ 64 = omega (arith, is, small, one_or_none before) in
-    let apart = ends_apart before (chunk at 32 bytes) in
-    let both : bit_and follow mask ≡ bit_and (2 * mask + cond before 1 0) mask = ap (λ (n : ℕ). bit_and n mask) is in
-    let rest : bit_and mask (2 ^ 64 - 1 - follow) ≡ mask_l (record_ends before (chunk at 32 bytes)) =
-    and_comm mask (2 ^ 64 - 1 - follow) ∙ omega (arith, and-not 64 follow mask fits (omega (arith, small)), both, apart) in
-    ap count_ones rest ∙ ends_counted before (chunk at 32 bytes)
+    let block = chunk at 64 bytes in
+    let mask = mask_l (map ends_line block) in
+    let shifted = 2 * mask + cond before 1 0 in
+    let size : length (map ends_line block) ≡ 64 = length-map block ends_line ∙ length-chunk at 64 bytes within in
+    let small : mask < 2 ^ 64 = subst (λ (n : ℕ). mask < 2 ^ n) size (mask_l-lt (map ends_line block)) in
+    let fits : follow < 2 ^ 64 = omega (arith, is) in
+    let apart = ends_apart before block in
+    let low : bit_and shifted mask % 2 ^ 64 ≡ bit_and shifted mask = mod-eq_of_lt (omega (arith, and_le_r shifted mask, small)) in
+    let kept : mask % 2 ^ 64 ≡ mask = mod-eq_of_lt small in
+    let both : bit_and follow mask ≡ bit_and shifted mask =
+    ap₂ bit_and is (sym kept) ∙ sym (and_mod shifted mask 64) ∙ low in
+    let rest : bit_and mask (2 ^ 64 - 1 - follow) ≡ mask_l (record_ends before block) =
+    and_comm mask (2 ^ 64 - 1 - follow) ∙ omega (arith, and-not 64 follow mask fits small, both, apart) in
+    ap count_ones rest ∙ ends_counted before block
 
 -- a Boolean value as a number
 pub bool_is : (b : Bool) → bool_byte b ≡ cond b 1 0
 bool_is true = refl
 bool_is false = refl
-
-pub one_at_most : (b : Bool) → bool_byte b ≤ 1
-one_at_most true = omega arith
-one_at_most false = omega arith

@@ -94,16 +94,16 @@ nothing_ended = refl
 pub counted_none : (bytes : List ℕ) (most : ℕ) → 0 < most → AreCounted bytes most (record { len = 0; records = 0 })
 counted_none bytes most some = record { within = omega arith; plain = All-nil (λ byte. byte ≢ 34); counted = nothing_ended; few = some }
 
-pub counted_more : (bytes : List ℕ) (most : ℕ) (passed : Passed) (more : ℕ) → AreCounted bytes most passed → passed.len + 32 ≤ length bytes
-    → HasNoQuote (chunk passed.len 32 bytes) → more ≡ records_ended (is_after_line true (take passed.len bytes)) (chunk passed.len 32 bytes)
+pub counted_more : (bytes : List ℕ) (most : ℕ) (passed : Passed) (more : ℕ) → AreCounted bytes most passed → passed.len + 64 ≤ length bytes
+    → HasNoQuote (chunk passed.len 64 bytes) → more ≡ records_ended (is_after_line true (take passed.len bytes)) (chunk passed.len 64 bytes)
     → more < most - passed.records
-    → AreCounted bytes most (record { len = passed.len + 32; records = passed.records + more })
+    → AreCounted bytes most (record { len = passed.len + 64; records = passed.records + more })
 counted_more bytes most passed more are within plain is few =
-    let parts : take (passed.len + 32) bytes ≡ take passed.len bytes ++ chunk passed.len 32 bytes = take-add passed.len 32 bytes in
+    let parts : take (passed.len + 64) bytes ≡ take passed.len bytes ++ chunk passed.len 64 bytes = take-add passed.len 64 bytes in
     record {
       within = within;
-      plain = subst HasNoQuote (sym parts) (All-append (λ byte. byte ≢ 34) (take passed.len bytes) (chunk passed.len 32 bytes) are.plain plain);
-      counted = omega (arith, ap (records_ended true) parts, records_ended-append true (take passed.len bytes) (chunk passed.len 32 bytes), are.counted, is);
+      plain = subst HasNoQuote (sym parts) (All-append (λ byte. byte ≢ 34) (take passed.len bytes) (chunk passed.len 64 bytes) are.plain plain);
+      counted = omega (arith, ap (records_ended true) parts, records_ended-append true (take passed.len bytes) (chunk passed.len 64 bytes), are.counted, is);
       few = omega (arith, few);
     }
 

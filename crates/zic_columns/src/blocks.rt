@@ -1,7 +1,7 @@
-//! Bytes, taken 32 at a time.
+//! Bytes, taken 32 or 64 at a time.
 
-ghost use Rattle.std.specs.Prelude.{◌≡◌, ◌+◌, ◌<◌, ◌≤◌, ◌^◌, ◌==◌, true, length, take, Some, IfSome};
-ghost use Rattle.std.specs.Simd.Lanes.{chunk};
+ghost use Rattle.std.specs.Prelude.{◌≡◌, ◌+◌, ◌<◌, ◌≤◌, ◌^◌, ◌==◌, true, length, map, take, Some, IfSome};
+ghost use Rattle.std.specs.Simd.Lanes.{chunk, mask_l};
 ghost use Rattle.memchr.specs.Find.{IsFirst, Passes};
 ghost use Rattle.zic_columns.specs.Column.{HasNoQuote, ends_line};
 ghost use Rattle.zic_columns.specs.code.Block.{AreCounted, ArePassed, ends_field, is_after_line, mask_at, records_ended};
@@ -10,8 +10,11 @@ use crate::hand::split_lines;
 use crate::line::ends_line;
 use std::simd::prelude::*;
 
-/// The number of bytes that are looked at together.
+/// The number of bytes that a search looks at together.
 const BLOCK: usize = 32;
+
+/// The number of bytes whose records are counted together.
+const WIDE: usize = 64;
 
 /// First bytes, and the number of records that end in them.
 #[derive(Clone, Copy, Drop)]
@@ -31,14 +34,25 @@ fn quotes_at(bytes: &[u8], at: usize) -> u64
         .to_bitmask()
 }
 
-/// Returns a mask of the bytes that end a line among the 32 bytes from an index on.
+/// Returns a mask of the double quotes among the 64 bytes from an index on.
+#[inline(always)]
+fn wide_quotes_at(bytes: &[u8], at: usize) -> u64
+    requires { at + WIDE ≤ length bytes.now }
+    ensures { result ≡ mask_l (map (λ byte. byte == 34) (chunk at WIDE bytes.now)) }
+{
+    u8x64::from_slice(&bytes[at..])
+        .simd_eq(u8x64::splat(b'"'))
+        .to_bitmask()
+}
+
+/// Returns a mask of the bytes that end a line among the 64 bytes from an index on.
 #[inline(always)]
 fn line_ends_at(bytes: &[u8], at: usize) -> u64
-    requires { at + BLOCK ≤ length bytes.now }
-    ensures { result ≡ mask_at ends_line bytes.now at }
+    requires { at + WIDE ≤ length bytes.now }
+    ensures { result ≡ mask_l (map ends_line (chunk at WIDE bytes.now)) }
 {
-    let block = u8x32::from_slice(&bytes[at..]);
-    (block.simd_eq(u8x32::splat(b'\r')) | block.simd_eq(u8x32::splat(b'\n'))).to_bitmask()
+    let block = u8x64::from_slice(&bytes[at..]);
+    (block.simd_eq(u8x64::splat(b'\r')) | block.simd_eq(u8x64::splat(b'\n'))).to_bitmask()
 }
 
 /// Returns a mask of the commas and line ends among the 32 bytes from an index on.
@@ -96,20 +110,22 @@ fn begins_line(bytes: &[u8], at: usize) -> bool
     at == 0 || ends_line(bytes[at - 1])
 }
 
-/// Returns the number of records that end in the 32 bytes from an index on, or `None` where a
+/// Returns the number of records that end in the 64 bytes from an index on, or `None` where a
 /// double quote is among them: at each line end after a byte that ends no line.
 #[inline(always)]
 fn records_at(bytes: &[u8], at: usize) -> Option<usize>
-    requires { at + BLOCK ≤ length bytes.now }
-    ensures plain { IfSome result (λ _. HasNoQuote (chunk at BLOCK bytes.now)) }
+    requires { at + WIDE ≤ length bytes.now }
+    ensures plain { IfSome result (λ _. HasNoQuote (chunk at WIDE bytes.now)) }
     ensures count { IfSome result (λ count. count
-        ≡ records_ended (is_after_line true (take at bytes.now)) (chunk at BLOCK bytes.now)) }
+        ≡ records_ended (is_after_line true (take at bytes.now)) (chunk at WIDE bytes.now)) }
 {
-    if quotes_at(bytes, at) != 0 {
+    if wide_quotes_at(bytes, at) != 0 {
         return None;
     }
     let ends = line_ends_at(bytes, at);
-    let follow = 2 * ends + u64::from(begins_line(bytes, at));
+    let follow = ends
+        .wrapping_mul(2)
+        .wrapping_add(u64::from(begins_line(bytes, at)));
     Some((ends & !follow).count_ones() as usize)
 }
 
@@ -119,11 +135,11 @@ fn count_records(bytes: &[u8], most: usize) -> Passed
     ensures { AreCounted bytes.now most result }
 {
     let mut passed = Passed { len: 0, records: 0 };
-    while BLOCK <= bytes.len() - passed.len {
+    while WIDE <= bytes.len() - passed.len {
         match records_at(bytes, passed.len) {
             Some(more) if more < most - passed.records => {
                 passed.records += more;
-                passed.len += BLOCK;
+                passed.len += WIDE;
             }
             _ => return passed,
         }

@@ -33,14 +33,15 @@ fn field_ends_in(bytes: &[u8], at: usize) -> u64
 }
 
 impl FieldEnds {
-    /// Returns that nothing is known from an index on.
+    /// Returns the field ends from an index on, none of which is known yet.
     pub(crate) fn unknown(at: usize) -> FieldEnds
         ensures { (bytes : List ℕ) → at ≤ length bytes → ShowsEnds bytes at result }
     {
         FieldEnds { mask: 0, seen: at }
     }
 
-    /// Returns the known ones where there are some, or else those of the next block, if it has any.
+    /// Returns these field ends if one of them is known, or else those of the next block, if it has
+    /// any.
     #[inline(always)]
     fn known(self, bytes: &[u8], at: usize) -> Option<FieldEnds>
         requires { ShowsEnds bytes.now at self }

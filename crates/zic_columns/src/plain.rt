@@ -1,10 +1,10 @@
 //! Records of a piece whose fields begin with no double quote.
 
-ghost use Rattle.std.specs.Prelude.{◌≡◌, ◌+◌, ◌^◌, ◌<◌, ◌≤◌, ◌∷◌, ◌++◌, [], ℕ, List, drop, length, MatchResult};
+ghost use Rattle.std.specs.Prelude.{◌≡◌, ◌≢◌, ◌+◌, ◌^◌, ◌<◌, ◌≤◌, ◌∷◌, ◌++◌, [], ℕ, List, drop, length, MatchResult};
 ghost use Rattle.zic_columns.specs.Record.{IsWithin, bytes_at};
 ghost use Rattle.zic_columns.specs.code.Ends.{ShowsEnds};
 ghost use Rattle.zic_columns.specs.code.Machine.{BeginsRecord};
-ghost use Rattle.zic_columns.specs.code.Plain.{IsPlainFrom, record_of};
+ghost use Rattle.zic_columns.specs.code.Plain.{IsPlainFrom, IsSought, record_of};
 ghost use Rattle.zic_columns.specs.code.Walk.{HasFields, HasWalked};
 
 use crate::ends::FieldEnds;
@@ -43,28 +43,51 @@ fn begun_at(start: usize, fields: PlainFields, at: usize) -> Begun
     }
 }
 
-/// Returns the fields with one more, which they keep where rows need it.
-#[inline(always)]
-fn with_span(fields: PlainFields, span: Span, wanted: Wanted) -> PlainFields
-    requires { fields.count + 1 < 2 ^ 64 }
-    ensures count { result.count ≡ fields.count + 1 }
-    ensures has { (piece : List ℕ) (start end : ℕ) (texts : List (List ℕ))
-        → HasFields piece wanted texts (record_of start end fields) → IsWithin piece span
-        → HasFields piece wanted (texts ++ bytes_at piece span ∷ []) (record_of start end result) }
+/// The indices of the fields that rows need. Where they need no zone, that of the zone is
+/// `usize::MAX`, and no record has that many fields.
+#[derive(Clone, Copy, Drop)]
+pub(crate) struct Sought {
+    zone: usize,
+    time: usize,
+}
+
+/// Returns the indices of the fields that rows need.
+fn indices_of(wanted: Wanted) -> Sought
+    ensures { IsSought wanted result }
 {
     let zone = match wanted.zone {
-        Some(index) if index == fields.count => span,
-        _ => fields.zone,
+        Some(index) => index,
+        None => usize::MAX,
     };
-    let time = if wanted.time == fields.count {
-        span
-    } else {
-        fields.time
-    };
+    Sought {
+        zone,
+        time: wanted.time,
+    }
+}
+
+/// Returns the field of this number where that is the index sought, or else the one that was kept.
+#[inline(always)]
+fn pick(index: usize, number: usize, field: Span, kept: Span) -> Span
+    ensures taken { index ≡ number → result ≡ field }
+    ensures kept { index ≢ number → result ≡ kept }
+{
+    if index == number { field } else { kept }
+}
+
+/// Returns the fields with one more, which they keep where rows need it.
+#[inline(always)]
+fn with_span(fields: PlainFields, span: Span, indices: Sought) -> PlainFields
+    requires { fields.count + 1 < 2 ^ 64 }
+    ensures count { result.count ≡ fields.count + 1 }
+    ensures has { (piece : List ℕ) (start end : ℕ) (wanted : Wanted) (texts : List (List ℕ))
+        → IsSought wanted indices → HasFields piece wanted texts (record_of start end fields)
+        → IsWithin piece span
+        → HasFields piece wanted (texts ++ bytes_at piece span ∷ []) (record_of start end result) }
+{
     PlainFields {
         count: fields.count + 1,
-        zone,
-        time,
+        zone: pick(indices.zone, fields.count, span, fields.zone),
+        time: pick(indices.time, fields.count, span, fields.time),
     }
 }
 
@@ -92,6 +115,7 @@ pub(crate) fn split_plain(
         zone: none,
         time: none,
     };
+    let indices = indices_of(wanted);
     let mut at = start;
     loop {
         let Some(end) = ends.next_end(piece, at) else {
@@ -100,7 +124,7 @@ pub(crate) fn split_plain(
         if piece[at] == b'"' {
             return Err(begun_at(start, fields, at));
         }
-        fields = with_span(fields, Span { start: at, end }, wanted);
+        fields = with_span(fields, Span { start: at, end }, indices);
         if piece[end] != b',' {
             return Ok(record_of(start, end, fields));
         }

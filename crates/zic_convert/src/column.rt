@@ -49,7 +49,7 @@ pub fn rows_of_column(
     };
     let rows = rows_of_piece(alloc, &piece, room_for(column.len()))?;
     Ok(ColumnRows {
-        text: Vec::from_slice(alloc, rows.text.bytes())?,
+        text: rows.text.into_bytes(),
         count: rows.count,
         fault: rows.fault,
     })

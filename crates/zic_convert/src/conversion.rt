@@ -45,8 +45,12 @@ const SHORTEST_ROUND: u64 = 65_536;
 /// The greatest number of bytes that a round is read to have.
 const LONGEST_ROUND: u64 = 4_194_304;
 
-/// The number of pieces that a round has for each worker, so that none waits long for the others.
-const PIECES_FOR_EACH: u64 = 16;
+/// The number of pieces that a round has for each of several workers: enough that none waits long for
+/// the others, or for threads to start.
+const PIECES_FOR_EACH: u64 = 10;
+
+/// The number of pieces that a round has for one worker: its bytes and rows then stay in the cache.
+const PIECES_FOR_ONE: u64 = 3;
 
 /// The number of bytes that a record usually has.
 const USUAL_RECORD: u64 = 48;
@@ -65,7 +69,11 @@ pub struct Conversion<'a, T, G> {
 /// Returns the number of bytes that a round is to have: some pieces for each worker, of usual
 /// records.
 fn round_len(plan: &Plan) -> usize {
-    let usual = PIECES_FOR_EACH * plan.workers() * plan.row_piece() * USUAL_RECORD;
+    let pieces = match plan.workers() {
+        1 => PIECES_FOR_ONE,
+        workers => PIECES_FOR_EACH * workers,
+    };
+    let usual = pieces * plan.row_piece() * USUAL_RECORD;
     usual.clamp(SHORTEST_ROUND, LONGEST_ROUND) as usize
 }
 

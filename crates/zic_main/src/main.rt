@@ -6,6 +6,7 @@
 mod failure;
 
 use failure::Refusal;
+use std::alloc::{AllocError, Global};
 use std::fs::{self, File, Files};
 use std::io::{self, BufWriter, IsTerminal, Read, Write};
 use std::process::ExitCode;
@@ -166,12 +167,31 @@ fn told<E: IsTerminal + Drop>(progress: bool, errors: E) -> Told<E> {
     }
 }
 
+/// The size in bytes of a block that [`keep_memory`] asks for: almost the largest by which the C
+/// library adapts.
+const LARGE_BLOCK: usize = 33_488_896;
+
+/// Has the C library keep the memory that rounds of rows give back, and not return it to the system
+/// each time: its allocator does so for blocks of up to the size of the largest that was freed
+/// (`M_MMAP_THRESHOLD` in mallopt(3)). The block itself is never touched.
+fn keep_memory(alloc: Global) {
+    drop(large_block(alloc));
+}
+
+/// Returns a block of `LARGE_BLOCK` bytes without content.
+#[inline(never)]
+fn large_block(alloc: Global) -> Result<Vec<u8>, AllocError> {
+    // Inlined, the compiler would leave out both the block and its end.
+    Vec::with_capacity(alloc, LARGE_BLOCK)
+}
+
 /// Converts standard input to standard output, and tells of the rows. Where the run goes on after
 /// faults, it writes them to a file, if one is named.
 fn convert<
     R: Files + Input + Print + Clock + AllocGlobal + Threads + Wait + Sync,
     E: Write + IsTerminal + Drop,
 >(rt: &R, order: &Conversion, errors: E, texts: &mut Vec<Vec<u8>>) -> Result<(), Failure> {
+    keep_memory(rt.alloc());
     match &order.zones {
         Zones::Source(source) => read(rt, &[source.clone()?], texts)?,
         Zones::Tree(folder) => expect_folder(rt, folder)?,

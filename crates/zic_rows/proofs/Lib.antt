@@ -1,4 +1,5 @@
 pub mod Powers
+pub mod Lanes
 pub mod Stores
 pub mod DigitPairs
 pub mod LocalTime

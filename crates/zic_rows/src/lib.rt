@@ -17,6 +17,7 @@ mod row_time;
 mod state_text;
 mod store;
 mod timed_rest;
+mod wide;
 
 pub use count::{Moment, moment_of, parse_count};
 pub use instant::{is_plain, parse_instant};

@@ -75,6 +75,15 @@ impl RowText {
         self.bytes().len()
     }
 
+    /// Returns the text alone.
+    pub fn into_bytes(self) -> Vec<u8>
+        ensures { result.items ≡ self }
+    {
+        let mut bytes = self.bytes;
+        bytes.truncate(self.len);
+        bytes
+    }
+
     /// Removes the text, and keeps its room.
     pub fn clear(&mut self)
         ensures { self.new ≡ [] }

@@ -1,6 +1,6 @@
 //! The time of a row, read from what is common: plain decimals of a time that a row may have.
 
-ghost use Rattle.std.specs.Prelude.{◌≡◌, ◌/◌, ◌%◌, ◌≤◌, ◌∷◌, length, slice_range, IfSome};
+ghost use Rattle.std.specs.Prelude.{◌≡◌, ◌+◌, ◌/◌, ◌%◌, ◌≤◌, ◌∷◌, length, slice_range, IfSome};
 ghost use Rattle.zic_rows.specs.Count.{units_of_second};
 ghost use Rattle.zic_rows.specs.PlainTime.{IsPlainTime};
 ghost use Rattle.zic_rows.specs.code.PlainNumber.{IsPlainNumber};
@@ -8,6 +8,7 @@ ghost use Rattle.zic_rows.specs.code.PlainNumber.{IsPlainNumber};
 use crate::count::{fraction_digits, units_of_second};
 use crate::instant::short_number;
 use crate::limit::{FIRST_INSTANT, LAST_INSTANT, MAX_DIGITS};
+use crate::wide::wide_number;
 use zic_plan::Unit;
 
 /// The whole second of an instant, in seconds from 1970-01-01T00:00:00 UT, and how many units it
@@ -32,15 +33,17 @@ pub fn quick_time(bytes: &[u8], start: usize, end: usize, unit: Unit) -> Option<
     if let [b'-', digits @ ..] = field {
         return time_before(digits, unit);
     }
-    time_from(field, unit)
+    time_from(bytes, start, end, unit)
 }
 
 /// Reads an instant from 1970 on.
 #[inline(always)]
-fn time_from(digits: &[u8], unit: Unit) -> Option<RowTime>
-    ensures { IfSome result (IsPlainTime unit digits.now) }
+fn time_from(bytes: &[u8], start: usize, end: usize, unit: Unit) -> Option<RowTime>
+    requires order { start ≤ end }
+    requires within { end ≤ length bytes.now }
+    ensures { IfSome result (IsPlainTime unit (slice_range bytes.now start end)) }
 {
-    let n = plain_number(digits, unit)?;
+    let n = plain_number_at(bytes, start, end, unit)?;
     let Parts { seconds, fraction } = parts_of(n, unit);
     if seconds > LAST_INSTANT as u64 {
         return None;
@@ -53,7 +56,7 @@ fn time_from(digits: &[u8], unit: Unit) -> Option<RowTime>
 }
 
 /// Reads an instant before 1970, whose digits follow a `-`.
-#[inline(never)]
+#[inline(always)]
 fn time_before(digits: &[u8], unit: Unit) -> Option<RowTime>
     ensures { IfSome result (IsPlainTime unit (45 ∷ digits.now)) }
 {
@@ -69,8 +72,27 @@ fn time_before(digits: &[u8], unit: Unit) -> Option<RowTime>
     })
 }
 
-/// Returns the number that digits spell with no zero in front, if they are few enough for a count.
+/// Returns the number that a part of some bytes spells with no zero in front, if its digits are few
+/// enough for a count. Up to 16 digits are read at once, where as many bytes end with them.
 #[inline(always)]
+fn plain_number_at(bytes: &[u8], start: usize, end: usize, unit: Unit) -> Option<u64>
+    requires order { start ≤ end }
+    requires within { end ≤ length bytes.now }
+    ensures { IfSome result (IsPlainNumber unit (slice_range bytes.now start end)) }
+{
+    let len = end - start;
+    if end < 16 || len == 0 || len > 16 {
+        return plain_number(&bytes[start..end], unit);
+    }
+    if len > 1 && bytes[start] == b'0' {
+        return None;
+    }
+    let n = wide_number(bytes, start, end)?;
+    Some(n)
+}
+
+/// Returns the number that digits spell with no zero in front, if they are few enough for a count.
+#[inline(never)]
 fn plain_number(digits: &[u8], unit: Unit) -> Option<u64>
     ensures { IfSome result (IsPlainNumber unit digits.now) }
 {

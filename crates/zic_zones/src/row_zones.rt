@@ -105,7 +105,20 @@ impl<'a> RowZones<'a> {
         requires { file < length self.now }
         ensures { IfSome result (λ text. AnswersAt self.now file instant text.now) }
     {
-        self.ready.quick_text(file, instant)
+        match self.ready.quick_text(file, instant) {
+            Some(text) => Some(text),
+            None => self.text_by_span(file, instant),
+        }
+    }
+
+    /// Returns the text of the state that a file shows at an instant, if one was made, by a search.
+    #[inline(never)]
+    fn text_by_span(&self, file: usize, instant: i64) -> Option<&'a StateText>
+        requires { file < length self.now }
+        ensures { IfSome result (λ text. AnswersAt self.now file instant text.now) }
+    {
+        let span = self.span(file, instant);
+        self.ready.text(file, span.number)
     }
 
     /// Sets the state of the rows to come to that of a file with this number, which the file shows

@@ -1,5 +1,5 @@
 -- Records of a piece whose fields begin with no double quote.
-use Rattle.std.specs.Prelude.{◌≡◌, ◌+◌, ◌<◌, ℕ, true, List, [], ◌∷◌, length, slice_index, drop, Option, MatchOption}
+use Rattle.std.specs.Prelude.{◌≡◌, ◌+◌, ◌<◌, ℕ, true, List, [], ◌∷◌, length, slice_index, drop, Option, MatchOption, ◌-◌, ◌^◌}
 use Rattle.zic_columns.specs.Column.{ends_line}
 use Rattle.zic_columns.specs.Own.{whole_records}
 use Rattle.zic_columns.specs.Record.{IsSplit, record_at}
@@ -10,6 +10,11 @@ use Rattle.zic_columns.specs.declared.fields.Record.{Record}
 use Rattle.zic_columns.specs.declared.fields.Wanted.{Wanted}
 use Rattle.zic_columns.specs.declared.ends.FieldEnds.{FieldEnds}
 use Rattle.zic_columns.specs.declared.plain.PlainFields.{PlainFields}
+use Rattle.zic_columns.specs.declared.plain.Sought.{Sought}
+
+-- the indices of the wanted fields, and none that a record has where no zone is wanted
+abbrev pub IsSought : Wanted → Sought → Type 0
+IsSought wanted sought = MatchOption wanted.zone (sought.zone ≡ 2 ^ 64 - 1) (λ index. sought.zone ≡ index) × (sought.time ≡ wanted.time)
 
 -- the record of these fields that stands from an index up to another
 abbrev pub record_of : ℕ → ℕ → PlainFields → Record

@@ -1,10 +1,10 @@
 -- A record of a piece, field by field.
-use Rattle.std.specs.Prelude.{◌≡◌, ◌+◌, ◌-◌, ◌<◌, ◌≤◌, ◌⊎◌, ℕ, true, List, [], ◌∷◌, ◌++◌, Option, MatchOption, Some, drop, length, slice_index, slice_range}
+use Rattle.std.specs.Prelude.{◌≡◌, ◌+◌, ◌-◌, ◌<◌, ◌≤◌, ◌⊎◌, ℕ, true, List, [], ◌∷◌, ◌++◌, Some, drop, length, slice_index, slice_range}
 use Rattle.csv.specs.Machine.{next_record}
 use Rattle.csv.specs.Reading.{default_config}
 use Rattle.csv.specs.declared.parser.State.TheVariants as st
 use Rattle.zic_columns.specs.Own.{own_texts}
-use Rattle.zic_columns.specs.Record.{IsSplit, Splitting, StandsIn, bytes_at, field_text, record_at, wanted_text}
+use Rattle.zic_columns.specs.Record.{IsSplit, StandsIn, bytes_at, field_text, wanted_text}
 use Rattle.zic_columns.specs.code.Block.{ends_field}
 use Rattle.zic_columns.specs.code.Machine.{IsEndOfRecord, ReadsTo}
 use Rattle.zic_columns.specs.declared.fields.Record.{Record}
@@ -48,8 +48,3 @@ pub record IsRecordFrom (piece : List ℕ) (start : ℕ) (wanted : Wanted) (give
   pub split : IsSplit piece wanted given
   pub owns : own_texts (drop start piece) ≡ bytes_at piece given.own ∷ own_texts (drop given.own.end piece)
   pub ended : given.own.end < length piece → IsEndOfRecord st.StartField (drop start piece) (given.own.end - start + 1)
-
--- the next record of a piece, if there is one
-abbrev pub IsNext : Splitting → Option Record → Splitting → Type 0
-IsNext old given new = MatchOption given ((old.left ≡ []) × (new.left ≡ []))
-    (λ first. (old.left ≡ record_at old.piece first ∷ new.left) × IsSplit old.piece old.wanted first)

@@ -1,6 +1,5 @@
-use Rattle.std.proofs.Common.{◌≡◌, ◌<◌, ◌+◌, ℕ, List, [], ◌∷◌, ◌++◌, Vec, length, get_or, drop, arith}
+use Rattle.std.proofs.Common.{◌<◌, ℕ, [], ◌∷◌, Vec, length, get_or, arith}
 use Rattle.std.specs.Global.{Global}
-use Rattle.std.specs.List.{sum}
 use Rattle.std.proofs.lemmas.List.{length-drop, map-append}
 use Rattle.std.proofs.lemmas.List.Sums.{sum_by-drop_more}
 use Rattle.zic_source.specs.Texts.{texts_of}

@@ -35,7 +35,7 @@ returns-then-piece-end-ne44 c =
     let next = c.in-Some.ensures in
     let found : IsFieldAt piece at (field_to at stop) = plain_at piece at stop next.end (λ _. c.if-piece-at-eq34.false) in
     let more = c.with_span-fields in
-    let has = more.ensures.has piece start start walked.fields walked.has (found.low, found.high) in
+    let has = more.ensures.has piece start start c.args.wanted walked.fields c.indices_of-indices.ensures walked.has (found.low, found.high) in
     let other : (get_or piece stop 0 == 44) ≡ false = ne_eqb (get_or piece stop 0) 44 c.if-piece-end-ne44.true in
     subst (IsPlainFrom piece start c.args.wanted c.next_end.new.self) (sym c.record_of.ensures) (record {
       from = record_out piece start c.args.wanted (record_of start start c.loop-end.fields) at walked (field_to at stop) found c.requires.begins
@@ -62,6 +62,6 @@ loop-end-preserved c =
     record {
       walked = walked_on piece start c.args.wanted (record_of start start c.loop-end.fields) at walked (field_to at stop) found (record_of start start more.result)
           next.within c.if-piece-end-ne44.false refl more.ensures.count
-          (more.ensures.has piece start start walked.fields walked.has (found.low, found.high));
+          (more.ensures.has piece start start c.args.wanted walked.fields c.indices_of-indices.ensures walked.has (found.low, found.high));
       shows = next.shows;
     }

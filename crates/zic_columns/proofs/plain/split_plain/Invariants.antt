@@ -6,7 +6,7 @@ use Rattle.zic_columns.proofs.plain.split_plain.Given as goal
 
 abbrev pub invariant-loop-end : goal.invariant-loop-end
 invariant-loop-end l = record {
-  walked : HasWalked l.piece l.start l.wanted (record_of l.start l.start l.fields) l.at;
+  walked : HasWalked l.piece l.start l.fn.wanted (record_of l.start l.start l.fields) l.at;
   shows : ShowsEnds l.piece l.at l.ends;
 }
 

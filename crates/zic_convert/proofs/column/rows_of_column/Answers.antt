@@ -1,4 +1,4 @@
-use Rattle.std.proofs.Common.{◌≡◌, arith, rules}
+use Rattle.std.proofs.Common.{arith}
 use Rattle.csv.specs.Reading.{strip_bom}
 use Rattle.zic_columns.proofs.SomeRecords.{few_records}
 use Rattle.zic_columns.proofs.Taking.{unmarked_shorter}
@@ -13,8 +13,7 @@ returns-clause-rows c =
     let column = c.args.column.now in
     let are = rw (c.without_mark.ensures, c.ready.ensures, c.in_ok-zones.ensures) at c.in_ok-rows.ensures in
     let all = rows_in_memory layout plain files c.args.max_rows column _ are c.column_records_are_read.ensures in
-    let found : c.in_ok-from_slice.field-0.items ≡ c.rows.inside.text = search rules in
-    rw found (rw (← c.rows.view_is) at all)
+    rw c.into_bytes.ensures (rw (← c.rows.view_is) at all)
 
 pub returns-clause-few : goal.returns-clause-few
 returns-clause-few c =
