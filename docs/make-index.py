@@ -4,8 +4,9 @@
 usage: make-index.py [--check]
 
 Writes the page to standard output. With --check, writes in its place each public function that has neither an edit (or a
-test) nor a line of docs/index-exceptions.txt, each line there that no function needs, and each line of docs/promises.txt
-that names no clause; the status is 1 if there is any.
+test) nor a line of docs/index-exceptions.txt, each line there that no function needs, each line of docs/promises.txt
+that names no clause, and each definition that a clause cites and docs/DEFINITIONS.md doesn't name; the status is 1 if there
+is any.
 
 An edit belongs to the function whose text it changes, or to those that use the constant that it changes. Where that one is
 private, it belongs to the public functions that call it through private ones. A test calls a function itself, or through
@@ -26,7 +27,8 @@ First the promises, each with the clauses and laws that make it. Then each publi
 the definitions that they cite, an edit of its code that the prover refuses, and a test that calls it, and each law, with
 the definition that states it. [PROOF.md](PROOF.md) explains the promises, crate by crate.
 
-- What is read and written is promised for readers and writers whose bytes are known ([PROOF.md](PROOF.md#what-isnt-proved)).
+- What is read and written is promised for readers and writers whose bytes are known, and what is placed in a tree, or
+  read of one, for trees that tell it ([PROOF.md](PROOF.md#what-isnt-proved)). A failure is one that was counted.
 - `ensures` is a clause without a name.
 - A trait's method stands with each type that has it, and its clauses are also the ghost items, as `from_gives`.
 - A definition of std, as that of `length`, isn't named. A cell is empty where clauses cite none of this repository.
@@ -117,6 +119,16 @@ class Index:
             if not f or len(clauses) != max(len(words) - 1, 1) or f.is_law and len(words) > 1:
                 yield f"'{' '.join(words)}' of docs/promises.txt isn't a law, or a function with these clauses"
         yield from (f"no function needs the exception '{kind} {name}'" for kind, name in sorted(unused))
+        yield from self.unlisted()
+
+    def unlisted(self):
+        """Yields the definitions that clauses cite and docs/DEFINITIONS.md doesn't name."""
+        page = (CRATES.parent / 'docs/DEFINITIONS.md').read_text()
+        named = set(re.findall(r'[\w-]+', ' '.join(re.findall('`([^`]*)`', page))))
+        cited = {found for f in self.public for _, clause in f.clauses for found in f.module.cited(clause)}
+        for name, path in sorted(cited):
+            if name not in named:
+                yield f'docs/DEFINITIONS.md lacks {name} of {path.relative_to(CRATES)}'
 
     def page(self):
         yield HEAD

@@ -1,3 +1,4 @@
 pub mod ChangeLemmas
 pub mod OffsetLemmas
+pub mod OneText
 pub mod YearLemmas

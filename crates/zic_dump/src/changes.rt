@@ -17,7 +17,8 @@ use std::alloc::{AllocError, Global};
 use zic_tzif::{Answer, ReadStop, Zone, read};
 
 /// Returns the text of `zdump -i` for the bytes of a TZif file at a path: what the file answers at
-/// the start of the first year, in UT, and each change of that up to the start of the second.
+/// the start of the first year, in UT, and each change of that after it, up to and including the
+/// start of the second.
 ///
 /// # Errors
 ///

@@ -3,6 +3,7 @@
 #![tactic(auto)]
 
 mod changes;
+pub mod laws;
 mod line;
 mod years;
 

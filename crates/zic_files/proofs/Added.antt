@@ -70,7 +70,7 @@ file_added images name image zone last =
     subst (λ (k : ℕ). get_or (images ++ image ∷ []) k no_image ≡ image) (sym last) (get_or-append_seam images image [] no_image) in
     ap (λ (found : FileImage). let file : File = record { name = name; image = found } in file) is
 
-sound_added : (files : List File) (file : File) → AreSoundFiles files → IsSoundFile file → All (λ (f : File). f.name ≢ file.name) files → AreSoundFiles (files ++ file ∷ [])
+pub sound_added : (files : List File) (file : File) → AreSoundFiles files → IsSoundFile file → All (λ (f : File). f.name ≢ file.name) files → AreSoundFiles (files ++ file ∷ [])
 sound_added files file sound one others = record {
   each = All-push IsSoundFile files file sound.each one;
   names_differ = all_pairs_push (λ (a b : File). a.name ≢ b.name) files file sound.names_differ others;

@@ -75,7 +75,7 @@ module _ (replies : List Reply) (learnt : Learnt) (from : IsLearntFrom replies l
     once = all_pairs_push (λ (a b : Reply). a.name ≢ b.name) replies reply from.files.asked.once differ;
   }
 
-name_of : (replies : List Reply) (name : List ℕ) → Contains (map (λ (r : Reply). r.name) replies) name → Any (λ (r : Reply). r.name ≡ name) replies
+pub name_of : (replies : List Reply) (name : List ℕ) → Contains (map (λ (r : Reply). r.name) replies) name → Any (λ (r : Reply). r.name ≡ name) replies
 name_of [] name (k, lt, is) = absurd (omega arith)
 name_of (r ∷ replies) name (zero, lt, is) = (0, r, omega arith, refl, is)
 name_of (r ∷ replies) name (suc k, lt, is) =

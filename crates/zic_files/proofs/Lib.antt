@@ -1,5 +1,6 @@
 pub mod Numbers
 pub mod Added
 pub mod Fits
+pub mod Having
 pub mod Learning
 pub mod Staying

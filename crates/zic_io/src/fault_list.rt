@@ -37,7 +37,7 @@ impl<W: Write> Model for FaultList<W> {
 }
 
 impl<W: Write> FaultList<W> {
-    ghost use Rattle.std.specs.Prelude.{◌≡◌, ◌-◌, ◌^◌, [], length, min, option_map, slice_get, IsTrue, IsFalse};
+    ghost use Rattle.std.specs.Prelude.{◌≡◌, ◌-◌, ◌^◌, [], length, min, option_map, slice_get, is_some, IsTrue, IsFalse};
     ghost use Rattle.zic_io.specs.Faults.{held_by, unwritten, HasFailed, HasLines};
 
     /// Returns a list without faults.
@@ -83,6 +83,7 @@ impl<W: Write> FaultList<W> {
         ensures failed { IsFalse result → HasFailed self.new }
         ensures noted { self.new.noted ≡ self.old.noted }
         ensures start { self.new.start ≡ self.old.start }
+        ensures file { is_some self.new.file ≡ is_some self.old.file }
     {
         if let Some(file) = &mut self.file {
             self.has_failed = self.has_failed || flush(file).is_err();
@@ -92,11 +93,15 @@ impl<W: Write> FaultList<W> {
 }
 
 impl<W: Write> FaultLog for FaultList<W> {
-    ghost use Rattle.std.specs.Prelude.{Some};
+    ghost use Rattle.std.specs.Prelude.{◌≡◌, ◌++◌, [], ◌∷◌, Some, is_some};
 
     ghost noted = { λ l. Some l.noted };
 
-    fn note(&mut self, fault: RowFault) {
+    fn note(&mut self, fault: RowFault)
+        ensures adds { Some self.new.noted ≡ Some (self.old.noted ++ fault ∷ []) }
+        ensures start { self.new.start ≡ self.old.start }
+        ensures file { is_some self.new.file ≡ is_some self.old.file }
+    {
         self.first = self.first.or(Some(fault));
         self.count = self.count.saturating_add(1);
         self.noted = self.noted.and(&fault);

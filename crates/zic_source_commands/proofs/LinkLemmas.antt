@@ -91,7 +91,7 @@ module _ (source : SourceLines) (sound : IsSoundSource source) (files : List Fil
   zone_files = files_of_zones source.zones (λ zone has. has)
 
 -- files of one name are one
-one_file : (files : List File) → AreSoundFiles files → (name : List ℕ) (i j : ℕ) (a b : File) → slice_get files i ≡ Some a → slice_get files j ≡ Some b → a.name ≡ b.name → a ≡ b
+pub one_file : (files : List File) → AreSoundFiles files → (name : List ℕ) (i j : ℕ) (a b : File) → slice_get files i ≡ Some a → slice_get files j ≡ Some b → a.name ≡ b.name → a ≡ b
 one_file files sound name i j a b at_a at_b same =
     let number = one_by_key (λ (f : File). f.name) (λ x y. x ≢ y) (λ x differ. differ refl) files sound.names_differ i j a b at_a at_b same in
     same_Some a b (sym at_a ∙ ap (slice_get files) number ∙ at_b)

@@ -1,7 +1,8 @@
 -- A folder in which the names of Link lines are links to the files of zones. Own choice: zic makes
 -- hard links to the names that the lines give.
-use Rattle.std.specs.Prelude.{◌≡◌, ◌≢◌, ◌⊎◌, ◌==◌, ℕ, codes, List, [], ◌∷◌, ◌++◌, map, if◌then◌else◌, Option, Contains, IsSomeAnd}
+use Rattle.std.specs.Prelude.{◌≡◌, ◌≢◌, ◌⊎◌, ◌==◌, ℕ, codes, true, List, [], ◌∷◌, ◌++◌, map, if◌then◌else◌, Option, All, Contains, IsSomeAnd}
 use Rattle.std.specs.List.{AllZip, flat_map}
+use Rattle.zic_words.specs.Name.{is_name_part}
 use Rattle.zic_lines.specs.declared.link.Link.{Link}
 use Rattle.zic_source.specs.Grammar.{IsSource}
 use Rattle.zic_source.specs.Links.{EndsAt}
@@ -27,6 +28,21 @@ way_up name = flat_map (λ byte. if byte == 47 then codes "../" else []) name
 abbrev pub target_of : LinkKind → List ℕ → List ℕ → List ℕ → List ℕ
 target_of kinds.Hard folder name zone = folder ++ 47 ∷ zone
 target_of kinds.Symbolic folder name zone = way_up name ++ zone
+
+-- A target leads from a folder to a path: down, which takes the folder's path and a slash before it, or
+-- first up, by `../`, out of a folder with a proper name.
+pub data LeadsFrom : List ℕ → List ℕ → List ℕ → Type 0 where
+  down : (folder way : List ℕ) → LeadsFrom folder way (folder ++ 47 ∷ way)
+  up : (folder name way path : List ℕ) → is_name_part name ≡ true → All (λ byte. byte ≢ 47) name
+      → LeadsFrom folder way path → LeadsFrom (folder ++ 47 ∷ name) (codes "../" ++ way) path
+
+-- the target, read from the folder of the link at a path, leads to another path
+pub record LinkLeads (link target path : List ℕ) : Type 0 where
+  pub folder : List ℕ
+  pub name : List ℕ
+  pub is : link ≡ folder ++ 47 ∷ name
+  pub last : All (λ byte. byte ≢ 47) name
+  pub leads : LeadsFrom folder target path
 
 -- the link in a folder at a name, to the file of the zone of another name
 abbrev pub link_in : LinkedFolder → List ℕ → List ℕ → Linked

@@ -7,6 +7,7 @@ mod build_command;
 mod build_linked_command;
 mod check_command;
 mod compiler;
+pub mod laws;
 
 pub use build_command::build;
 pub use build_linked_command::build_linked;
