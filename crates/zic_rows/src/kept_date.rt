@@ -10,22 +10,23 @@ use crate::store::put_8;
 /// A comma, the date of a day and a `T`, kept for rows of one day.
 #[derive(Drop)]
 pub(crate) struct KeptDate {
+    /// This stands first, so that no part of it lies in two cache lines.
+    text: DateText,
     /// The days from 0001-01-01.
     day: u32,
-    text: DateText,
     ghost is_date: { take 5 text.year ++ take 7 text.day ≡ kept_date day },
 }
 
 impl KeptDate {
     /// Returns the date of a day.
-    #[inline(never)]
+    #[inline(always)]
     pub(crate) fn new(day: u32) -> KeptDate
         requires { day < DAYS }
         ensures { result.day ≡ day }
     {
         KeptDate {
-            day,
             text: date_text(day),
+            day,
         }
     }
 
@@ -36,8 +37,18 @@ impl KeptDate {
         ensures { self.new.day ≡ day }
     {
         if self.day != day {
-            *self = KeptDate::new(day);
+            self.set(day);
         }
+    }
+
+    /// Sets the day. Here the parts of the text are stored where they are read: a copy of both at
+    /// once would wait for the two stores.
+    #[inline(never)]
+    fn set(&mut self, day: u32)
+        requires { day < DAYS }
+        ensures { self.new.day ≡ day }
+    {
+        *self = KeptDate::new(day);
     }
 
     /// Writes the date into a text with room for 16 bytes.
