@@ -7,3 +7,5 @@ pub mod PlainInstants
 pub mod RowTexts
 pub mod Counts
 pub mod PlainTimes
+pub mod MarchDates
+pub mod DayTexts

@@ -33,3 +33,8 @@ pub row_written : (old started new behind start rest : List ℕ) (len size : ℕ
     → take len (take size (new ++ behind)) ≡ old ++ (start ++ rest)
 row_written old started new behind start rest len size with_start written within long =
     written_back new behind len size within long ∙ written ∙ ap (λ (l : List ℕ). l ++ rest) with_start ∙ append_assoc old start rest
+
+-- the first elements of what stands behind a part
+pub parted : (front part whole : List ℕ) (at k n : ℕ) → length front ≡ at → take k whole ≡ front ++ part → at + n ≤ k → take (at + n) whole ≡ front ++ take n part
+parted front part whole at k n long is within =
+    sym (take-take (at + n) k whole within) ∙ ap (take (at + n)) is ∙ ap (λ (m : ℕ). take (m + n) (front ++ part)) (sym long) ∙ take-append-add front part n

@@ -2,3 +2,4 @@
 pub mod Kept
 pub mod PlainNumber
 pub mod Lanes
+pub mod March

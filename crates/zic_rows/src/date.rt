@@ -1,11 +1,20 @@
 //! The date of local time.
 
-ghost use Rattle.std.specs.Prelude.{◌≡◌, ◌<◌, take, drop};
+ghost use Rattle.std.specs.Prelude.{◌≡◌, ◌<◌, ◌++◌, take, drop};
 ghost use Rattle.zic_rows.specs.code.Kept.{kept_date};
 
 use crate::digits::digit_pair;
-use crate::limit::{DAYS, DAYS_TO_1970, REST_ROOM};
-use zic_calendar::civil;
+use crate::limit::{DAYS, REST_ROOM};
+use crate::march::{DAYS_TO_JANUARY, day_text, march_day};
+
+/// A comma, the date of a day, and a `T`, in two parts.
+#[derive(Clone, Copy, Drop)]
+pub(crate) struct DateText {
+    /// A comma and the year, in the first five bytes.
+    pub(crate) year: [u8; 8],
+    /// The month, the day and the `T`, in the first seven bytes.
+    pub(crate) day: [u8; 8],
+}
 
 /// Writes the text of a day into the rest of a row.
 #[inline(never)]
@@ -14,23 +23,27 @@ pub(crate) fn write_date(rest: &mut [u8; REST_ROOM], day: u32)
     ensures date { take 12 rest.new ≡ kept_date day }
     ensures after { drop 20 rest.new ≡ drop 20 rest.old }
 {
-    rest[..12].copy_from_slice(&date_text(day)[..12]);
+    let text = date_text(day);
+    rest[..5].copy_from_slice(&text.year[..5]);
+    rest[5..12].copy_from_slice(&text.day[..7]);
 }
 
-/// Returns a comma, the date of a day counted from 0001-01-01, and a `T`, in the first 12 bytes.
-pub(crate) fn date_text(day: u32) -> [u8; 16]
+/// Returns the text of a day counted from 0001-01-01.
+#[inline(always)]
+pub(crate) fn date_text(day: u32) -> DateText
     requires { day < DAYS }
-    ensures { take 12 result ≡ kept_date day }
+    ensures { take 5 result.year ++ take 7 result.day ≡ kept_date day }
 {
-    let date = civil(day as i64 - DAYS_TO_1970 as i64, 0);
-    let year = date.year as u32;
-    let month = date.month as u32;
-    let day = date.day as u32;
+    let date = march_day(day);
+    let year = if date.day < DAYS_TO_JANUARY {
+        date.year
+    } else {
+        date.year + 1
+    };
     let [y, yy] = digit_pair(year / 100);
     let [yyy, yyyy] = digit_pair(year % 100);
-    let [m, mm] = digit_pair(month);
-    let [d, dd] = digit_pair(day);
-    [
-        b',', y, yy, yyy, yyyy, b'-', m, mm, b'-', d, dd, b'T', 0, 0, 0, 0,
-    ]
+    DateText {
+        year: [b',', y, yy, yyy, yyyy, 0, 0, 0],
+        day: day_text(date.day),
+    }
 }

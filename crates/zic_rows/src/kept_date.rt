@@ -3,19 +3,18 @@
 ghost use Rattle.std.specs.Prelude.{◌≡◌, ◌+◌, ◌<◌, ◌≤◌, ◌++◌, length, take};
 ghost use Rattle.zic_rows.specs.code.Kept.{kept_date};
 
-use crate::date::date_text;
+use crate::date::{DateText, date_text};
 use crate::limit::DAYS;
-use crate::store::put_16;
-use std::simd::prelude::*;
+use crate::store::put_8;
 
 /// A comma, the date of a day and a `T`, kept for rows of one day.
 #[derive(Drop)]
 pub(crate) struct KeptDate {
+    /// This stands first, so that no part of it lies in two cache lines.
+    text: DateText,
     /// The days from 0001-01-01.
     day: u32,
-    octets: u8x16,
-    ghost size: { length octets ≡ 16 },
-    ghost is_date: { take 12 octets ≡ kept_date day },
+    ghost is_date: { take 5 text.year ++ take 7 text.day ≡ kept_date day },
 }
 
 impl KeptDate {
@@ -26,8 +25,8 @@ impl KeptDate {
         ensures { result.day ≡ day }
     {
         KeptDate {
+            text: date_text(day),
             day,
-            octets: date_octets(day),
         }
     }
 
@@ -38,8 +37,18 @@ impl KeptDate {
         ensures { self.new.day ≡ day }
     {
         if self.day != day {
-            *self = KeptDate::new(day);
+            self.set(day);
         }
+    }
+
+    /// Sets the day. Here the parts of the text are stored where they are read: a copy of both at
+    /// once would wait for the two stores.
+    #[inline(never)]
+    fn set(&mut self, day: u32)
+        requires { day < DAYS }
+        ensures { self.new.day ≡ day }
+    {
+        *self = KeptDate::new(day);
     }
 
     /// Writes the date into a text with room for 16 bytes.
@@ -49,16 +58,7 @@ impl KeptDate {
         ensures kept { length text.new ≡ length text.old }
         ensures written { take (at + 12) text.new ≡ take at text.old ++ kept_date self.now.day }
     {
-        put_16(text, at, self.octets, 12);
+        put_8(text, at, self.text.year);
+        put_8(text, at + 5, self.text.day);
     }
-}
-
-/// Returns a comma, the date of a day and a `T`, in the first 12 bytes.
-#[inline(never)]
-fn date_octets(day: u32) -> u8x16
-    requires { day < DAYS }
-    ensures length { length result ≡ 16 }
-    ensures date { take 12 result ≡ kept_date day }
-{
-    u8x16::from_array(date_text(day))
 }

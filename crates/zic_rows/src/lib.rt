@@ -9,6 +9,7 @@ mod instant;
 mod kept_date;
 pub mod laws;
 mod limit;
+mod march;
 mod rest;
 mod row;
 mod row_state;

@@ -1,12 +1,16 @@
-use Rattle.std.proofs.Common.{◌≡◌, pos, unsigned_abs, sym, arith, w64, to_z, of_z}
-use Rattle.std.proofs.lemmas.Int.{ints}
-use Rattle.zic_rows.proofs.RowTexts.{kept_date-octets}
+use Rattle.std.proofs.Common.{sym, arith}
+use Rattle.zic_rows.proofs.MarchDates.{dated_late, dated_early}
+use Rattle.zic_rows.proofs.date.date_text.Goals.{then-date-lt-DAYS_TO_JANUARY, else-date-lt-DAYS_TO_JANUARY}
 use Rattle.zic_rows.proofs.date.date_text.Goals as goal
 
 pub returns : goal.returns
 returns c =
-    let date = c.civil-date.result in
-    let y = unsigned_abs (to_z w64 (of_z w64 date.year)) in
-    let year : date.year ≡ pos y = omega (arith, ints, c.civil-date.ensures.year) in
-    let octets = kept_date-octets c.args.day _ date y c.requires (omega (arith, ints)) c.civil-date.ensures.date c.civil-date.ensures.year year in
-    rw (c.digit_pair.ensures, c.digit_pair-2.ensures, c.digit_pair-3.ensures, c.digit_pair-4.ensures) (sym octets)
+    let date = c.march_day-date.result in
+    let is = c.march_day-date.ensures in
+    let year = c.if-date-lt-DAYS_TO_JANUARY.year in
+    rw (c.digit_pair.ensures, c.digit_pair-2.ensures, c.day_text.ensures) (elim c.if-date-lt-DAYS_TO_JANUARY.branch [
+      | then-date-lt-DAYS_TO_JANUARY w ↦
+          sym (dated_late c.args.day date.year date.day year c.requires is.value w.if-date-lt-DAYS_TO_JANUARY.true w.year-is)
+      | else-date-lt-DAYS_TO_JANUARY w ↦
+          sym (dated_early c.args.day date.year date.day year c.requires is.value is.within is.bound (omega (arith, w.if-date-lt-DAYS_TO_JANUARY.false)) w.year-is)
+    ])
