@@ -63,10 +63,7 @@ impl<'a> SourceZones<'a> {
     /// # Errors
     ///
     /// Fails where memory is refused.
-    pub fn for_many_rows(
-        alloc: Global,
-        files: &'a Files,
-    ) -> Result<SourceZones<'a>, AllocError>
+    pub fn for_many_rows(alloc: Global, files: &'a Files) -> Result<SourceZones<'a>, AllocError>
         ensures { IfOk result (λ zones. zones ≡ files.now) }
     {
         Ok(SourceZones {
