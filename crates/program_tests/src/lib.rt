@@ -27,3 +27,5 @@ mod rows;
 mod samples;
 #[cfg(test)]
 mod splits;
+#[cfg(test)]
+mod zones;
