@@ -10,7 +10,7 @@ use std::simd::prelude::*;
 /// The days from 1 March to 1 January.
 pub(crate) const DAYS_TO_JANUARY: u32 = 306;
 
-/// The month and the day of each day of a year, in eight bytes each.
+/// The month and the day of the month of each day of a year from 1 March on, in eight bytes each.
 static DAY_TEXTS: [u8; 2928] = *b"\
     -03-01T -03-02T -03-03T -03-04T -03-05T -03-06T -03-07T -03-08T -03-09T -03-10T -03-11T -03-12T -03-13T -03-14T -03-15T -03-16T -03-17T -03-18T -03-19T -03-20T -03-21T -03-22T -03-23T -03-24T -03-25T -03-26T -03-27T -03-28T -03-29T -03-30T -03-31T \
     -04-01T -04-02T -04-03T -04-04T -04-05T -04-06T -04-07T -04-08T -04-09T -04-10T -04-11T -04-12T -04-13T -04-14T -04-15T -04-16T -04-17T -04-18T -04-19T -04-20T -04-21T -04-22T -04-23T -04-24T -04-25T -04-26T -04-27T -04-28T -04-29T -04-30T \
