@@ -4,8 +4,8 @@ use crate::commands::commands;
 use crate::instant::parse_instant_word;
 use crate::layout::layout;
 use crate::no_request::NoRequest;
-use clap::ArgMatches;
 use clap::error::ErrorKind;
+use clap::{ArgMatches, Error};
 use std::alloc::{AllocError, Global};
 use std::rt::Env;
 use std::{env, io};
@@ -119,8 +119,8 @@ pub fn requested<R: Env + AllocGlobal>(rt: &R) -> Result<Asked, NoRequest> {
 pub fn parse(alloc: Global, words: &[String]) -> Result<Asked, NoRequest> {
     let matches = match commands(alloc)?.try_get_matches_from(words) {
         Ok(matches) => matches,
-        Err(_) => return Ok(Asked {
-            request: unmatched(alloc, words)?,
+        Err(e) => return Ok(Asked {
+            request: unmatched(alloc, words, &e)?,
             explain: false,
         }),
     };
@@ -147,19 +147,26 @@ fn command(alloc: Global, matches: &ArgMatches<'_>) -> Result<Request, NoRequest
     }
 }
 
-/// Returns what words that are no command ask for: the version, if anything. The text of usage shows
-/// the words without control characters.
-fn unmatched(alloc: Global, words: &[String]) -> Result<Request, NoRequest> {
-    let words = shown_words(alloc, words)?;
-    let Err(e) = commands(alloc)?.try_get_matches_from(&words) else {
-        return Err(usage(alloc, "a word has control characters"));
-    };
+/// Returns what words that are no command ask for: the version, if anything.
+fn unmatched(alloc: Global, words: &[String], e: &Error) -> Result<Request, NoRequest> {
     match e.kind() {
         ErrorKind::OutOfMemory => Err(NoRequest::Memory),
         ErrorKind::DisplayVersion => Ok(Request::Version {
             text: e.to_string(alloc)?,
         }),
-        _ => Err(NoRequest::Usage(e.to_string(alloc)?)),
+        _ => Err(misused(alloc, words)?),
+    }
+}
+
+/// Returns the refusal of words that are no command. Its text shows them without control characters.
+fn misused(alloc: Global, words: &[String]) -> Result<NoRequest, AllocError> {
+    let words = shown_words(alloc, words)?;
+    let Err(e) = commands(alloc)?.try_get_matches_from(&words) else {
+        return Ok(usage(alloc, "a word has control characters"));
+    };
+    match e.kind() {
+        ErrorKind::OutOfMemory => Ok(NoRequest::Memory),
+        _ => Ok(NoRequest::Usage(e.to_string(alloc)?)),
     }
 }
 
