@@ -17,7 +17,6 @@ import select
 import shutil
 import subprocess
 import sys
-import threading
 
 import files
 import reader
@@ -158,22 +157,11 @@ def compare_links(program, tree):
     files.report("rows by links to files, to links and to folders, and by links that lead nowhere")
 
 
-def give(path, octets):
-    """makes a pipe at this path, out of which the file can be read once"""
-    os.mkfifo(path)
-
-    def write_once():
-        with open(path, "wb") as pipe:
-            pipe.write(octets)
-    threading.Thread(target=write_once, daemon=True).start()
-
-
 def compare_changes(program, tree):
     """a file is read when a row first names it, and never again"""
     write_tree(tree, {"Z/UTC": UTC, "Z/York": YORK, "Z/Cut": REFUSED["Cut"][0]})
-    give(f"{tree}/Z/Once", YORK)
-    os.mkfifo(f"{tree}/Z/Unnamed")                                         # whoever opens it waits for ever
-    before = [("Z/UTC", "utc"), ("Z/Late", "none"), ("Z/Cut", "none"), ("Z/Once", "york"), ("Z/York", "york")]
+    os.mkfifo(f"{tree}/Z/Pipe")                                            # whoever opens it waits for ever
+    before = [("Z/UTC", "utc"), ("Z/Late", "none"), ("Z/Cut", "none"), ("Z/Pipe", "none"), ("Z/York", "york")]
 
     def change():
         write(tree, "Z/UTC", YORK)
@@ -183,7 +171,7 @@ def compare_changes(program, tree):
         os.remove(f"{tree}/Z/York")
     after = [*before, ("Z/New", "utc")]
     words = ["--keep-going", "--tree", tree]
-    try_turns(program, words, [(nothing, before), (change, after), (nothing, after)], "row 2: RowZone\n6 rows with faults\n")
+    try_turns(program, words, [(nothing, before), (change, after), (nothing, after)], "row 2: RowZone\n9 rows with faults\n")
     files.report("rows by files that come, change and go while the program runs")
 
 

@@ -3,7 +3,9 @@
 
 use crate::samples::{expect_text, must};
 use zic_base::{Kind, RowKind};
-use zic_explain::{RecordForm, entries, expectation, line_place, nearest_zone, row_place};
+use zic_explain::{
+    RecordForm, entries, expectation, line_place, nearest_zone, row_place, shown_word,
+};
 use zic_plan::Unit;
 
 /// Two fields with a comma between them: the name of a zone and seconds.
@@ -46,4 +48,21 @@ fn no_zone_is_near_and_nothing_is_expected(rt: HostRuntime) {
     let entries = must(&rt, entries(rt.alloc()));
     let told = must(&rt, expectation(rt.alloc(), &entries, "no thread"));
     expect_text(&rt, told.as_bytes(), b"", "what is expected");
+}
+
+/// Words, and what is shown of them.
+const WORDS: [(&str, &str); 5] = [
+    ("a b/~\t", "a b/~\t"),
+    ("Z\u{fc}rich", "Z\u{fc}rich"),
+    ("\x1b[31m\n", "\\x1b[31m\\x0a"),
+    ("\x7f\u{fc}", "\\x7f\\xc3\\xbc"),
+    ("\u{9b}m", "\\xc2\\x9bm"),
+];
+
+#[test]
+fn words_are_shown_without_control_characters(rt: HostRuntime) {
+    for (word, want) in &WORDS {
+        let got = must(&rt, shown_word(rt.alloc(), *word));
+        expect_text(&rt, got.as_bytes(), want.as_bytes(), "a word");
+    }
 }

@@ -6,12 +6,12 @@ use crate::layout::layout;
 use crate::no_request::NoRequest;
 use clap::error::ErrorKind;
 use clap::{ArgMatches, Error};
-use std::alloc::Global;
+use std::alloc::{AllocError, Global};
 use std::rt::Env;
 use std::{env, io};
 use zic_base::STANDARD_INPUT;
 use zic_dump::Years;
-use zic_explain::{Unexplained, entries, explanation, index};
+use zic_explain::{Unexplained, entries, explanation, index, shown_word};
 use zic_plan::{Layout, Plan};
 
 /// What the names of Link lines are made as.
@@ -117,11 +117,10 @@ pub fn requested<R: Env + AllocGlobal>(rt: &R) -> Result<Asked, NoRequest> {
 ///
 /// The text of usage or of help, or memory ran out.
 pub fn parse(alloc: Global, words: &[String]) -> Result<Asked, NoRequest> {
-    let commands = commands(alloc)?;
-    let matches = match commands.try_get_matches_from(words) {
+    let matches = match commands(alloc)?.try_get_matches_from(words) {
         Ok(matches) => matches,
         Err(e) => return Ok(Asked {
-            request: unmatched(alloc, &e)?,
+            request: unmatched(alloc, words, &e)?,
             explain: false,
         }),
     };
@@ -149,14 +148,35 @@ fn command(alloc: Global, matches: &ArgMatches<'_>) -> Result<Request, NoRequest
 }
 
 /// Returns what words that are no command ask for: the version, if anything.
-fn unmatched(alloc: Global, e: &Error) -> Result<Request, NoRequest> {
+fn unmatched(alloc: Global, words: &[String], e: &Error) -> Result<Request, NoRequest> {
     match e.kind() {
         ErrorKind::OutOfMemory => Err(NoRequest::Memory),
         ErrorKind::DisplayVersion => Ok(Request::Version {
             text: e.to_string(alloc)?,
         }),
-        _ => Err(NoRequest::Usage(e.to_string(alloc)?)),
+        _ => Err(misused(alloc, words)?),
     }
+}
+
+/// Returns the refusal of words that are no command. Its text shows them without control characters.
+fn misused(alloc: Global, words: &[String]) -> Result<NoRequest, AllocError> {
+    let words = shown_words(alloc, words)?;
+    let Err(e) = commands(alloc)?.try_get_matches_from(&words) else {
+        return Ok(usage(alloc, "a word has control characters"));
+    };
+    match e.kind() {
+        ErrorKind::OutOfMemory => Ok(NoRequest::Memory),
+        _ => Ok(NoRequest::Usage(e.to_string(alloc)?)),
+    }
+}
+
+/// Returns the words as they are shown to people.
+fn shown_words(alloc: Global, words: &[String]) -> Result<Vec<String>, AllocError> {
+    let mut shown = Vec::new(alloc);
+    for word in words {
+        shown.push(shown_word(alloc, word.as_str())?)?;
+    }
+    Ok(shown)
 }
 
 fn check(alloc: Global, matches: &ArgMatches<'_>) -> Result<Request, NoRequest> {
@@ -312,8 +332,8 @@ fn optional(
     }
 }
 
-/// Returns the refusal of words that can't be what they are.
-pub(crate) fn usage(alloc: Global, text: &str) -> NoRequest {
+/// Returns the refusal of words that can't be what they are, with a text that says why.
+pub fn usage(alloc: Global, text: &str) -> NoRequest {
     match format!(in alloc; "error: {text}\n\nFor more information, try 'pzic --help'.\n") {
         Ok(text) => NoRequest::Usage(text),
         Err(_) => NoRequest::Memory,
@@ -322,10 +342,12 @@ pub(crate) fn usage(alloc: Global, text: &str) -> NoRequest {
 
 /// Returns the refusal of a word that is no instant.
 fn bad_instant(alloc: Global, word: &str) -> NoRequest {
+    let (first, last) = (i64::MIN, i64::MAX);
+    let Ok(word) = shown_word(alloc, word) else {
+        return NoRequest::Memory;
+    };
     match format!(in alloc;
-        "invalid value '{word}' for '<INSTANT>': not a whole number of seconds from {} to {}",
-        i64::MIN,
-        i64::MAX
+        "invalid value '{word}' for '<INSTANT>': not a whole number of seconds from {first} to {last}"
     ) {
         Ok(text) => usage(alloc, text.as_str()),
         Err(_) => NoRequest::Memory,
@@ -334,6 +356,9 @@ fn bad_instant(alloc: Global, word: &str) -> NoRequest {
 
 /// Returns the refusal of a word that is the name of no error.
 fn no_error(alloc: Global, name: &str, nearest: &str) -> NoRequest {
+    let Ok(name) = shown_word(alloc, name) else {
+        return NoRequest::Memory;
+    };
     match format!(in alloc; "no error has the name '{name}'; the nearest is '{nearest}'") {
         Ok(text) => usage(alloc, text.as_str()),
         Err(_) => NoRequest::Memory,

@@ -7,6 +7,6 @@ mod instant;
 mod layout;
 mod no_request;
 
-pub use command_line::{Asked, Conversion, Links, Request, Zones, parse, requested};
+pub use command_line::{Asked, Conversion, Links, Request, Zones, parse, requested, usage};
 pub use instant::parse_instant_word;
 pub use no_request::NoRequest;

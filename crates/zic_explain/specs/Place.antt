@@ -6,7 +6,11 @@ use Rattle.std.specs.Fmt.{decimal}
 abbrev pub IsShown : ℕ → Type 0
 IsShown byte = (byte ≡ 9) ⊎ ((byte ≡ 10) ⊎ ((32 ≤ byte) × (byte ≤ 126)))
 
--- the text has no other bytes
+-- a byte that no terminal takes for a command by itself: it is shown, or a part of a character beyond ASCII
+abbrev pub IsHarmless : ℕ → Type 0
+IsHarmless byte = IsShown byte ⊎ (128 ≤ byte)
+
+-- the text has no other bytes than those that are shown
 abbrev pub IsShownText : List ℕ → Type 0
 IsShownText text = All IsShown text
 

@@ -17,4 +17,5 @@ pub use entry::{Entry, entries};
 pub use explain::{Unexplained, expectation, explanation, index};
 pub use place::{line_place, row_place};
 pub use record::RecordForm;
+pub use shown::shown_word;
 pub use zones::nearest_zone;

@@ -1,17 +1,44 @@
-//! A line as it stands, with a part of it underlined.
+//! A line as it stands, with a part of it underlined, and words without control characters.
 
-ghost use Rattle.std.specs.Prelude.{OnOk, string_bytes};
-ghost use Rattle.zic_explain.specs.Place.{IsShown};
+ghost use Rattle.std.specs.Prelude.{All, IfOk, IsTrue, OnOk, string_bytes};
+ghost use Rattle.zic_explain.specs.Place.{IsHarmless, IsShown};
 ghost use Rattle.zic_explain.specs.code.Shown.{StaysShown};
 
 use crate::fields::Span;
-use std::alloc::AllocError;
+use std::alloc::{AllocError, Global};
 
 /// The greatest number of bytes that are shown of a line or a record.
 const WIDTH: usize = 200;
 
 /// The number of bytes that are shown before an underlined part that doesn't fit otherwise.
 const BEFORE: usize = 40;
+
+/// Returns a word as it is shown to people. One that has control characters is shown in ASCII, with
+/// each other byte as `\x1b`, so that a terminal takes none for a command.
+///
+/// # Errors
+///
+/// Memory ran out.
+pub fn shown_word(alloc: Global, word: &str) -> Result<String, AllocError>
+    ensures { IfOk result (λ shown. All IsHarmless (string_bytes shown)) }
+{
+    if is_harmless(word) {
+        return String::from_str(alloc, word);
+    }
+    let mut shown = String::new(alloc);
+    push_bytes(&mut shown, word.as_bytes())?;
+    Ok(shown)
+}
+
+/// Tells whether a word has no control characters: those of ASCII, and those that are encoded in two
+/// bytes of which the first is 0xc2.
+fn is_harmless(word: &str) -> bool
+    ensures { IsTrue result → All IsHarmless word.now }
+{
+    word.as_bytes().iter().all(
+        |byte| matches!(*byte, b'\t' | b' '..=b'~' | 0x80..=0xc1 | 0xc3..=0xff),
+    )
+}
 
 /// Adds a line, cut where it is long, and a line with `^` below the part of it. Bytes that a
 /// terminal could take for a command, or that aren't ASCII, are shown as `\x1b`.

@@ -7,14 +7,16 @@ use std::fs::Files;
 use std::slice;
 use zic_base::RowKind;
 use zic_command_line::{Request, Zones};
-use zic_explain::{RecordForm, entries, expectation, line_place, nearest_zone, row_place};
+use zic_explain::{
+    RecordForm, entries, expectation, line_place, nearest_zone, row_place, shown_word,
+};
 use zic_io::Failure;
 use zic_plan::{Header, Layout, ZoneFrom};
 
 /// Explains the failure of a request.
 #[derive(Drop)]
 pub struct Explainer {
-    /// The words that name sources or a file.
+    /// The words that name sources or a file, as they are shown to people.
     words: Vec<String>,
     /// The texts of the sources, which the caller adds once all of them are read.
     pub texts: Vec<Vec<u8>>,
@@ -203,11 +205,11 @@ fn folder_of(request: &Request) -> Result<Option<String>, AllocError> {
     }
 }
 
-/// Returns copies of the words of a request that name sources or a file.
+/// Returns the words of a request that name sources or a file, as they are shown to people.
 fn words_of(alloc: Global, request: &Request) -> Result<Vec<String>, AllocError> {
     let mut words = Vec::new(alloc);
     for word in named_in(request) {
-        words.push(word.clone()?)?;
+        words.push(shown_word(alloc, word.as_str())?)?;
     }
     Ok(words)
 }

@@ -1,8 +1,8 @@
 //! Why the file of a zone in a folder is refused.
 
 use std::alloc::{AllocError, Global};
-use std::fs::Files;
-use zic_explain::{entries, expectation};
+use std::fs::{self, Files};
+use zic_explain::{entries, expectation, shown_word};
 use zic_files::{Image, Unfit, ZoneTree};
 use zic_io::ZoneFolder;
 use zic_words::Name;
@@ -20,26 +20,51 @@ pub(crate) fn refused_file<R: Files + AllocGlobal>(
         return Ok(String::new(alloc));
     };
     let name = name?;
+    if is_special(rt, folder, &name)? {
+        return lines(alloc, folder, &name, "not a regular file");
+    }
     let Some(octets) = ZoneFolder::new(rt, folder).read(alloc, &name)? else {
         return Ok(String::new(alloc));
     };
     match Image::read(alloc, octets).err() {
         None => Ok(String::new(alloc)),
-        Some(unfit) => lines(alloc, folder, &name, unfit),
+        Some(unfit) => lines(alloc, folder, &name, reason(unfit)?),
+    }
+}
+
+/// Tells whether what has the name of a zone in a folder is no regular file.
+fn is_special<R: Files + AllocGlobal>(
+    rt: &R,
+    folder: &str,
+    name: &Name,
+) -> Result<bool, AllocError> {
+    let path = format!(in rt.alloc(); "{folder}/{}", text_of(name))?;
+    match fs::metadata(rt, path.as_str()) {
+        Ok(info) => Ok(!info.is_file()),
+        Err(_) => Ok(false),
+    }
+}
+
+/// Returns why no rows can be made of a file.
+fn reason(unfit: Unfit) -> Result<&'static str, AllocError> {
+    match unfit {
+        Unfit::Bad(reason) => Ok(reason.name()),
+        Unfit::NoFooter => Ok("an empty POSIX TZ string"),
+        Unfit::OutsideLimits => Ok("an offset or an abbreviation that no row may have"),
+        Unfit::Memory => Err(AllocError),
     }
 }
 
 /// Returns the lines for the file of a zone.
-fn lines(alloc: Global, folder: &str, name: &Name, unfit: Unfit) -> Result<String, AllocError> {
-    let reason = match unfit {
-        Unfit::Bad(reason) => reason.name(),
-        Unfit::NoFooter => "an empty POSIX TZ string",
-        Unfit::OutsideLimits => "an offset or an abbreviation that no row may have",
-        Unfit::Memory => return Err(AllocError),
-    };
-    let name = str::from_utf8(name.octets()).unwrap_or("");
+fn lines(alloc: Global, folder: &str, name: &Name, reason: &str) -> Result<String, AllocError> {
+    let (folder, name) = (shown_word(alloc, folder)?, text_of(name));
     let mut lines = format!(in alloc; "--> {folder}/{name}: {reason}\n")?;
     let entries = entries(alloc)?;
     lines.push_str(expectation(alloc, &entries, reason)?.as_str())?;
     Ok(lines)
+}
+
+/// Returns a name, which is ASCII, as text.
+fn text_of(name: &Name) -> &str {
+    str::from_utf8(name.octets()).unwrap_or("")
 }

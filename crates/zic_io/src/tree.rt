@@ -9,7 +9,7 @@ use std::alloc::{AllocError, AllocFailed, Global};
 use std::collections::HashSet;
 use std::fs::{self, File, Files as FileSystem};
 use std::io::{self, ErrorKind, Read, Write};
-use std::os::unix::fs::symlink;
+use std::os::unix::fs::{MetadataExt, symlink};
 
 /// The begin of the name under which a file or a link is made in its folder, before it is renamed. A
 /// number follows. No zone can have such a name.
@@ -17,6 +17,9 @@ const TEMPORARY: &str = "~pzic";
 
 /// The greatest number of times that a file or a link is made.
 const TRIES: u32 = 1_000;
+
+/// A path whose owner is the user of the process.
+const PROCESS: &str = "/proc/self";
 
 /// The number of bytes that are read of a folder's names at a time.
 const BLOCK: usize = 8_192;
@@ -98,8 +101,8 @@ pub trait Tree {
 ///
 /// Several runs may place files in one tree at the same time: each file is that of one of them, and
 /// whole. Each run has temporary names of its own. What a run that was ended left behind is removed
-/// by the next that enters the folder. That may remove a file or a link that another run is making,
-/// which then makes it again.
+/// by the next of the same user that enters the folder. That may remove a file or a link that another
+/// run is making, which then makes it again.
 #[derive(Drop)]
 pub struct Disk<'a, F> {
     alloc: Global,
@@ -126,7 +129,7 @@ enum Written {
     Placed,
     /// The temporary name is that of another file.
     Taken,
-    /// Another run removed it, or replaced what it links to, before it had its name.
+    /// It was removed before it had its name, or another run replaced what it links to.
     Removed,
 }
 
@@ -142,7 +145,7 @@ impl<'a, F: FileSystem> Disk<'a, F> {
         }
     }
 
-    /// Makes a folder, or removes the temporary files of other runs from it. Does so once.
+    /// Makes a folder, or removes the temporary files of earlier runs from it. Does so once.
     fn enter(&mut self, folder: &str) -> Result<(), Unplaced> {
         if self.folders.contains(folder) {
             return Ok(());
@@ -169,16 +172,30 @@ impl<'a, F: FileSystem> Disk<'a, F> {
         Ok(())
     }
 
-    /// Removes the temporary files of these names, of which a zero byte ends each, from a folder.
+    /// Removes the user's temporary files of these names, of which a zero byte ends each, from a folder.
     fn remove(&self, folder: &str, names: &[u8]) -> Result<(), AllocError> {
         for name in names.split(|byte| *byte == 0) {
             if let Some(name) = temporary_name(name) {
                 let path = path_in(self.alloc, folder, name)?;
-                // One that can't be removed is left.
-                let _ = fs::remove_file(self.system, path.as_str());
+                if self.is_own(path.as_str()) {
+                    // One that can't be removed is left.
+                    let _ = fs::remove_file(self.system, path.as_str());
+                }
             }
         }
         Ok(())
+    }
+
+    /// Tells whether a file belongs to the user of the process. Where the system doesn't tell, it
+    /// belongs to another.
+    fn is_own(&self, path: &str) -> bool {
+        match (
+            fs::symlink_metadata(self.system, path),
+            fs::metadata(self.system, PROCESS),
+        ) {
+            (Ok(file), Ok(process)) => file.uid() == process.uid(),
+            _ => false,
+        }
     }
 
     /// Makes a file or a link at a path.
@@ -189,10 +206,13 @@ impl<'a, F: FileSystem> Disk<'a, F> {
             let temporary = format!(in self.alloc; "{folder}/{TEMPORARY}{}", self.number)?;
             let temporary = temporary.as_str();
             let written = match content {
-                Content::Bytes(bytes) => self.write(temporary, path, bytes),
-                Content::Link(kind, target) => self.write_link(temporary, path, kind, target),
+                Content::Bytes(bytes) => self.write(temporary, path, bytes)?,
+                Content::Link(LinkKind::Hard, target) => self.write_link(temporary, path, target)?,
+                Content::Link(LinkKind::Symbolic, text) => {
+                    self.write_symlink(temporary, path, text)?
+                }
             };
-            match written? {
+            match written {
                 Written::Placed => return Ok(()),
                 Written::Taken => self.number = self.number.wrapping_add(1),
                 Written::Removed => {}
@@ -214,32 +234,48 @@ impl<'a, F: FileSystem> Disk<'a, F> {
         self.finish(temporary, placed)
     }
 
-    /// Makes the link under the temporary name, and then renames that to the path.
-    fn write_link(
-        &self,
-        temporary: &str,
-        path: &str,
-        kind: LinkKind,
-        target: &str,
-    ) -> io::Result<Written> {
-        let made = match kind {
-            LinkKind::Hard => fs::hard_link(self.system, target, temporary),
-            LinkKind::Symbolic => symlink(self.system, target, temporary),
-        };
-        match made {
+    /// Makes the hard link under the temporary name, and then renames that to the path.
+    fn write_link(&self, temporary: &str, path: &str, target: &str) -> io::Result<Written> {
+        match fs::hard_link(self.system, target, temporary) {
             Ok(()) => {}
             // Another run gave the path of the zone's file to a file of its own at that moment.
-            Err(e) if kind == LinkKind::Hard && e.kind() == ErrorKind::NotFound => {
-                return Ok(Written::Removed);
-            }
+            Err(e) if e.kind() == ErrorKind::NotFound => return Ok(Written::Removed),
             Err(e) => return unmade(e),
         }
         let written = self.finish(temporary, fs::rename(self.system, temporary, path));
-        if kind == LinkKind::Hard && written.is_ok() {
+        if written.is_ok() {
             // Where the path was a name of the same file before, both names are left.
             let _ = fs::remove_file(self.system, temporary);
         }
         written
+    }
+
+    /// Makes the symbolic link under the temporary name, and renames that to the path once the link
+    /// is known to lead to its file. Below a folder that is a link itself, `..` leads elsewhere.
+    fn write_symlink(&self, temporary: &str, path: &str, text: &str) -> Result<Written, Unplaced> {
+        let file = path_of_text(self.alloc, temporary, text)?;
+        if let Err(e) = symlink(self.system, text, temporary) {
+            return Ok(unmade(e)?);
+        }
+        match self.leads_to(temporary, file.as_str()) {
+            Ok(true) => Ok(self.finish(temporary, fs::rename(self.system, temporary, path))?),
+            // Another run gave the path of the zone's file to a file of its own at that moment.
+            Ok(false) => {
+                let _ = fs::remove_file(self.system, temporary);
+                Ok(Written::Removed)
+            }
+            Err(_) => match fs::remove_file(self.system, temporary) {
+                Err(gone) if gone.kind() == ErrorKind::NotFound => Ok(Written::Removed),
+                _ => Err(Unplaced::Refused),
+            },
+        }
+    }
+
+    /// Tells whether a symbolic link leads to the regular file at a path.
+    fn leads_to(&self, link: &str, path: &str) -> io::Result<bool> {
+        let found = fs::metadata(self.system, link)?;
+        let file = fs::metadata(self.system, path)?;
+        Ok(found.is_file() && found.dev() == file.dev() && found.ino() == file.ino())
     }
 
     /// Returns what came of a file or a link that was renamed. Removes the temporary name where that
@@ -283,11 +319,26 @@ fn parent(path: &str) -> &str {
     }
 }
 
+/// Returns the path of the text of a symbolic link: for each `../` at its begin one folder is left, of
+/// those that the path of the link names.
+fn path_of_text(alloc: Global, link: &str, text: &str) -> Result<String, AllocError> {
+    let mut folder = parent(link);
+    let mut rest = text;
+    for _ in 0..text.len() {
+        let Some(next) = rest.strip_prefix("../") else {
+            break;
+        };
+        rest = next;
+        folder = parent(folder);
+    }
+    path_in(alloc, folder, rest)
+}
+
 /// Returns the name of a file if it is a temporary one.
 fn temporary_name(name: &[u8]) -> Option<&str> {
     let name = str::from_utf8(name).ok()?;
     let number = name.strip_prefix(TEMPORARY)?;
-    if number.bytes().all(|byte| byte.is_ascii_digit()) {
+    if !number.is_empty() && number.bytes().all(|byte| byte.is_ascii_digit()) {
         Some(name)
     } else {
         None

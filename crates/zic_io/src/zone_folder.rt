@@ -3,7 +3,7 @@
 use crate::failure::Failure;
 use crate::sources::{path_in, read_file};
 use std::alloc::{AllocError, Global};
-use std::fs::Files as FileSystem;
+use std::fs::{self, Files as FileSystem};
 use std::str;
 use zic_files::ZoneTree;
 use zic_words::Name;
@@ -25,7 +25,8 @@ impl<'a, F: FileSystem> ZoneFolder<'a, F> {
 
 impl<F: FileSystem> ZoneTree for ZoneFolder<'_, F> {
     /// Reads the file of a name, or of a larger file as much as shows that it is too large to be a
-    /// TZif file. One that can't be opened or read counts as missing.
+    /// TZif file. One that can't be opened or read counts as missing, and so does what is no regular
+    /// file, such as a pipe or a device, which is not opened.
     fn read(&mut self, alloc: Global, name: &Name) -> Result<Option<Vec<u8>>, AllocError> {
         // A name is ASCII.
         let Ok(name) = str::from_utf8(name.octets()) else {
@@ -35,6 +36,10 @@ impl<F: FileSystem> ZoneTree for ZoneFolder<'_, F> {
             return Ok(None);
         }
         let path = path_in(alloc, self.path, name)?;
+        match fs::metadata(self.system, path.as_str()) {
+            Ok(info) if info.is_file() => {}
+            _ => return Ok(None),
+        }
         found(read_file(alloc, self.system, path.as_str()))
     }
 }

@@ -4,10 +4,14 @@
 #![tactic(auto)]
 
 mod failure;
+mod own_file;
+mod standard;
 
 use failure::Refusal;
+use own_file::expect_own_file;
+use standard::Standard;
 use std::alloc::{AllocError, Global};
-use std::fs::{self, File, Files};
+use std::fs::{self, Files};
 use std::io::{self, BufWriter, IsTerminal, Read, Write};
 use std::process::ExitCode;
 use std::random::RandomSource;
@@ -21,11 +25,17 @@ use zic_commands::{Disk, Failure, LinkKind, LinkedFolder, Progress, Told, TreeZo
 use zic_counted::{Counted, flush, write_all};
 use zic_dump::Years;
 use zic_failures::Explainer;
-use zic_io::{FaultList, ZoneFolder};
+use zic_io::{FaultList, ListFile, ZoneFolder};
 use zic_pieces::Open;
 use zic_plan::{Header, Plan};
 
+/// The status where a standard stream is closed, and nothing can stand in for it.
+const NO_STANDARD: u8 = 3;
+
 fn main(rt: HostRuntime) -> ExitCode {
+    let Ok(_standard) = Standard::hold(&rt) else {
+        return ExitCode::from(NO_STANDARD);
+    };
     match run(&rt, rt.stderr()) {
         Ok(()) => ExitCode::SUCCESS,
         Err(refusal) => {
@@ -41,6 +51,7 @@ fn run<
     E: Write + IsTerminal + Drop,
 >(rt: &R, errors: E) -> Result<(), Refusal> {
     let asked = zic_command_line::requested(rt)?;
+    expect_own_file(rt, &asked.request)?;
     if !asked.explain {
         let mut texts = Vec::new(rt.alloc());
         answer(rt, errors, asked.request, &mut texts)?;
@@ -212,7 +223,8 @@ fn expect_folder<R: Files>(rt: &R, path: &String) -> Result<(), Failure> {
     }
 }
 
-/// Converts standard input, and writes the faults of rows to the file of this path.
+/// Converts standard input, and writes the faults of rows to the file of this path. The file is made or
+/// emptied once rows are converted: what stops the run before leaves it as it is.
 fn convert_noted<
     R: Files + Input + Print + Clock + AllocGlobal + Threads + Wait + Sync,
     E: Write + Drop,
@@ -223,7 +235,7 @@ fn convert_noted<
     told: Told<E>,
     path: &String,
 ) -> Result<(), Failure> {
-    let Ok(file) = File::create(rt, path.as_str()) else {
+    let Ok(file) = ListFile::open(rt, path.as_str()) else {
         return Err(Failure::CannotWrite(path.clone()?));
     };
     let Ok(file) = BufWriter::new(rt.alloc(), file) else {
@@ -231,12 +243,24 @@ fn convert_noted<
     };
     let mut list = FaultList::new(Some(file));
     let converted = convert_rows(rt, order, texts, told, &mut list);
+    if list.first().is_none() && is_before_rows(&converted) {
+        return converted;
+    }
     let is_written = list.finish();
     match converted {
         Ok(()) | Err(Failure::Rows { .. }) if !is_written => {
             Err(Failure::CannotWrite(path.clone()?))
         }
         ended => ended,
+    }
+}
+
+/// Tells whether what a run without faults of rows ended with stopped it before its rows.
+fn is_before_rows(converted: &Result<(), Failure>) -> bool {
+    match converted {
+        Err(Failure::Line { .. } | Failure::TextLine { .. } | Failure::UnknownZone(_)) => true,
+        Err(Failure::Memory | Failure::NoThread) => true,
+        _ => false,
     }
 }
 

@@ -13,7 +13,7 @@ use std::thread::Threads;
 use zic_commands::*;
 use zic_counted::Counted;
 use zic_files::ZoneTree;
-use zic_io::ZoneFolder;
+use zic_io::{ListFile, ZoneFolder};
 
 /// Records calls, one of which fails with an error of this kind, this number of times.
 #[derive(Clone, Copy)]
@@ -122,19 +122,20 @@ impl<'a> Seek for DiskFile<'a> {
 
 impl<'a> OpenFile for DiskFile<'a> {
     fn metadata(&self) -> io::Result<Metadata> {
-        Err(io::Error::from(ErrorKind::Unsupported))
+        Ok(Metadata::of_file(1))
     }
 
-    fn set_len(&self, _size: u64) -> io::Result<()> {
-        Err(io::Error::from(ErrorKind::Unsupported))
+    fn set_len(&self, size: u64) -> io::Result<()> {
+        let size = size.to_string(self.log.alloc)?;
+        self.log.note("cut", size.as_str())
     }
 
     fn sync_all(&self) -> io::Result<()> {
-        self.log.note("sync", "")
+        Err(io::Error::from(ErrorKind::Unsupported))
     }
 
     fn sync_data(&self) -> io::Result<()> {
-        Err(io::Error::from(ErrorKind::Unsupported))
+        self.log.note("sync", "")
     }
 }
 
@@ -167,12 +168,18 @@ impl<'a> Files for Disk<'a> {
         })
     }
 
-    fn metadata(&self, _path: &str) -> io::Result<Metadata> {
-        Err(io::Error::from(ErrorKind::NotFound))
+    fn metadata(&self, path: &str) -> io::Result<Metadata> {
+        if self.log.fails.strip_prefix("metadata ") == Some(path) {
+            return Err(io::Error::from(self.log.kind));
+        }
+        if path == "D" {
+            return Ok(Metadata::of_dir());
+        }
+        Ok(Metadata::of_file(1))
     }
 
-    fn symlink_metadata(&self, _path: &str) -> io::Result<Metadata> {
-        Err(io::Error::from(ErrorKind::NotFound))
+    fn symlink_metadata(&self, path: &str) -> io::Result<Metadata> {
+        self.metadata(path)
     }
 
     fn copy(&self, _from: &str, _to: &str) -> io::Result<u64> {
@@ -266,7 +273,7 @@ type Links = (
     &'static str,
 );
 
-static ALL_LINKS: [Links; 8] = [
+static ALL_LINKS: [Links; 9] = [
     (
         LINK,
         LinkKind::Hard,
@@ -296,6 +303,14 @@ file D/Z/UTC\nlink D/L/M/~pzic7\ncannot write D/L/M/UTC, status 3",
         "list D/Z/\ncreate D/Z/~pzic7\nwrite 111\nflush \nrename D/Z/~pzic7\nto D/Z/UTC\nlist D/L/M/\n\
 file D/Z/UTC\nlink D/L/M/~pzic7\nfile D/Z/UTC\nlink D/L/M/~pzic7\nrename D/L/M/~pzic7\nto D/L/M/UTC\n\
 remove D/L/M/~pzic7\n",
+    ),
+    // the link leads to no file
+    (
+        LINK,
+        LinkKind::Symbolic,
+        ("metadata D/L/M/~pzic7", ErrorKind::NotFound),
+        "list D/Z/\ncreate D/Z/~pzic7\nwrite 111\nflush \nrename D/Z/~pzic7\nto D/Z/UTC\nlist D/L/M/\n\
+text ../../Z/UTC\nsymlink D/L/M/~pzic7\nremove D/L/M/~pzic7\ncannot write D/L/M/UTC, status 3",
     ),
     // another run has a file of the same name
     (
@@ -465,7 +480,7 @@ create D/~pzic7\nwrite 111\nflush \nrename D/~pzic7\nto D/B\n",
             ErrorKind::PermissionDenied,
             b"~pzic\0~pzic12\0~pzic1x\0x~pzic1\0~pzi\0\xff\0~pzic7\0",
         ),
-        "list D/\nremove D/~pzic\nremove D/~pzic12\nremove D/~pzic7\n\
+        "list D/\nremove D/~pzic12\nremove D/~pzic7\n\
 create D/~pzic7\nwrite 111\nflush \nrename D/~pzic7\nto D/A\n\
 create D/~pzic7\nwrite 111\nflush \nrename D/~pzic7\nto D/B\n",
     ),
@@ -601,4 +616,87 @@ fn the_file_of_a_zone_is_below_its_folder(rt: HostRuntime) {
     let none = zone_file(&rt, rt.alloc(), &disk, "Z/None");
     expect(&rt, none.is_empty(), "a file that can't be opened");
     expect_calls(&rt, calls, "", "open D/Etc/UTC\nopen D/Z/None\n");
+}
+
+/// What has no metadata, or none of a regular file, is not opened.
+#[test]
+fn what_is_no_regular_file_is_not_opened(rt: HostRuntime) {
+    let calls = RefCell::new(String::new(rt.alloc()));
+    let disk = Disk {
+        log: log_of(
+            rt.alloc(),
+            &calls,
+            ("metadata D/Etc/UTC", ErrorKind::NotFound),
+        ),
+        bytes: UTC_FILE,
+        names: b"",
+    };
+    let none = zone_file(&rt, rt.alloc(), &disk, "Etc/UTC");
+    expect(&rt, none.is_empty(), "a file without metadata");
+    expect_calls(&rt, calls, "", "");
+}
+
+/// Opens the list D/list, writes this number of lines to it, and flushes it.
+fn list_lines(disk: &Disk<'_>, lines: usize) -> io::Result<()> {
+    let mut file = ListFile::open(disk, "D/list")?;
+    disk.log.note("opened", "")?;
+    for _ in 0..lines {
+        file.write_all(b"1,Row\n")?;
+    }
+    file.flush()
+}
+
+/// The number of lines, the call that fails, and the calls, followed by what is told if one fails.
+type List = (usize, (&'static str, ErrorKind), &'static str);
+
+/// A file is emptied, or made, by the first write or flush, and its errors are those of the list.
+static LISTS: [List; 6] = [
+    (
+        2,
+        ("", ErrorKind::Other),
+        "open D/list\nopened \ncut 0\nwrite 6\nwrite 6\nflush \nsync \n",
+    ),
+    (
+        0,
+        ("", ErrorKind::Other),
+        "open D/list\nopened \ncut 0\nflush \nsync \n",
+    ),
+    // there is no file, but a folder for one
+    (
+        1,
+        ("open D/list", ErrorKind::NotFound),
+        "open D/list\nopened \nopen D/list\nwrite 6\nflush \nsync \n",
+    ),
+    (
+        1,
+        ("open D/list", ErrorKind::PermissionDenied),
+        "open D/list\nfailed",
+    ),
+    (
+        1,
+        ("cut 0", ErrorKind::Other),
+        "open D/list\nopened \ncut 0\nfailed",
+    ),
+    (
+        1,
+        ("sync ", ErrorKind::Other),
+        "open D/list\nopened \ncut 0\nwrite 6\nflush \nsync \nfailed",
+    ),
+];
+
+#[test]
+fn the_file_of_a_list_is_emptied_once_it_is_used(rt: HostRuntime) {
+    for (lines, fails, want) in &LISTS {
+        let calls = RefCell::new(String::new(rt.alloc()));
+        let disk = Disk {
+            log: log_of(rt.alloc(), &calls, *fails),
+            bytes: b"",
+            names: b"",
+        };
+        let told = match list_lines(&disk, *lines) {
+            Ok(()) => "",
+            Err(_) => "failed",
+        };
+        expect_calls(&rt, calls, told, *want);
+    }
 }

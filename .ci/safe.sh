@@ -1,0 +1,216 @@
+#!/usr/bin/env bash
+# Checks that the program overwrites nothing by surprise: standard streams that are closed, lists of
+# faults that are another file of the command, runs that stop before their rows, names that look like
+# leftovers of `build`, symbolic links that would lead to no file, control characters in words, and
+# trees with pipes and devices. As root, it makes leftovers of another user.
+set -euo pipefail
+cd "$(dirname "${BASH_SOURCE[0]}")/.."
+. .ci/build.sh
+
+build zic_main check -
+program=$PWD/crates/zic_main/out/zic_main
+cd "$work"
+mkdir asked
+cd asked
+calls=0
+differences=0
+
+differ() {
+    echo "$1" >&2
+    differences=$((differences + 1))
+}
+
+# told CALL STATUS OUT ERR: compares the last call's status, its output (../out) and its messages
+# (../err) with the expected ones.
+told() {
+    calls=$((calls + 1))
+    printf '%s' "${3:+$3$'\n'}" >../out.wanted
+    printf '%s' "${4:+$4$'\n'}" >../err.wanted
+    [ "$status" != "$2" ] || ! cmp -s ../out ../out.wanted || ! cmp -s ../err ../err.wanted || return 0
+    differ "$1: status $status, '$(head -c 200 ../out)', '$(head -c 200 ../err)', and not $2, '$3', '$4'"
+}
+
+# holds FILE TEXT: compares a file with what it has to hold.
+holds() {
+    calls=$((calls + 1))
+    [ "$(cat "$1" 2>/dev/null)" = "$2" ] || differ "$1 holds '$(head -c 200 "$1")', and not '$2'"
+}
+
+# convert WORD...: converts the column `column`.
+convert() {
+    status=0
+    timeout 20 "$program" convert "$@" <column >../out 2>../err || status=$?
+}
+
+# refused WORD...: expects that the words are refused, for a reason that begins with `the FILE of --faults`.
+refused() {
+    calls=$((calls + 1))
+    [ "$status" = 2 ] && grep -q '^error: the FILE of --faults is ' ../err ||
+        differ "$*: status $status, '$(head -c 200 ../err)', and not 2 with a word on FILE"
+}
+
+echo 'Zone Etc/UTC 0 - UTC' >utc.zi
+echo 'Zone Etc/UTC 0 -' >faulty.zi
+printf 'Etc/UTC,0\nNo,0\n' >column
+row=Etc/UTC,0,1970-01-01T00:00:00,+00:00:00,0,UTC
+rows=$row$'\nNo,0,,,,'
+faults=$'row 2: RowZone\n1 rows with faults'
+
+# ------------------------------------------------------------------ standard streams that are closed
+
+for words in 'convert --keep-going --faults list utc.zi' 'convert --keep-going utc.zi' 'check utc.zi'; do
+    rm -f list
+    status=0
+    # shellcheck disable=SC2086
+    "$program" $words <column 2>../err >&- || status=$?
+    : >../out
+    case $words in
+    check*) told "pzic $words >&-" 3 '' 'cannot write output' ;;
+    *) told "pzic $words >&-" 3 '' 'cannot write rows' ;;
+    esac
+    [ ! -s list ] || differ "pzic $words >&- wrote '$(cat list)' into the list"
+done
+status=0
+"$program" convert --progress --keep-going --faults list utc.zi <column >../out 2>&- || status=$?
+: >../err
+told 'pzic convert --progress --faults list 2>&-' 1 "$rows" ''
+holds list 2,RowZone
+status=0
+"$program" convert --keep-going --faults list utc.zi >../out 2>../err <&- || status=$?
+told 'pzic convert --faults list <&-' 3 '' 'cannot read column'
+status=0
+"$program" convert --progress --keep-going --faults list utc.zi <&- >&- 2>&- || status=$?
+: >../out
+: >../err
+told 'pzic convert --faults list <&- >&- 2>&-' 3 '' ''
+[ ! -s list ] || differ "without standard streams the list holds '$(cat list)'"
+
+# ------------------------------------------------------------------ the file of --faults
+
+"$program" build tree utc.zi
+for list in column utc.zi tree/Etc/UTC; do
+    ln -f "$list" name
+    ln -sf "$list" symbolic
+    cp "$list" ../before
+    for path in "$list" name symbolic; do
+        case $list in
+        tree/*) convert --keep-going --faults "$path" --tree tree ;;
+        *) convert --keep-going --faults "$path" utc.zi ;;
+        esac
+        refused "pzic convert --faults $path, of $list"
+        cmp -s "$list" ../before || differ "pzic convert --faults $path changed $list"
+    done
+done
+convert --keep-going --faults /dev/stdin utc.zi
+refused 'pzic convert --faults /dev/stdin'
+convert --keep-going --faults ../out utc.zi
+refused 'pzic convert --faults ../out >../out'
+status=0
+"$program" convert --keep-going --faults /dev/stdout utc.zi <column 2>../err | cat >../piped || status=${PIPESTATUS[0]}
+refused 'pzic convert --faults /dev/stdout, a pipe'
+[ ! -s ../piped ] || differ "pzic convert --faults /dev/stdout wrote '$(cat ../piped)'"
+status=0
+"$program" convert --keep-going --faults /dev/null utc.zi <column >/dev/null 2>../err || status=$?
+: >../out
+told 'pzic convert --faults /dev/null >/dev/null' 1 '' "$faults"
+
+# A list of an earlier run, and runs that stop before their rows.
+echo old >list
+convert --keep-going --faults list faulty.zi
+told 'pzic convert --faults list faulty.zi' 1 '' 'line 1: FieldCount'
+holds list old
+convert --keep-going --faults list nowhere.zi
+told 'pzic convert --faults list nowhere.zi' 3 '' 'cannot read nowhere.zi'
+holds list old
+convert --keep-going --faults list --zone No --time-field 2 utc.zi
+told 'pzic convert --faults list --zone No' 2 '' 'unknown zone No'
+holds list old
+convert --keep-going --faults list --tree nowhere
+told 'pzic convert --faults list --tree nowhere' 3 '' 'cannot read nowhere'
+holds list old
+convert --keep-going --faults none --zone No --time-field 2 utc.zi
+told 'pzic convert --faults none --zone No' 2 '' 'unknown zone No'
+[ ! -e none ] || differ 'a run that stopped before its rows made a list'
+convert --keep-going --faults list utc.zi
+told 'pzic convert --faults list utc.zi' 1 "$rows" "$faults"
+holds list 2,RowZone
+echo 0 >column
+convert --keep-going --faults list --zone Etc/UTC utc.zi
+told 'pzic convert --faults list, without faults' 0 "$row" ''
+holds list ''
+printf 'Etc/UTC,0\nNo,0\n' >column
+
+# ------------------------------------------------------------------ leftovers of build
+
+mkdir leftovers
+for name in '~pzic' '~pzic1' '~pzic12x' '~pzic34'; do : >"leftovers/$name"; done
+kept='~pzic ~pzic12x'
+if [ "$(id -u)" = 0 ]; then
+    chown nobody 'leftovers/~pzic34'
+    kept='~pzic ~pzic12x ~pzic34'
+fi
+echo 'Zone UTC 0 - UTC' | "$program" build leftovers -
+calls=$((calls + 1))
+got=$(cd leftovers && LC_ALL=C && echo *)
+[ "$got" = "UTC $kept" ] || differ "build left '$got', and not 'UTC $kept'"
+
+# ------------------------------------------------------------------ symbolic links
+
+mkdir -p linked elsewhere/deep
+ln -s ../elsewhere/deep linked/L
+printf 'Zone Etc/UTC 0 - UTC\nLink Etc/UTC L/UTC\n' >links.zi
+status=0
+"$program" build --links symlink linked links.zi >../out 2>../err || status=$?
+told 'pzic build --links symlink, below a link' 3 '' 'cannot write linked/L/UTC'
+calls=$((calls + 1))
+[ -z "$(ls -A elsewhere/deep)" ] || differ "build left '$(ls -A elsewhere/deep)' where no link can be"
+mkdir -p elsewhere/Etc
+: >elsewhere/Etc/UTC
+status=0
+"$program" build --links symlink linked links.zi >../out 2>../err || status=$?
+told 'pzic build --links symlink, to another file' 3 '' 'cannot write linked/L/UTC'
+status=0
+"$program" build --links symlink link.tree links.zi >../out 2>../err || status=$?
+told 'pzic build --links symlink' 0 '' ''
+cmp -s link.tree/L/UTC link.tree/Etc/UTC || differ 'a symbolic link leads to no file'
+
+# ------------------------------------------------------------------ control characters in words
+
+red=$'\e[31m'
+shown='\x1b[31m'
+for words in "$red" "check --$red" "show file $red" "explain $red" "convert --unit $red utc.zi" "dump --from $red tree/Etc/UTC"; do
+    # shellcheck disable=SC2086
+    "$program" $words >../out 2>../err && differ "pzic ${words//$red/$shown}: no error" || true
+    calls=$((calls + 1))
+    ! grep -q $'\e' ../err && grep -qF "$shown" ../err || differ "pzic ${words//$red/$shown}: '$(head -c 300 ../err)'"
+done
+cp faulty.zi "$red.zi"
+"$program" check --explain "$red.zi" 2>../err || true
+grep -qxF -- "--> $shown.zi:1" <(sed 's/, field.*//' ../err) && ! grep -q $'\e' ../err || differ "check --explain: '$(cat ../err)'"
+cp faulty.zi Zürich.zi
+"$program" check --explain Zürich.zi 2>../err || true
+grep -q -- '^--> Zürich.zi:1' ../err || differ "check --explain of a path beyond ASCII: '$(cat ../err)'"
+calls=$((calls + 2))
+
+# ------------------------------------------------------------------ pipes and devices in a tree
+
+mkdir special
+mkfifo special/Pipe
+ln -s /dev/stdin special/Input
+ln -s /dev/zero special/Device
+mkdir special/Folder
+printf 'Pipe,0\nInput,0\nDevice,0\nFolder,0\n' >column
+convert --keep-going --tree special
+told 'pzic convert --tree special' 1 $'Pipe,0,,,,\nInput,0,,,,\nDevice,0,,,,\nFolder,0,,,,' $'row 1: RowZone\n4 rows with faults'
+status=0
+(yes 'stdin,0' || true) 2>/dev/null | head -n 3 | timeout 20 "$program" convert --keep-going --tree /dev >../out 2>../err || status=$?
+told 'pzic convert --tree /dev' 1 $'stdin,0,,,,\nstdin,0,,,,\nstdin,0,,,,' $'row 1: RowZone\n3 rows with faults'
+convert --explain --tree special
+calls=$((calls + 1))
+grep -qxF -- '--> special/Pipe: not a regular file' ../err || differ "convert --explain of a pipe: '$(cat ../err)'"
+
+if [ "$differences" != 0 ]; then
+    echo "safe: $differences of $calls calls differ" >&2
+    exit 1
+fi
+echo "safe: $calls calls with closed streams, lists of faults, leftovers, links, control characters, pipes and devices overwrite nothing by surprise"

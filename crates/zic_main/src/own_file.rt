@@ -1,0 +1,79 @@
+//! The file for the faults of rows, which may be no file that the command reads or writes besides.
+
+use std::fs::{self, Files, Metadata};
+use std::io::Read;
+use std::os::unix::fs::{FileTypeExt, MetadataExt};
+use zic_command_line::{Conversion, NoRequest, Request, Zones, usage};
+
+/// Paths that lead to the files of standard input and of standard output.
+const INPUT: &str = "/dev/stdin";
+
+const OUTPUT: &str = "/dev/stdout";
+
+/// The first bytes of each TZif file.
+const MAGIC: &[u8; 4] = b"TZif";
+
+/// Refuses a request whose file for faults is one that the command reads or writes besides, under this
+/// or another name: standard input, standard output or the source. Refuses a TZif file too, which may be
+/// one of the folder of zones.
+///
+/// # Errors
+///
+/// The text of usage, or memory ran out.
+pub(crate) fn expect_own_file<R: Files + AllocGlobal>(
+    rt: &R,
+    request: &Request,
+) -> Result<(), NoRequest> {
+    let Request::Convert(order) = request else {
+        return Ok(());
+    };
+    let Some(path) = &order.faults else {
+        return Ok(());
+    };
+    match other_use(rt, order, path.as_str()) {
+        Some(text) => Err(usage(rt.alloc(), text)),
+        None => Ok(()),
+    }
+}
+
+/// Returns what else the command has a file for, if anything.
+fn other_use<R: Files>(rt: &R, order: &Conversion, path: &str) -> Option<&'static str> {
+    let file = fs::metadata(rt, path).ok()?;
+    if is_same(rt, &file, INPUT) {
+        return Some("the FILE of --faults is standard input, the column");
+    }
+    if is_same(rt, &file, OUTPUT) {
+        return Some("the FILE of --faults is standard output, which has the rows");
+    }
+    match &order.zones {
+        Zones::Source(source) if is_same(rt, &file, source.as_str()) => {
+            Some("the FILE of --faults is the SOURCE")
+        }
+        _ if file.is_file() && is_zone_file(rt, path) => {
+            Some("the FILE of --faults is a TZif file")
+        }
+        _ => None,
+    }
+}
+
+/// Tells whether a file is the one at a path. A device of characters, such as a terminal or `/dev/null`,
+/// counts as another: nothing in it is lost.
+fn is_same<R: Files>(rt: &R, file: &Metadata, path: &str) -> bool {
+    match fs::metadata(rt, path) {
+        Ok(other) => {
+            file.dev() == other.dev()
+                && file.ino() == other.ino()
+                && !file.file_type().is_char_device()
+        }
+        Err(_) => false,
+    }
+}
+
+/// Tells whether the file at a path is a TZif file, by its first bytes.
+fn is_zone_file<R: Files>(rt: &R, path: &str) -> bool {
+    let Ok(mut file) = fs::open(rt, path) else {
+        return false;
+    };
+    let mut bytes = [0; 4];
+    file.read_exact(&mut bytes).is_ok() && &bytes == MAGIC
+}
