@@ -108,15 +108,16 @@ impl<'a> Zones for SourceZones<'a> {
         &mut self,
         alloc: Global,
         _zone: &ZoneFrom,
-        _round: &Round<'_>,
+        round: &Round<'_>,
     ) -> Result<(), AllocError> {
         match self.rounds {
             Rounds::None => self.rounds = Rounds::One,
-            Rounds::One => {
+            // The round after the last has no piece.
+            Rounds::One if 0 < round.len() => {
                 self.ready = ready_of(alloc, self.files, Expected::ManyRows)?;
                 self.rounds = Rounds::Several;
             }
-            Rounds::Several => {}
+            Rounds::One | Rounds::Several => {}
         }
         Ok(())
     }
