@@ -19,7 +19,7 @@ pub(crate) struct PlainFields {
     time: Span,
 }
 
-/// Returns the record of these fields that stands from an index up to another.
+/// Returns the record of these fields, whose own bytes are those from one index up to another.
 #[inline(always)]
 fn record_of(start: usize, end: usize, fields: PlainFields) -> Record
     ensures { result ≡ record_of start end fields }

@@ -34,7 +34,7 @@ pub(crate) struct MarchDay {
     pub(crate) day: u32,
 }
 
-/// Returns the day that is so many days after 0001-01-01.
+/// Returns the day that is this many days after 0001-01-01.
 #[inline(always)]
 pub(crate) fn march_day(day: u32) -> MarchDay
     requires { day < DAYS }

@@ -229,7 +229,7 @@ fn a_slow_reader_is_not_waited_for(rt: HostRuntime) {
     }
 }
 
-/// Returns a column of equal rows, of so many bytes and 3 more each.
+/// Returns a column of equal rows, of this many bytes and 3 more each.
 fn rows_of(rt: &impl Abort, alloc: Global, count: u32, len: usize) -> Vec<u8> {
     let mut column = Vec::new(alloc);
     for _ in 0..count {
