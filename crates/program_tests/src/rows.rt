@@ -140,6 +140,7 @@ fn what_is_no_quick_time(rt: HostRuntime) {
 fn commas_make_way_for_another_delimiter(rt: HostRuntime) {
     let mut text = RowText::new(rt.alloc());
     must(&rt, text.push(b"a,b;c\nd,e;f\n"));
-    text.exchange(6, b';');
+    let second_line = text.len().min(6);
+    text.exchange(second_line, b';');
     expect_text(&rt, text.bytes(), b"a,b;c\nd;e,f\n", "the second line");
 }
