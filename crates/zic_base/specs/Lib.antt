@@ -8,5 +8,7 @@ pub mod Option
 pub mod Check
 pub mod Byte
 pub mod Digits
+pub mod Number
+pub mod Growth
 pub mod State
 pub mod code

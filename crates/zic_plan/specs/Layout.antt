@@ -7,6 +7,7 @@ use Rattle.zic_plan.specs.declared.layout.FieldCount.TheVariants as fields
 use Rattle.zic_plan.specs.declared.layout.Header.{Header}
 use Rattle.zic_plan.specs.declared.layout.Header.TheVariants as header
 use Rattle.zic_plan.specs.declared.layout.RowStart.TheVariants as starts
+use Rattle.zic_plan.specs.declared.layout.TimeFrom.TheVariants as times
 use Rattle.zic_plan.specs.declared.layout.Unit.TheVariants as units
 use Rattle.zic_plan.specs.declared.layout.ZoneFrom.TheVariants as from
 
@@ -19,12 +20,14 @@ has_count (fields.AtLeast n) count = nat_le n count
 abbrev pub records_before : Header → ℕ
 records_before header.Absent = 0
 records_before header.First = 1
+records_before header.Skipped = 1
 
 -- A record has two fields, the name of a zone and seconds, with a comma between them. Rows begin with these fields, and the first fault
 -- ends the conversion.
 pub record HasPlainRows (layout : Layout) : Type 0 where
   pub zone : layout.zone ≡ from.Field 0
   pub time : layout.time ≡ 1
+  pub from : layout.from ≡ times.Count
   pub count : layout.count ≡ fields.Exactly 2
   pub unit : layout.unit ≡ units.Second
   pub delimiter : layout.delimiter ≡ 44

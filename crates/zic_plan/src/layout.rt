@@ -14,6 +14,15 @@ pub enum Unit {
     Nanosecond,
 }
 
+/// How the field of the instant has it.
+#[derive(Clone, Copy, Debug, PartialEq, Eq)]
+pub enum TimeFrom {
+    /// As a count of units.
+    Count,
+    /// As a date and a time of day with a UT offset, `2007-03-11T01:59:59-05:00`. RFC 3339, 5.6.
+    Rfc3339,
+}
+
 /// Where the zone of a row comes from.
 #[derive(Debug, Drop)]
 pub enum ZoneFrom {
@@ -42,11 +51,16 @@ impl FieldCount {
     }
 }
 
-/// Whether the first record of a column is a header, which makes no row and isn't counted.
+/// Whether the first record of a column is a header, which makes no row and isn't counted, and
+/// whether a header is written before the rows.
 #[derive(Clone, Copy, Debug, PartialEq, Eq)]
 pub enum Header {
+    /// The column has none, and none is written.
     Absent,
+    /// The first record is one, and one is written.
     First,
+    /// The first record is one, and none is written: the rows are those of a later part.
+    Skipped,
 }
 
 /// What a row begins with.
@@ -75,6 +89,8 @@ pub struct Layout {
     pub zone: ZoneFrom,
     /// The index of the field of the instant, from 0.
     pub time: usize,
+    /// How that field has it.
+    pub from: TimeFrom,
     /// How many fields each record has.
     pub count: FieldCount,
     /// What the instants count.
@@ -99,6 +115,7 @@ impl Layout {
         Layout {
             zone: ZoneFrom::Field(0),
             time: 1,
+            from: TimeFrom::Count,
             count: FieldCount::Exactly(2),
             unit: Unit::Second,
             delimiter: Delimiter::comma(),
@@ -114,11 +131,12 @@ impl Layout {
         ensures { IsTrue result → HasPlainRows self.now }
     {
         let zone = matches!(&self.zone, ZoneFrom::Field(0));
+        let from = matches!(self.from, TimeFrom::Count);
         let count = matches!(self.count, FieldCount::Exactly(2));
         let unit = matches!(self.unit, Unit::Second);
         let start = matches!(self.start, RowStart::Fields);
         let at_fault = matches!(self.at_fault, AtFault::End);
         let fields = zone && self.time == 1 && count && unit && self.delimiter.byte() == b',';
-        fields && start && at_fault
+        fields && from && start && at_fault
     }
 }

@@ -16,7 +16,8 @@ use Rattle.zic_words.specs.declared.time.TheConstants.{MAX_DIGITS, GREATEST_OFFS
 use Rattle.zic_words.specs.declared.year.TheConstants.{FIRST_YEAR, LAST_YEAR}
 use Rattle.zic_words.specs.Parts.{split_at_most_once}
 use Rattle.zic_words.specs.Dash.{is_dash}
-use Rattle.zic_words.specs.Time.{number, magnitude, nearest_second, whole_seconds, is_negative, signed_seconds, offset_of, IsWithin}
+use Rattle.zic_base.specs.Number.{number, is_negative}
+use Rattle.zic_words.specs.Time.{magnitude, nearest_second, whole_seconds, signed_seconds, offset_of, IsWithin}
 use Rattle.zic_words.specs.Clock.{clock_time_of, time_by, clock_suffix, last_byte, without_last}
 use Rattle.zic_words.specs.Saving.{saving_of, saving_by, daylight_suffix}
 use Rattle.zic_words.specs.Year.{year_of, last_year_of, is_only, is_maximum, IsYear}
@@ -56,8 +57,8 @@ first_of (Some x) other P if_one if_other = if_one
 whole_within : (limit : ℕ) (text : List ℕ) → IfSome (whole_seconds limit text) (λ s. s ≤ limit)
 unfolding whole_seconds
 whole_within limit text =
-    bound (λ time. cond (nat_le (nearest_second time) limit) (Some (nearest_second time)) None) (magnitude text) (λ time. Unit {0}) (λ s. s ≤ limit) (any (magnitude text))
-    (λ time _. passed (nat_le (nearest_second time) limit) (nearest_second time) (λ s. s ≤ limit) (λ e. leb-true (nearest_second time) limit e))
+    bound (λ time. cond (nat_le time limit) (Some time) None) (option_map nearest_second (magnitude text)) (λ time. Unit {0}) (λ s. s ≤ limit) (any (option_map nearest_second (magnitude text)))
+    (λ time _. passed (nat_le time limit) time (λ s. s ≤ limit) (λ e. leb-true time limit e))
 
 negative : (limit n : ℕ) → n ≤ limit → IsWithin limit (neg_ℤ (pos n))
 negative limit zero le = le

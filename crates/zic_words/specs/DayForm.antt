@@ -9,7 +9,7 @@ use Rattle.zic_calendar.specs.declared.day_form.On.TheVariants.{Day, Last, After
 use Rattle.zic_calendar.specs.DayForm.{FormFits}
 use Rattle.zic_words.specs.Parts.{split_at_most_once}
 use Rattle.zic_words.specs.Word.{only_word}
-use Rattle.zic_words.specs.Time.{number}
+use Rattle.zic_base.specs.Number.{number}
 
 -- the weekdays in order, in lower case
 abbrev pub weekday_words : List (List ℕ)

@@ -6,7 +6,7 @@ use Rattle.zic_calendar.specs.Calendar.{is_leap_year}
 use Rattle.zic_words.specs.declared.time.TheConstants.{MAX_DIGITS}
 use Rattle.zic_words.specs.declared.year.TheConstants.{FIRST_YEAR, LAST_YEAR}
 use Rattle.zic_words.specs.Word.{begins_word}
-use Rattle.zic_words.specs.Time.{number}
+use Rattle.zic_base.specs.Number.{number}
 
 -- a year that a line may name
 abbrev pub IsYear : ℕ → Type 0

@@ -1,8 +1,8 @@
 //! Times and offsets.
 
-ghost use Rattle.std.specs.Prelude.{◌≡◌, ◌+◌, ◌*◌, ◌^◌, ◌<◌, ◌≤◌, List, IfSome, length, option_map, pos, ◌==◌};
-ghost use Rattle.std.specs.List.{slice_split};
-ghost use Rattle.zic_words.specs.Time.{number, sixtieths, decimals, seconds_of, minutes_from, magnitude, whole_seconds, signed_seconds, offset_of, IsNearestSecond, IsWithin};
+ghost use Rattle.std.specs.Prelude.{◌≡◌, ◌+◌, ◌*◌, ◌^◌, ◌<◌, ◌≤◌, IfSome, Some, length, option_map};
+ghost use Rattle.zic_base.specs.Number.{number};
+ghost use Rattle.zic_words.specs.Time.{sixtieths, decimals, seconds_of, magnitude, whole_seconds, signed_seconds, offset_of, IsNearestSecond, IsWithin};
 
 use crate::dash::is_dash;
 use crate::split::{split_at_most_once, split_once};
@@ -26,7 +26,7 @@ struct Time {
 }
 
 /// Returns the number that the text spells in decimal digits, from one to `most` of them.
-#[tactic(auto, unfolding(crate::specs::Time::number))]
+#[tactic(auto, unfolding(zic_base::specs::Number::number))]
 pub(crate) fn number(most: usize, text: &[u8]) -> Option<u32>
     requires { most ≤ MAX_DIGITS }
     ensures value { result ≡ number most text.now }
@@ -59,7 +59,7 @@ fn sixtieths(text: &[u8]) -> Option<u64>
 /// Returns the billionths that one to nine decimals of a second name.
 #[tactic(auto, unfolding(crate::specs::Time::decimals))]
 fn decimals(text: &[u8]) -> Option<u32>
-    ensures value { result ≡ decimals text.now }
+    ensures value { result ≡ decimals (Some text.now) }
     ensures fits { IfSome result (λ n. n < 10 ^ 9) }
 {
     let n = number(MAX_DIGITS, text)?;
@@ -67,7 +67,7 @@ fn decimals(text: &[u8]) -> Option<u32>
 }
 
 /// Returns a time of seconds below 60, with decimals where there is a point.
-#[tactic(auto, unfolding(crate::specs::Time::seconds_of))]
+#[tactic(auto, unfolding(crate::specs::Time::seconds_of, crate::specs::Time::decimals))]
 fn seconds(text: &[u8]) -> Option<Time>
     ensures value { option_map (λ time. 10 ^ 9 * time.seconds + time.billionths) result
         ≡ seconds_of text.now }
@@ -86,33 +86,8 @@ fn seconds(text: &[u8]) -> Option<Time>
     })
 }
 
-/// Returns a time of minutes, or of minutes and seconds.
-#[tactic(auto, unfolding(crate::specs::Time::minutes_from, crate::specs::Parts::split_at_most_once))]
-fn minutes(text: &[u8]) -> Option<Time>
-    ensures value { option_map (λ time. 10 ^ 9 * time.seconds + time.billionths) result
-        ≡ minutes_from (slice_split (λ byte. byte == 58) text.now) }
-    ensures seconds { IfSome result (λ time. time.seconds < 3600) }
-    ensures billionths { IfSome result (λ time. time.billionths < 10 ^ 9) }
-{
-    let (minutes, rest) = split_at_most_once(text, b':')?;
-    let minutes = 60 * sixtieths(minutes)?;
-    match rest {
-        Some(rest) => {
-            let rest = seconds(rest)?;
-            Some(Time {
-                seconds: minutes + rest.seconds,
-                billionths: rest.billionths,
-            })
-        }
-        None => Some(Time {
-            seconds: minutes,
-            billionths: 0,
-        }),
-    }
-}
-
 /// Returns a time without a sign, of hours, of hours and minutes, or of hours, minutes and seconds.
-#[tactic(auto, unfolding(crate::specs::Time::magnitude_from))]
+#[tactic(auto, unfolding(crate::specs::Time::magnitude, crate::specs::Parts::split_at_most_once))]
 fn magnitude(text: &[u8]) -> Option<Time>
     ensures value { option_map (λ time. 10 ^ 9 * time.seconds + time.billionths) result
         ≡ magnitude text.now }
@@ -121,26 +96,25 @@ fn magnitude(text: &[u8]) -> Option<Time>
 {
     let (hours, rest) = split_once(text, b':');
     let hours = 3600 * u64::from(number(MAX_DIGITS, hours)?);
-    match rest {
-        Some(rest) => {
-            // Most times are hours and minutes.
-            if let Some(minutes) = sixtieths(rest) {
-                return Some(Time {
-                    seconds: hours + 60 * minutes,
-                    billionths: 0,
-                });
-            }
-            let rest = minutes(rest)?;
-            Some(Time {
-                seconds: hours + rest.seconds,
-                billionths: rest.billionths,
-            })
-        }
-        None => Some(Time {
+    let Some(rest) = rest else {
+        return Some(Time {
             seconds: hours,
             billionths: 0,
-        }),
-    }
+        });
+    };
+    let (minutes, rest) = split_at_most_once(rest, b':')?;
+    let whole = hours + 60 * sixtieths(minutes)?;
+    let Some(rest) = rest else {
+        return Some(Time {
+            seconds: whole,
+            billionths: 0,
+        });
+    };
+    let rest = seconds(rest)?;
+    Some(Time {
+        seconds: whole + rest.seconds,
+        billionths: rest.billionths,
+    })
 }
 
 /// Returns the whole second that is nearest to a time, and of two that are as near the even one.
