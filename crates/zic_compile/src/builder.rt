@@ -13,9 +13,10 @@ use std::sync::Wait;
 use std::thread::Threads;
 use zic_base::RunStop;
 use zic_files::{Files, Image};
+use zic_occurrences::ListedSource;
 use zic_pieces::{Gate, TaskStop, run_task};
 use zic_plan::Plan;
-use zic_source::{Fault, Source, read_source};
+use zic_source::{Fault, read_source};
 
 /// Returns the files of all Zone and Link lines of the texts, in the order of the texts and their
 /// lines: a zone's with its image, a link's with that of the zone at the end of its chain. Each,
@@ -39,7 +40,8 @@ pub fn build<R: Threads + Wait + Sync, G: Gate + Sync>(
     ensures err { IfErr result (IsStopOfBuild (texts_of texts.now)) }
 {
     let source = read_source(alloc, texts)?;
-    let images = images_by(rt, alloc, &source, plan, gate)?;
+    let listed = ListedSource::new(alloc, &source);
+    let images = images_by(rt, alloc, &listed, plan, gate)?;
     let files = files_of(alloc, &source, images)?;
     Ok(files)
 }
@@ -48,7 +50,7 @@ pub fn build<R: Threads + Wait + Sync, G: Gate + Sync>(
 fn images_by<R: Threads + Wait + Sync, G: Gate + Sync>(
     rt: &R,
     alloc: Global,
-    source: &Source,
+    source: &ListedSource<'_>,
     plan: &Plan,
     gate: &G,
 ) -> Result<Vec<Image>, RunStop>

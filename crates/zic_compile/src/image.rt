@@ -12,8 +12,8 @@ use std::alloc::{AllocError, Global};
 use zic_base::Stop;
 use zic_files::Image;
 use zic_footer::make;
+use zic_occurrences::ListedSource;
 use zic_rules::timeline;
-use zic_source::Source;
 use zic_table::table;
 use zic_tzif::{ReadStop, Table, Zone, read, write};
 
@@ -24,16 +24,17 @@ use zic_tzif::{ReadStop, Table, Zone, read, write};
 /// Returns the fault of the zone's states, else of its footer, else of its table, at the place of
 /// its Zone line, and `Memory` only for a zone in none of whose lines an offset is out of range. A
 /// zone of one line without a set whose states or footer have a fault takes no memory.
-pub fn image_of(alloc: Global, source: &Source, zone: usize) -> Result<Image, Stop>
+pub fn image_of(alloc: Global, source: &ListedSource<'_>, zone: usize) -> Result<Image, Stop>
     requires { zone < length source.now.zones }
     ensures ok { IfOk result (IsImageOf (zone_of source.now zone)) }
     ensures reads { IfOk result (ReadsAs (zone_of source.now zone)) }
     ensures err { IfRefusal fault_of result (IsFaultOfZone (zone_of source.now zone)) }
     ensures memory { OnOutOfMemory fault_of result (ImageNeedsMemory (zone_of source.now zone)) }
 {
+    let lines = source.source();
     // `zones` also tells that the source is sound.
-    prove!(zone < source.zones());
-    let place = source.line(zone, 0).place;
+    prove!(zone < lines.zones());
+    let place = lines.line(zone, 0).place;
     let states = timeline(alloc, source, zone)?;
     let footer = make(alloc, place, &states)?;
     let table = table(alloc, place, &states, &footer)?;

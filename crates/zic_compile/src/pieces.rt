@@ -4,12 +4,13 @@ ghost use Rattle.std.specs.Prelude.{◌≡◌, ◌≤◌, ◌<◌, ◌+◌, IfOk
 ghost use Rattle.zic_plan.specs.declared.plan.TheConstants.{MAX_OF_PIECE};
 ghost use Rattle.zic_compile.specs.code.Pieces.{ArePieces, count_of, start_of};
 
-use crate::images::images_of;
+use crate::images::images_within;
 use std::alloc::{AllocError, Global};
 use std::marker::Model;
 use zic_files::Image;
+use zic_occurrences::ListedSource;
 use zic_pieces::{PieceStop, Task};
-use zic_source::{Fault, MAX_NAMES, Source, Stop};
+use zic_source::{Fault, MAX_NAMES, Stop};
 
 /// The images of the zones of a piece.
 #[derive(Drop)]
@@ -29,7 +30,7 @@ impl Model for Images {
 /// The zones of a source, and the number of them that a piece has.
 #[derive(Drop)]
 pub(crate) struct ZonePieces<'a> {
-    source: &'a Source,
+    listed: &'a ListedSource<'a>,
     size: usize,
 }
 
@@ -38,22 +39,22 @@ impl<'a> Model for ZonePieces<'a> {
 
     ghost Value = { Pieces };
 
-    ghost view = { λ z. record { source = z.source.now; size = z.size } };
+    ghost view = { λ z. record { source = z.listed.now; size = z.size } };
 
-    ghost invariant = { λ z. ArePieces (record { source = z.source.now; size = z.size }) };
+    ghost invariant = { λ z. ArePieces (record { source = z.listed.now; size = z.size }) };
 }
 
 impl<'a> ZonePieces<'a> {
     /// Returns the zones of a source in pieces of this size.
-    pub(crate) fn new(source: &'a Source, size: usize) -> ZonePieces<'a>
+    pub(crate) fn new(listed: &'a ListedSource<'a>, size: usize) -> ZonePieces<'a>
         requires size { (1 ≤ size) × (size ≤ MAX_OF_PIECE) }
-        ensures source { result.source ≡ source.now }
+        ensures source { result.source ≡ listed.now }
         ensures sound { ArePieces result }
         ensures few { count_of result ≤ 4294967296 }
     {
         // `zones` also tells that there are few.
-        prove!(source.zones() <= MAX_NAMES);
-        ZonePieces { source, size }
+        prove!(listed.source().zones() <= MAX_NAMES);
+        ZonePieces { listed, size }
     }
 
     /// Returns the number of the first zone of a piece, and of the end of the piece before it.
@@ -61,7 +62,7 @@ impl<'a> ZonePieces<'a> {
         requires { i ≤ count_of self.now }
         ensures { result ≡ start_of self.now i }
     {
-        (i as usize * self.size).min(self.source.zones())
+        (i as usize * self.size).min(self.listed.source().zones())
     }
 }
 
@@ -79,7 +80,7 @@ impl<'a> Task for ZonePieces<'a> {
     ghost outcome = { IsOutcomeOf };
 
     fn pieces(&self) -> u64 {
-        self.source.zones().div_ceil(self.size) as u64
+        self.listed.source().zones().div_ceil(self.size) as u64
     }
 
     /// Returns the images of the zones of a piece. Memory runs out only at a zone whose image may
@@ -90,7 +91,7 @@ impl<'a> Task for ZonePieces<'a> {
         ensures memory { result ≡ Err PieceStop.Memory
             → NeedsMemoryWithin self.now.source (start_of self.now i) (start_of self.now (i + 1)) }
     {
-        match images_of(alloc, self.source, self.start(i), self.start(i + 1)) {
+        match images_within(alloc, self.listed, self.start(i), self.start(i + 1)) {
             Ok(images) => Ok(Images { images }),
             Err(Stop::Fault(fault)) => Err(PieceStop::Fault(fault)),
             Err(Stop::Memory) => Err(PieceStop::Memory),

@@ -17,3 +17,4 @@ pub mod Ties
 pub mod Chosen
 pub mod Walked
 pub mod Outcomes
+pub mod SharedLists

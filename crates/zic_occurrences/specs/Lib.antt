@@ -1,5 +1,6 @@
 pub mod code
 pub mod Laws
+pub mod LineItems
 pub mod Listing
 pub mod Occurrence
 pub mod Order

@@ -3,3 +3,4 @@ pub mod Walk
 pub mod Nominals
 pub mod Timed
 pub mod Apart
+pub mod Shared

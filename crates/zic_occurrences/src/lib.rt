@@ -4,10 +4,12 @@
 
 mod apart;
 pub mod laws;
+mod listed_source;
 mod nominal;
 mod occurrence;
 mod walk;
 
+pub use listed_source::ListedSource;
 pub use nominal::{nominal_second, year_second};
-pub use occurrence::{TimedOccurrence, last_named_year, occurrences};
+pub use occurrence::{LineOccurrences, TimedOccurrence, last_named_year, occurrences};
 pub use walk::instant_by;

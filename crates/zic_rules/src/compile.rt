@@ -20,7 +20,8 @@ use crate::zone::Zone;
 use crate::zone_state::ZoneState;
 use std::alloc::Global;
 use zic_base::{Kind, Stop, ZoneStop};
-use zic_source::{MAX_RULES, Source};
+use zic_occurrences::ListedSource;
+use zic_source::MAX_RULES;
 
 /// Returns all that a zone shows before its explicit end, and the rules that go on for ever after
 /// it; the zone by its number from 0.
@@ -31,7 +32,11 @@ use zic_source::{MAX_RULES, Source};
 /// line before it; `NoLetter` where at some instant FORMAT wants a letter and there is none;
 /// `BadAbbreviation` where at some instant the zone shows what is no abbreviation. `OffsetRange`,
 /// and a zone of one line without a set, take no memory.
-pub fn timeline<'a>(alloc: Global, source: &'a Source, zone: usize) -> Result<Timeline<'a>, Stop>
+pub fn timeline<'a>(
+    alloc: Global,
+    source: &'a ListedSource<'a>,
+    zone: usize,
+) -> Result<Timeline<'a>, Stop>
     requires { zone < length source.now.zones }
     ensures ok { IfOk result (λ t. t ≡ zone_of source.now zone) }
     ensures sound { IfOk result IsSound }
@@ -41,7 +46,8 @@ pub fn timeline<'a>(alloc: Global, source: &'a Source, zone: usize) -> Result<Ti
     ensures fixed { OnOutOfMemory fault_of result (IsFixed (zone_of source.now zone) → ⊥) }
 {
     let zone = Zone {
-        source,
+        source: source.source(),
+        listed: source,
         number: zone,
     };
     match compiled(alloc, zone) {

@@ -69,8 +69,9 @@ fn add_line(
     let Some(until) = line.until else {
         unreachable!()
     };
-    let found = line_occurrences(alloc, zone.source, line, until.year + 2)?;
-    let Some(end) = until_instant(zone.source, line, &found) else {
+    let occurrences = line_occurrences(alloc, zone, line, until.year + 2)?;
+    let found = occurrences.items();
+    let Some(end) = until_instant(zone.source, line, found) else {
         unreachable!()
     };
     if let Some(start) = start {
@@ -78,7 +79,7 @@ fn add_line(
             return Err(not_rising(alloc, zone, number + 1));
         }
     }
-    add_periods(zone, number, start, end, &found, periods)?;
+    add_periods(zone, number, start, end, found, periods)?;
     Ok(end)
 }
 
@@ -105,8 +106,9 @@ fn add_last(
 {
     let line = zone.line(number);
     let end = end_of(zone, number, line, start);
-    let found = line_occurrences(alloc, zone.source, line, year_of(end) + 2)?;
-    add_periods(zone, number, start, end, &found, periods)?;
+    let occurrences = line_occurrences(alloc, zone, line, year_of(end) + 2)?;
+    let found = occurrences.items();
+    add_periods(zone, number, start, end, found, periods)?;
     Ok(end)
 }
 
@@ -132,7 +134,7 @@ fn order_of_rest(alloc: Global, zone: Zone<'_>, next: usize) -> Result<(), ZoneS
     ensures err { IfRefusal kind_of result (IsFaultOfPeriods (the_zone zone.entry)) }
 {
     for number in next..zone.lines() {
-        line_occurrences(alloc, zone.source, zone.line(number), 0)?;
+        line_occurrences(alloc, zone, zone.line(number), 0)?;
     }
     Ok(())
 }

@@ -1,16 +1,20 @@
 //! Zones of a source.
 
-ghost use Rattle.std.specs.Prelude.{◌<◌, length};
+ghost use Rattle.std.specs.Prelude.{◌≡◌, ◌<◌, length};
 
 use zic_base::Place;
+use zic_occurrences::ListedSource;
 use zic_source::{Source, ZoneLine};
 
 /// A zone of a source, by its number from 0 in the order of the texts and their lines.
 #[derive(Clone, Copy)]
 pub(crate) struct Zone<'a> {
     pub(crate) source: &'a Source,
+    /// The source with what its zones share.
+    pub(crate) listed: &'a ListedSource<'a>,
     pub(crate) number: usize,
     pub(crate) ghost is_zone: { number < length source.now.zones },
+    pub(crate) ghost is_listed: { listed.now ≡ source.now },
 }
 
 impl<'a> Zone<'a> {

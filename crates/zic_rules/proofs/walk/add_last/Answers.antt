@@ -5,6 +5,7 @@ use Rattle.std.proofs.lemmas.Result.{err_from_is_err_and}
 use Rattle.zic_base.specs.Fault.{kind_of}
 use Rattle.zic_base.proofs.Elements.{got}
 use Rattle.zic_occurrences.specs.declared.occurrence.TimedOccurrence.{TimedOccurrence}
+use Rattle.zic_occurrences.specs.LineItems.{items_of}
 use Rattle.zic_states.specs.ByList.{before}
 use Rattle.zic_states.specs.End.{IsYearOf, IsEnd}
 use Rattle.zic_rules.specs.code.Period.{the_zone}
@@ -36,12 +37,12 @@ line_occurrences-requires-clause-before c =
     let of = subst (λ (t : ℤ). IsYearOf t (pos c.year_of.result)) (cast 9900 end (omega arith) c.end_of-end.ensures.in_years) c.year_of.ensures in
     omega (arith, year_before end c.year_of.result 9900 of c.end_of-end.ensures.in_years.1)
 
-pub returns-in_err-found-clause-err : goal.returns-in_err-found-clause-err
-returns-in_err-found-clause-err c =
+pub returns-in_err-occurrences-clause-err : goal.returns-in_err-occurrences-clause-err
+returns-in_err-occurrences-clause-err c =
     let zone = the_zone c.args.zone in
     let at = c.line-line.ensures.line in
     let p = err_from_is_err_and c.from_residual.result c.from_residual.ensures.1 in
-    rw (p.1, p.2) (IfSome_then (kind_of c.in_err-found.field-0.0) c.in_err-found.ensures.err
+    rw (p.1, p.2) (IfSome_then (kind_of c.in_err-occurrences.field-0.0) c.in_err-occurrences.ensures.err
     (λ fault h. fault_of_order zone c.args.number c.line-line.result.now fault at h))
 
 pub add_periods-requires-clause-start : goal.add_periods-requires-clause-start
@@ -64,15 +65,15 @@ add_periods-requires-clause-line c =
     let of = subst (λ (t : ℤ). IsYearOf t (pos c.year_of.result)) same c.year_of.ensures in
     let none = last_has_none zone found.0 n line c.requires.sound found.1 (c.requires.number found.0 found.1) at in
     let is = starts zone n c.args.start c.args.periods.now.items c.requires.walked.so_far in
-    let own = line_to_end zone n c.args.start end c.year_of.result line c.in_ok-found.found.items c.requires.sound at none is c.in_ok-found.ensures.order c.in_ok-found.ensures.all c.end_of-end.ensures of in
-    subst (λ (e : ℤ). IsLineTo zone n c.args.start e (before c.deref.result.now e)) (sym same)
-    (subst (λ (xs : List TimedOccurrence). IsLineTo zone n c.args.start end (before xs end)) (sym c.deref.ensures.value) own)
+    let own = line_to_end zone n c.args.start end c.year_of.result line (items_of c.in_ok-occurrences.occurrences) c.requires.sound at none is c.in_ok-occurrences.ensures.order c.in_ok-occurrences.ensures.all c.end_of-end.ensures of in
+    subst (λ (e : ℤ). IsLineTo zone n c.args.start e (before c.items-found.result.now e)) (sym same)
+    (subst (λ (xs : List TimedOccurrence). IsLineTo zone n c.args.start end (before xs end)) (sym c.items-found.ensures) own)
 
 pub returns-clause-order : goal.returns-clause-order
 returns-clause-order c =
     let zone = the_zone c.args.zone in
     let at = c.line-line.ensures.line in
-    more_ordered zone c.args.number c.line-line.result.now c.requires.walked.ordered at c.in_ok-found.ensures.order
+    more_ordered zone c.args.number c.line-line.result.now c.requires.walked.ordered at c.in_ok-occurrences.ensures.order
 
 pub returns-clause-end : goal.returns-clause-end
 returns-clause-end c =

@@ -6,6 +6,7 @@ use Rattle.std.proofs.lemmas.Result.{err_from_is_err_and}
 use Rattle.zic_base.specs.Fault.{kind_of}
 use Rattle.zic_base.proofs.Elements.{got}
 use Rattle.zic_occurrences.specs.declared.occurrence.TimedOccurrence.{TimedOccurrence}
+use Rattle.zic_occurrences.specs.LineItems.{items_of}
 use Rattle.zic_states.specs.ByList.{before}
 use Rattle.zic_states.proofs.LineWalk.{le_from_test, lt_from_test}
 use Rattle.zic_rules.specs.code.Period.{the_zone}
@@ -26,12 +27,12 @@ unreachable-requires c =
     let at = c.line-line.ensures.line in
     until_stands zone found.0 c.args.number c.line-line.result.now c.requires.sound found.1 (c.requires.number found.0 found.1) at c.in_default.is
 
-pub returns-in_err-found-clause-err : goal.returns-in_err-found-clause-err
-returns-in_err-found-clause-err c =
+pub returns-in_err-occurrences-clause-err : goal.returns-in_err-occurrences-clause-err
+returns-in_err-occurrences-clause-err c =
     let zone = the_zone c.args.zone in
     let at = c.line-line.ensures.line in
     let p = err_from_is_err_and c.from_residual.result c.from_residual.ensures.1 in
-    rw (p.1, p.2) (IfSome_then (kind_of c.in_err-found.field-0.0) c.in_err-found.ensures.err
+    rw (p.1, p.2) (IfSome_then (kind_of c.in_err-occurrences.field-0.0) c.in_err-occurrences.ensures.err
     (λ fault h. fault_of_order zone c.args.number c.line-line.result.now fault at h))
 
 pub overflow_add-number : goal.overflow_add-number
@@ -46,7 +47,7 @@ not_rising-requires-clause-order c =
     let zone = the_zone c.args.zone in
     let n = c.args.number in
     let at = c.line-line.ensures.line in
-    subst (AreOrderedTo zone) (sym (add-one n)) (more_ordered zone n c.line-line.result.now c.requires.walked.ordered at c.in_ok-found.ensures.order)
+    subst (AreOrderedTo zone) (sym (add-one n)) (more_ordered zone n c.line-line.result.now c.requires.walked.ordered at c.in_ok-occurrences.ensures.order)
 
 pub not_rising-requires-clause-falls : goal.not_rising-requires-clause-falls
 not_rising-requires-clause-falls c =
@@ -103,11 +104,11 @@ add_periods-requires-clause-line c =
       | in-Some-start+else-end-start w ↦ w.start-is ∙ sym w.in-Some-start.is
       | in_default-start w ↦ w.start-is
     ] in
-    let own = line_to_until zone n c.args.start end line c.in-Some.until c.in_ok-found.found.items c.requires.sound at c.in-Some.is is
-    c.in_ok-found.ensures.order c.in_ok-found.ensures.all c.in-Some-until_instant.ensures in
-    subst (λ (o : Option ℤ). IsLineTo zone n o (to_z w64 (of_z w64 end)) (before c.deref-2.result.now (to_z w64 (of_z w64 end)))) (sym begun)
-    (subst (λ (e : ℤ). IsLineTo zone n c.args.start e (before c.deref-2.result.now e)) (sym same)
-    (subst (λ (xs : List TimedOccurrence). IsLineTo zone n c.args.start end (before xs end)) (sym c.deref-2.ensures.value) own))
+    let own = line_to_until zone n c.args.start end line c.in-Some.until (items_of c.in_ok-occurrences.occurrences) c.requires.sound at c.in-Some.is is
+    c.in_ok-occurrences.ensures.order c.in_ok-occurrences.ensures.all c.in-Some-until_instant.ensures in
+    subst (λ (o : Option ℤ). IsLineTo zone n o (to_z w64 (of_z w64 end)) (before c.items-found.result.now (to_z w64 (of_z w64 end)))) (sym begun)
+    (subst (λ (e : ℤ). IsLineTo zone n c.args.start e (before c.items-found.result.now e)) (sym same)
+    (subst (λ (xs : List TimedOccurrence). IsLineTo zone n c.args.start end (before xs end)) (sym c.items-found.ensures) own))
 
 pub returns-clause-walked : goal.returns-clause-walked
 returns-clause-walked c =
@@ -131,7 +132,7 @@ returns-clause-walked c =
       | in_default-start w ↦ subst Before (sym w.in_default-start.is) tt
     ] in
     let items = c.add_periods.new.periods.items in
-    let ordered = more_ordered zone n line c.requires.walked.ordered at c.in_ok-found.ensures.order in
+    let ordered = more_ordered zone n line c.requires.walked.ordered at c.in_ok-occurrences.ensures.order in
     let own : IsWalkedTo zone (suc n) (Some end) items = record {
       ordered = ordered;
       rising = more_rise zone n c.args.start end c.requires.sound ordered c.requires.walked.rising is (IfSome_then c.args.start lt (λ s h. h.1)) ends;

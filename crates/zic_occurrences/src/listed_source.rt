@@ -1,0 +1,283 @@
+//! Occurrences that the zones of a source share.
+
+ghost use Rattle.std.specs.Prelude.{◌≡◌, ◌<◌, ◌≤◌, length, IfOk, IfSome};
+ghost use Rattle.zic_source.specs.Sound.{IsSoundLine, IsWithinDay};
+ghost use Rattle.zic_occurrences.specs.Order.{IsInOrder};
+ghost use Rattle.zic_occurrences.specs.Listing.{AreOccurrencesTo};
+ghost use Rattle.zic_occurrences.specs.code.Shared.{IsListing, IsTimedListing, IsListingOf, IsTimedListingOf, AreListings, AreTimedListings};
+
+use crate::occurrence::{
+    Listing, TimedListing, TimedOccurrence, last_named_year, list_set, timed_if_in_order,
+};
+use std::alloc::{AllocError, Global};
+use std::marker::Model;
+use zic_source::{Rules, Source, ZoneLine};
+use zic_words::SetName;
+
+/// The number of years after its start, or after the last year that its set names, in which the
+/// occurrences of a last line are asked for: its explicit end is three years later.
+const YEARS_OF_LAST_LINE: u16 = 6;
+
+/// The same after the UNTIL of another line.
+const YEARS_AFTER_UNTIL: u16 = 2;
+
+/// The last year in which occurrences can be asked for.
+const LATEST_YEAR: u16 = 9999;
+
+/// The fewest lines that share occurrences.
+const FEWEST_LINES: u32 = 2;
+
+/// What the lines of zones ask for of a set.
+#[derive(Clone, Copy)]
+struct Asked {
+    /// The number of lines that name the set.
+    lines: u32,
+    /// The year before which they ask for its occurrences.
+    before: u16,
+    /// The standard UT offset of the first of them, in seconds, positive east.
+    offset: i32,
+    /// Whether another has another offset.
+    offsets_differ: bool,
+    ghost within_day: { IsWithinDay offset },
+}
+
+/// A source, with the occurrences of its sets, so that its zones share what is listed once. Clauses
+/// see the source.
+#[derive(Drop)]
+pub struct ListedSource<'a> {
+    source: &'a Source,
+    /// The occurrences of sets on whose lines standard time has different UT offsets, by the number
+    /// of the set's first rule. `None` of other rules and sets, and where memory ran out.
+    listings: Vec<Option<Listing>>,
+    /// The same of sets on whose lines it has one, with their instants.
+    timed: Vec<Option<TimedListing>>,
+}
+
+impl<'a> Model for ListedSource<'a> {
+    ghost use Rattle.zic_source.specs.Source.{SourceLines};
+    ghost use Rattle.zic_occurrences.specs.code.Shared.{AreListings, AreTimedListings};
+
+    ghost Value = { SourceLines };
+
+    ghost view = { λ s. s.source.now };
+
+    ghost invariant = { λ s. AreListings s.source.now.rules s.listings.items
+        × AreTimedListings s.source.now.rules s.timed.items };
+}
+
+impl<'a> ListedSource<'a> {
+    /// Returns a source with the occurrences of each set that two or more Zone or continuation lines
+    /// name, as far as there is memory for them. Others are listed for each line that needs them.
+    pub fn new(alloc: Global, source: &'a Source) -> ListedSource<'a>
+        ensures { result ≡ source.now }
+    {
+        let all = match asked_of(alloc, source) {
+            Ok(all) => all,
+            Err(_) => Vec::new(alloc),
+        };
+        let listings = match listings_of(alloc, source, &all) {
+            Ok(listings) => listings,
+            Err(_) => Vec::new(alloc),
+        };
+        let timed = match timed_of(alloc, source, &all) {
+            Ok(timed) => timed,
+            Err(_) => Vec::new(alloc),
+        };
+        ListedSource {
+            source,
+            listings,
+            timed,
+        }
+    }
+
+    /// Returns the source.
+    pub fn source(&self) -> &'a Source
+        ensures { result.now ≡ self.now }
+    {
+        self.source
+    }
+
+    /// Returns the occurrences of a set, if they are listed without instants.
+    pub(crate) fn listing(&self, set: &SetName) -> Option<&Listing>
+        ensures { IfSome result
+            (λ shared. IsListing (record { rules = self.now.rules; name = set.now }) shared.now) }
+    {
+        let first = *self.source.set_rules(set).first()?;
+        self.listings.get(first)?.as_ref()
+    }
+
+    /// Returns the occurrences of a set with their instants, if these are listed.
+    fn timed_listing(&self, set: &SetName) -> Option<&TimedListing>
+        ensures { IfSome result (λ shared. IsTimedListing
+            (record { rules = self.now.rules; name = set.now }) shared.now) }
+    {
+        let first = *self.source.set_rules(set).first()?;
+        self.timed.get(first)?.as_ref()
+    }
+
+    /// Returns the occurrences of a set before a year with their instants on lines of a standard UT
+    /// offset, if these are listed.
+    pub(crate) fn timed(
+        &self,
+        set: &SetName,
+        offset: i32,
+        before: u16,
+    ) -> Option<&[TimedOccurrence]>
+        ensures { IfSome result (λ shared.
+            IsInOrder (record { rules = self.now.rules; name = set.now }) offset
+            × AreOccurrencesTo (record { rules = self.now.rules; name = set.now }) offset before
+            shared.now) }
+    {
+        let timed = self.timed_listing(set)?;
+        if timed.offset != offset || timed.last < before {
+            return None;
+        }
+        Some(&timed.occurrences)
+    }
+}
+
+/// Returns the occurrences of sets on whose lines standard time has different UT offsets, by the
+/// number of their set's first rule.
+fn listings_of(
+    alloc: Global,
+    source: &Source,
+    all: &[Asked],
+) -> Result<Vec<Option<Listing>>, AllocError>
+    requires { length all.now ≤ length source.now.rules }
+    ensures { IfOk result (λ made. AreListings source.now.rules made.items) }
+{
+    let mut listings = Vec::with_capacity(alloc, all.len())?;
+    for (number, asked) in all.iter().enumerate() {
+        listings.push(listing_of(alloc, source, number, *asked))?;
+    }
+    Ok(listings)
+}
+
+/// Returns the occurrences of the set of the rule of this number, if lines of different offsets share
+/// them and there is memory.
+fn listing_of(alloc: Global, source: &Source, number: usize, asked: Asked) -> Option<Listing>
+    requires { number < length source.now.rules }
+    ensures { IfSome result (IsListingOf source.now.rules number) }
+{
+    if asked.lines < FEWEST_LINES || !asked.offsets_differ {
+        return None;
+    }
+    let set = &source.rule(number).name;
+    match list_set(alloc, source, set, asked.before.min(LATEST_YEAR)) {
+        Ok(listing) => Some(listing),
+        Err(_) => None,
+    }
+}
+
+/// Returns the occurrences of sets on whose lines standard time has one UT offset with their
+/// instants, by the number of their set's first rule.
+fn timed_of(
+    alloc: Global,
+    source: &Source,
+    all: &[Asked],
+) -> Result<Vec<Option<TimedListing>>, AllocError>
+    requires { length all.now ≤ length source.now.rules }
+    ensures { IfOk result (λ made. AreTimedListings source.now.rules made.items) }
+{
+    let mut timed = Vec::with_capacity(alloc, all.len())?;
+    for (number, asked) in all.iter().enumerate() {
+        timed.push(timed_listing_of(alloc, source, number, *asked))?;
+    }
+    Ok(timed)
+}
+
+/// Returns the occurrences of the set of the rule of this number with their instants, if lines of one
+/// offset share them, the set is in order on these, and there is memory.
+fn timed_listing_of(
+    alloc: Global,
+    source: &Source,
+    number: usize,
+    asked: Asked,
+) -> Option<TimedListing>
+    requires { number < length source.now.rules }
+    ensures { IfSome result (IsTimedListingOf source.now.rules number) }
+{
+    if asked.lines < FEWEST_LINES || asked.offsets_differ {
+        return None;
+    }
+    let set = &source.rule(number).name;
+    match list_set(alloc, source, set, asked.before.min(LATEST_YEAR)) {
+        Ok(listing) => timed_if_in_order(alloc, source, set, asked.offset, &listing),
+        Err(_) => None,
+    }
+}
+
+/// Returns for the first rule of each set what lines ask for of it, and nothing for other rules.
+fn asked_of(alloc: Global, source: &Source) -> Result<Vec<Asked>, AllocError>
+    ensures { IfOk result (λ all. length all.items ≡ length source.now.rules) }
+{
+    let none = Asked {
+        lines: 0,
+        before: 0,
+        offset: 0,
+        offsets_differ: false,
+    };
+    let mut all = vec![in alloc; none; source.rules()]?;
+    for zone in 0..source.zones() {
+        note_zone(source, zone, &mut all);
+    }
+    Ok(all)
+}
+
+/// Notes what the lines of a zone ask for.
+fn note_zone(source: &Source, zone: usize, all: &mut [Asked])
+    requires { zone < length source.now.zones }
+    ensures { length all.new ≡ length all.old }
+{
+    let mut start = 0;
+    for number in 0..source.lines(zone) {
+        let line = source.line(zone, number);
+        note_line(source, line, start, all);
+        if let Some(until) = line.until {
+            start = until.year;
+        }
+    }
+}
+
+/// Notes what a line that starts in this year asks for of its set.
+fn note_line(source: &Source, line: &ZoneLine, start: u16, all: &mut [Asked])
+    requires { IsSoundLine source.now.rules line.now }
+    ensures { length all.new ≡ length all.old }
+{
+    let Rules::Set(set) = &line.rules else {
+        return;
+    };
+    let before = match line.until {
+        Some(until) => until.year.saturating_add(YEARS_AFTER_UNTIL),
+        None => last_named_year(source, set)
+            .max(start)
+            .saturating_add(YEARS_OF_LAST_LINE),
+    };
+    let Some(first) = source.set_rules(set).first() else {
+        return;
+    };
+    if let Some(asked) = all.get_mut(*first) {
+        *asked = with_line(*asked, line.offset, before);
+    }
+}
+
+/// Returns what lines ask for of a set together with one more, of this standard UT offset, that asks
+/// for its occurrences before a year.
+fn with_line(asked: Asked, offset: i32, before: u16) -> Asked
+    requires { IsWithinDay offset }
+{
+    if asked.lines == 0 {
+        return Asked {
+            lines: 1,
+            before,
+            offset,
+            offsets_differ: false,
+        };
+    }
+    Asked {
+        lines: asked.lines.saturating_add(1),
+        before: before.max(asked.before),
+        offset: asked.offset,
+        offsets_differ: asked.offsets_differ || asked.offset != offset,
+    }
+}
