@@ -5,13 +5,13 @@ use Rattle.zic_rows.specs.code.March.{march_text}
 use Rattle.zic_rows.specs.declared.march.TheConstants.{DAY_TEXTS}
 
 -- two texts are the same
-abbrev same : List ℕ → List ℕ → Bool
+abbrev pub same : List ℕ → List ℕ → Bool
 same [] [] = true
 same [] (b ∷ ys) = false
 same (a ∷ xs) [] = false
 same (a ∷ xs) (b ∷ ys) = eqb a b && same xs ys
 
-same_is : (xs ys : List ℕ) → T (same xs ys) → xs ≡ ys
+pub same_is : (xs ys : List ℕ) → T (same xs ys) → xs ≡ ys
 same_is [] [] h = refl
 same_is [] (b ∷ ys) h = absurd h
 same_is (a ∷ xs) [] h = absurd h

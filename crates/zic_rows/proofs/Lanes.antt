@@ -12,7 +12,7 @@ use Rattle.std.specs.Prelude.{nat_le, Some}
 use Rattle.std.specs.Char.{is_ascii_digit}
 use Rattle.std.specs.List.{list_all}
 use lib.Ieee.Fits.{and_l, and_r}
-use Rattle.zic_rows.specs.Instant.{number}
+use Rattle.zic_base.specs.Number.{number}
 use Rattle.zic_rows.specs.declared.wide.TheConstants.{FIRST_TWO, LAST_TWO}
 use Rattle.zic_rows.specs.code.Lanes.{lanes_of, lane_value}
 

@@ -9,3 +9,5 @@ pub mod Counts
 pub mod PlainTimes
 pub mod MarchDates
 pub mod DayTexts
+pub mod ClockTexts
+pub mod DateTimes

@@ -8,7 +8,8 @@ use Rattle.std.proofs.lemmas.Bool.{and_parts, leb-true}
 use Rattle.std.proofs.lemmas.Bool.Decides.{nat_tests}
 use Rattle.std.proofs.lemmas.Fmt.{decimal-digits_value, first_decimal, decimal_digit}
 use Rattle.std.proofs.lemmas.Str.Parse.{IsNumeralModel, numerals_by_fold, digits_value_short}
-use Rattle.zic_rows.specs.Instant.{decimal_value, number, instant_of}
+use Rattle.zic_base.specs.Number.{decimal_value, number}
+use Rattle.zic_rows.specs.Instant.{instant_of}
 
 own : IsNumeralModel (λ (ds : List ℕ). list_all is_ascii_digit ds ≡ true) (fold (λ (n digit : ℕ). 10 * n + (digit - 48)) 0)
 own = numerals_by_fold (λ (ds : List ℕ). list_all is_ascii_digit ds ≡ true) (search rules) (fold (λ (n digit : ℕ). 10 * n + (digit - 48))) (search rules)

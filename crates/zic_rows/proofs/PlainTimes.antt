@@ -9,7 +9,7 @@ use Rattle.std.specs.List.{list_all}
 use Rattle.std.specs.Fmt.{decimal}
 use Rattle.zic_plan.specs.declared.layout.Unit.{Unit}
 use Rattle.zic_rows.specs.Count.{count_of, fraction_digits, units_of_second}
-use Rattle.zic_rows.specs.Instant.{decimal_value, is_negative, number}
+use Rattle.zic_base.specs.Number.{decimal_value, is_negative, number}
 use Rattle.zic_rows.specs.PlainTime.{IsPlainTime}
 use Rattle.zic_rows.specs.code.PlainNumber.{IsPlainNumber}
 use Rattle.zic_rows.proofs.PlainInstants.{plain_if, read_number}

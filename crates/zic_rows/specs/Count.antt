@@ -1,13 +1,13 @@
 -- The instant of a row as a count of units, perhaps parts of a second, from 1970-01-01T00:00:00 UT, without leap seconds: own choice.
-use Rattle.std.specs.Prelude.{ℕ, ◌+◌, ◌/◌, ◌%◌, ℤ, pos, neg_ℤ, unsigned_abs, List, [], ◌∷◌, ◌++◌, drop, Option, option_map, if◌then◌else◌}
+use Rattle.std.specs.Prelude.{ℕ, ◌+◌, ◌/◌, ◌%◌, ℤ, pos, unsigned_abs, List, [], ◌∷◌, ◌++◌, Option}
 use Rattle.std.specs.Int.{int_div_euclid, int_rem_euclid}
 use Rattle.std.specs.Fmt.{signed_decimal}
 use Rattle.zic_base.specs.Digits.{two_digits}
+use Rattle.zic_base.specs.Number.{number, signed}
 use Rattle.zic_base.specs.State.{Shown}
 use Rattle.zic_plan.specs.declared.layout.Unit.{Unit}
 use Rattle.zic_plan.specs.declared.layout.Unit.TheVariants as unit
 use Rattle.zic_rows.specs.declared.limit.TheConstants.{MAX_DIGITS}
-use Rattle.zic_rows.specs.Instant.{is_negative, number}
 use Rattle.zic_rows.specs.Row.{local_text, state_text}
 
 -- the digits of a fraction of a second
@@ -26,9 +26,7 @@ units_of_second unit.Nanosecond = 1_000_000_000
 
 -- the count of a field: a number of 1 to 18 digits and those of a fraction, perhaps after a `-`
 unfoldable pub count_of : Unit → List ℕ → Option ℤ
-count_of u field =
-    if is_negative field then option_map (λ n. neg_ℤ (pos n)) (number (MAX_DIGITS + fraction_digits u) (drop 1 field))
-    else option_map pos (number (MAX_DIGITS + fraction_digits u) field)
+count_of u field = signed (number (MAX_DIGITS + fraction_digits u)) field
 
 -- the whole second of a count, rounded down, also before 1970
 abbrev pub second_of : Unit → ℤ → ℤ

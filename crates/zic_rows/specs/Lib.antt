@@ -2,5 +2,6 @@ pub mod Instant
 pub mod Local
 pub mod Row
 pub mod Count
+pub mod DateTime
 pub mod PlainTime
 pub mod code

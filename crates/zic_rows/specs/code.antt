@@ -3,3 +3,4 @@ pub mod Kept
 pub mod PlainNumber
 pub mod Lanes
 pub mod March
+pub mod Civils

@@ -4,7 +4,7 @@ ghost use Rattle.std.specs.Prelude.{◌≡◌, ◌<◌, ◌++◌, ◌^◌, ◌�
 ghost use Rattle.std.specs.Fmt.{signed_decimal};
 ghost use Rattle.zic_rows.specs.Count.{count_of, fraction_of, fraction_digits, fraction_text};
 ghost use Rattle.zic_rows.specs.Count.{second_of, three_digits, units_of_second};
-ghost use Rattle.zic_rows.specs.Instant.{number};
+ghost use Rattle.zic_base.specs.Number.{number};
 
 use crate::instant::short_number;
 use crate::limit::MAX_DIGITS;
@@ -54,7 +54,7 @@ pub fn parse_count(field: &[u8], unit: Unit) -> Option<i128>
 }
 
 /// Returns the number that the text spells in decimal digits: at least one, and at most `most`.
-#[tactic(auto, unfolding(crate::specs::Instant::number))]
+#[tactic(auto, unfolding(zic_base::specs::Number::number))]
 fn number(text: &[u8], most: usize) -> Option<u128>
     requires few { most ≤ 27 }
     requires enough { MAX_DIGITS ≤ most }

@@ -2,7 +2,8 @@
 
 ghost use Rattle.std.specs.Prelude.{◌≡◌, ◌<◌, ◌≤◌, ◌^◌, ◌↔◌, IfSome, IsTrue};
 ghost use Rattle.std.specs.Fmt.{signed_decimal};
-ghost use Rattle.zic_rows.specs.Instant.{instant_of, number};
+ghost use Rattle.zic_base.specs.Number.{number};
+ghost use Rattle.zic_rows.specs.Instant.{instant_of};
 
 use crate::limit::MAX_DIGITS;
 
@@ -37,7 +38,7 @@ pub fn is_plain(field: &[u8]) -> bool
 
 /// Returns the number that the text spells in decimal digits: at least one, and at most `most`.
 #[inline(always)]
-#[tactic(auto, unfolding(crate::specs::Instant::number))]
+#[tactic(auto, unfolding(zic_base::specs::Number::number))]
 pub(crate) fn short_number(text: &[u8], most: usize) -> Option<u64>
     requires { most ≤ 19 }
     ensures value { result ≡ number most text.now }

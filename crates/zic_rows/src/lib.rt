@@ -4,6 +4,7 @@
 
 mod count;
 mod date;
+mod date_time;
 mod digits;
 mod instant;
 mod kept_date;
@@ -21,6 +22,7 @@ mod timed_rest;
 mod wide;
 
 pub use count::{Moment, moment_of, parse_count};
+pub use date_time::{parse_local_time, parse_rfc3339};
 pub use instant::{is_plain, parse_instant};
 pub use limit::{FARTHEST_OFFSET, FIRST_INSTANT, LAST_INSTANT, MAX_DIGITS};
 pub use row::{RowWriter, push_row};

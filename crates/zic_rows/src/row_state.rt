@@ -1,6 +1,6 @@
 //! A state that a row may have.
 
-ghost use Rattle.std.specs.Prelude.{◌≡◌};
+ghost use Rattle.std.specs.Prelude.{◌≡◌, ◌↔◌, IsTrue};
 ghost use Rattle.zic_base.specs.State.{shown};
 ghost use Rattle.zic_rows.specs.Instant.{IsRowOffset};
 ghost use Rattle.zic_rows.specs.Row.{IsRowState};
@@ -66,6 +66,22 @@ impl RowState {
             name: self.name,
             len: self.len,
         }
+    }
+
+    /// Returns the abbreviation.
+    fn name(&self) -> &[u8]
+        ensures { result.now ≡ self.now.name }
+    {
+        &self.name[..self.len.min(LONGEST_ABBREVIATION)]
+    }
+
+    /// Returns whether this is a copy of a state.
+    pub(crate) fn is_of(&self, state: &State<'_>) -> bool
+        ensures { IsTrue result ↔ (self.now ≡ shown state.now) }
+    {
+        self.offset == state.offset
+            && self.daylight == state.daylight
+            && *self.name() == *state.name
     }
 
     /// Returns the UT offset in seconds, positive east.

@@ -1,6 +1,6 @@
 //! The text of a state at the end of a row.
 
-ghost use Rattle.std.specs.Prelude.{◌≡◌, ◌+◌, ◌≤◌, ◌++◌, length, take, drop};
+ghost use Rattle.std.specs.Prelude.{◌≡◌, ◌+◌, ◌≤◌, ◌++◌, ◌↔◌, IsTrue, length, take, drop};
 ghost use Rattle.zic_base.specs.State.{shown};
 ghost use Rattle.zic_rows.specs.Instant.{IsRowOffset};
 ghost use Rattle.zic_rows.specs.Row.{state_text, IsRowState};
@@ -45,6 +45,13 @@ impl StateText {
         let len = write_text(&mut octets, &state);
         let state = RowState::new(state);
         StateText { state, octets, len }
+    }
+
+    /// Returns whether this is the text of a state.
+    pub fn is_of(&self, state: &State<'_>) -> bool
+        ensures { IsTrue result ↔ (self.now ≡ shown state.now) }
+    {
+        self.state.is_of(state)
     }
 
     /// Returns the state.

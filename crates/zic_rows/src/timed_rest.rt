@@ -7,12 +7,12 @@ ghost use Rattle.zic_rows.specs.Count.{fraction_text, units_of_second};
 ghost use Rattle.zic_rows.specs.code.Kept.{kept_date};
 
 use crate::count::three_digits;
-use crate::digits::time_text;
+use crate::digits::put_clock;
 use crate::kept_date::KeptDate;
 use crate::limit::DAY;
 use crate::row_time::RowTime;
 use crate::state_text::StateText;
-use crate::store::{put_8, put_16};
+use crate::store::put_16;
 use std::simd::prelude::*;
 use zic_plan::Unit;
 
@@ -39,7 +39,7 @@ pub(crate) fn put_rest(
         ++ (clock_text second ++ (fraction_text time.unit time.fraction ++ state_text state.now))) }
 {
     date.put(text, at);
-    put_8(text, at + 12, time_text(second));
+    put_clock(text, at + 12, second);
     let end = put_fraction(text, at + 20, time.unit, time.fraction);
     state.put(text, end)
 }

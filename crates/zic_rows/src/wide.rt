@@ -2,7 +2,7 @@
 
 ghost use Rattle.std.specs.Prelude.{◌≡◌, ◌+◌, ◌*◌, ◌-◌, ◌<◌, ◌≤◌, ◌++◌, length, slice_range, replicate, IfSome, IsTrue};
 ghost use Rattle.std.specs.Simd.Lanes.{Each1, all_below, dots};
-ghost use Rattle.zic_rows.specs.Instant.{number};
+ghost use Rattle.zic_base.specs.Number.{number};
 ghost use Rattle.zic_rows.specs.code.Lanes.{lanes_of, lane_value};
 
 use std::simd::prelude::*;

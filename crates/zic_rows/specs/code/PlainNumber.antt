@@ -4,7 +4,7 @@ use Rattle.std.specs.Fmt.{decimal}
 use Rattle.zic_plan.specs.declared.layout.Unit.{Unit}
 use Rattle.zic_rows.specs.declared.limit.TheConstants.{MAX_DIGITS}
 use Rattle.zic_rows.specs.Count.{fraction_digits}
-use Rattle.zic_rows.specs.Instant.{number}
+use Rattle.zic_base.specs.Number.{number}
 
 -- The digits are this number in plain decimals, and few enough for a count of these units.
 pub record IsPlainNumber (u : Unit) (digits : List ℕ) (n : ℕ) : Type 0 where

@@ -1,7 +1,7 @@
 use Rattle.std.proofs.Common.{◌≡◌, ◌+◌, ◌-◌, ◌*◌, ◌^◌, ◌<◌, drop, fold}
 use Rattle.std.specs.List.{list_all}
 use Rattle.std.specs.Char.{is_ascii_digit}
-use Rattle.zic_rows.specs.Instant.{decimal_value}
+use Rattle.zic_base.specs.Number.{decimal_value}
 use Rattle.zic_rows.proofs.instant.short_number.Given as goal
 
 abbrev pub invariant-loop-byte : goal.invariant-loop-byte
