@@ -7,7 +7,7 @@ use Rattle.std.proofs.lemmas.Bool.{cases_lt, eqb-true}
 use Rattle.std.proofs.lemmas.Grind.{flat_map-append}
 use Rattle.zic_columns.specs.Column.{AreWholeRecords, column_records}
 use Rattle.zic_columns.specs.code.Cut.{AreCutAfter}
-use Rattle.zic_columns.specs.Own.{Whole, whole_records}
+use Rattle.zic_columns.specs.Own.{CsvRecord, csv_records}
 use Rattle.zic_columns.specs.Round.{ArePiecesOf, wholes_of}
 use Rattle.zic_columns.specs.code.Range.{AreWithin, piece_at, pieces_at}
 use Rattle.zic_columns.specs.code.Cutting.{IsCut}
@@ -51,7 +51,7 @@ pub record IsCutTo (bytes : List ℕ) (size : ℕ) (ranges : List PieceRange) (r
   pub inside : AreWithin ranges at
   pub sizes : ArePiecesOf size (pieces_at bytes ranges)
   pub full : (column_records rest ≡ []) ⊎ AreFull size (pieces_at bytes ranges)
-  pub records : whole_records (take at bytes) ≡ wholes_of (pieces_at bytes ranges)
+  pub records : csv_records (take at bytes) ≡ wholes_of (pieces_at bytes ranges)
   pub whole : (rest ≡ []) ⊎ AreWholeRecords (take at bytes)
 
 pub cut_none : (bytes : List ℕ) (size : ℕ) → IsCutTo bytes size [] bytes
@@ -124,9 +124,9 @@ cut_more bytes size ranges rest first after some to has cut =
       sizes = rw pieces (full_last size (pieces_at bytes ranges) first full (omega (arith, number, has, some)) (omega (arith, number)));
       full = rw pieces (full_or_none rest size first after (pieces_at bytes ranges) cut full);
       records =
-          ap whole_records front ∙ wholes_cut (take at bytes) first whole ∙ ap (λ (r : List Whole). r ++ whole_records first) to.records
-          ∙ sym (ap wholes_of pieces ∙ flat_map-append whole_records (pieces_at bytes ranges) (first ∷ [])
-          ∙ ap (λ (r : List Whole). wholes_of (pieces_at bytes ranges) ++ r) (append-nil (whole_records first)));
+          ap csv_records front ∙ wholes_cut (take at bytes) first whole ∙ ap (λ (r : List CsvRecord). r ++ csv_records first) to.records
+          ∙ sym (ap wholes_of pieces ∙ flat_map-append csv_records (pieces_at bytes ranges) (first ∷ [])
+          ∙ ap (λ (r : List CsvRecord). wholes_of (pieces_at bytes ranges) ++ r) (append-nil (csv_records first)));
       whole = ⊎_elim
           (λ none. inl none)
           (λ (one : AreWholeRecords first). inr (subst AreWholeRecords (sym front) (whole_both (take at bytes) first whole one)))
@@ -144,7 +144,7 @@ cut_done bytes size cut rest to len many =
       ranges = subst (AreWithin cut.ranges.items) same to.inside;
       few = omega (arith, many);
       sizes = to.sizes;
-      records = ap (λ (n : ℕ). whole_records (take n bytes)) (sym same) ∙ to.records;
+      records = ap (λ (n : ℕ). csv_records (take n bytes)) (sym same) ∙ to.records;
       whole = subst (λ (n : ℕ). (drop n bytes ≡ []) ⊎ AreWholeRecords (take n bytes)) same
           (subst (λ (r : List ℕ). (r ≡ []) ⊎ AreWholeRecords (take to.at bytes)) to.after to.whole);
       none = λ no. absurd (omega (arith, no, many));
@@ -157,16 +157,16 @@ pub cut_to_end : (bytes : List ℕ) (size : ℕ) (cut : Cut) (rest : List ℕ) �
 cut_to_end bytes size cut rest to len few left =
     let all : take cut.len bytes ≡ bytes = take_all cut.len bytes (omega (arith, len)) in
     let pieces = wholes_of (pieces_at bytes cut.ranges.items) in
-    let parts : whole_records bytes ≡ pieces =
-    ap whole_records (sym (take-append-drop to.at bytes)) ∙ wholes_joined (take to.at bytes) (drop to.at bytes) (subst (λ (r : List ℕ). (r ≡ []) ⊎ AreWholeRecords (take to.at bytes)) to.after to.whole)
-    ∙ ap (λ (r : List Whole). r ++ whole_records (drop to.at bytes)) to.records ∙ ap (λ (r : List Whole). pieces ++ r) (ap whole_records (sym to.after) ∙ wholes_none rest left)
+    let parts : csv_records bytes ≡ pieces =
+    ap csv_records (sym (take-append-drop to.at bytes)) ∙ wholes_joined (take to.at bytes) (drop to.at bytes) (subst (λ (r : List ℕ). (r ≡ []) ⊎ AreWholeRecords (take to.at bytes)) to.after to.whole)
+    ∙ ap (λ (r : List CsvRecord). r ++ csv_records (drop to.at bytes)) to.records ∙ ap (λ (r : List CsvRecord). pieces ++ r) (ap csv_records (sym to.after) ∙ wholes_none rest left)
     ∙ append-nil pieces in
     record {
       within = omega (arith, len);
       ranges = All-weaker (λ s. (s.start ≤ s.end) × (s.end ≤ to.at)) (λ s. (s.start ≤ s.end) × (s.end ≤ cut.len)) (λ s is. (is.0, omega (arith, is.1, to.within, len))) cut.ranges.items to.inside;
       few = few;
       sizes = to.sizes;
-      records = ap whole_records all ∙ parts;
+      records = ap csv_records all ∙ parts;
       whole = inl (drop_all cut.len bytes (omega (arith, len)));
       none = λ no. none_of_wholes bytes (parts ∙ ap (λ (r : List PieceRange). wholes_of (pieces_at bytes r)) (nil_from_length cut.ranges.items no));
     }

@@ -22,6 +22,7 @@ pub mod OwnLens
 pub mod Wholes
 pub mod Written
 pub mod OwnRecords
+pub mod OwnLaw
 pub mod Spans
 pub mod WalkFacts
 pub mod SplitFacts

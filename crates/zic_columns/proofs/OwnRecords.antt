@@ -10,7 +10,7 @@ use Rattle.csv.specs.declared.parser.Action.TheVariants as act
 use Rattle.csv.specs.declared.parser.State.{State}
 use Rattle.csv.specs.declared.parser.State.TheVariants as st
 use Rattle.zic_columns.specs.Column.{column_records, ends_line}
-use Rattle.zic_columns.specs.Own.{Whole, beside, own_from, own_texts, whole_records}
+use Rattle.zic_columns.specs.Own.{CsvRecord, beside, own_from, own_texts, csv_records}
 use Rattle.zic_columns.specs.Record.{first_fields, whole_of}
 use Rattle.zic_columns.proofs.CutLaw.{in_record, stays}
 use Rattle.zic_columns.proofs.MachineFacts as Machine
@@ -115,24 +115,24 @@ read_first byte bytes within =
 
 -- ---- all records
 
-abbrev IsAlone : Whole → Type 0
+abbrev IsAlone : CsvRecord → Type 0
 IsAlone w = column_records w.own ≡ w.fields ∷ []
 
 record AreAlone (bytes : List ℕ) : Type 0 where
-  pub each : All IsAlone (whole_records bytes)
-  pub same : whole_records bytes ≡ map whole_of (own_texts bytes)
+  pub each : All IsAlone (csv_records bytes)
+  pub same : csv_records bytes ≡ map whole_of (own_texts bytes)
 
-wholes_first : (bytes own rest : List ℕ) (is : IsFirstOwn bytes own rest) → whole_records bytes ≡ record { own = own; fields = is.fields } ∷ whole_records rest
+wholes_first : (bytes own rest : List ℕ) (is : IsFirstOwn bytes own rest) → csv_records bytes ≡ record { own = own; fields = is.fields } ∷ csv_records rest
 wholes_first bytes own rest is =
     ap (λ (t : List (List ℕ)). beside t (column_records bytes)) is.owns ∙ ap (beside (own ∷ own_texts rest)) is.reads
 
 alone_first : (bytes own rest : List ℕ) → IsFirstOwn bytes own rest → AreAlone rest → AreAlone bytes
 alone_first bytes own rest is later =
-    let first : Whole = record { own = own; fields = is.fields } in
+    let first : CsvRecord = record { own = own; fields = is.fields } in
     let all = wholes_first bytes own rest is in
     record {
-      each = subst (All IsAlone) (sym all) (All-cons IsAlone first (whole_records rest) is.alone later.each);
-      same = all ∙ ap (λ (w : List Whole). first ∷ w) later.same
+      each = subst (All IsAlone) (sym all) (All-cons IsAlone first (csv_records rest) is.alone later.each);
+      same = all ∙ ap (λ (w : List CsvRecord). first ∷ w) later.same
           ∙ ap (λ (r : List (List (List ℕ))). record { own = own; fields = first_fields r } ∷ map whole_of (own_texts rest)) (sym is.alone)
           ∙ ap (map whole_of) (sym is.owns);
     }
@@ -140,12 +140,12 @@ alone_first bytes own rest is later =
 alone_up_to : (n : ℕ) (bytes : List ℕ) → length bytes < n → AreAlone bytes
 alone_up_to zero bytes few = absurd (omega (arith, few))
 alone_up_to (suc n) [] few =
-    let none : whole_records [] ≡ [] = ap (λ (t : List (List ℕ)). beside t (column_records [])) own_nil in
+    let none : csv_records [] ≡ [] = ap (λ (t : List (List ℕ)). beside t (column_records [])) own_nil in
     record { each = subst (All IsAlone) (sym none) (All-nil IsAlone); same = none ∙ ap (map whole_of) (sym own_nil) }
 alone_up_to (suc n) (byte ∷ bytes) few = ⊎_elim
     (λ (ends : ends_line byte ≡ true).
     let later = alone_up_to n bytes (omega (arith, few)) in
-    let same : whole_records (byte ∷ bytes) ≡ whole_records bytes =
+    let same : csv_records (byte ∷ bytes) ≡ csv_records bytes =
     ap (λ (t : List (List ℕ)). beside t (column_records (byte ∷ bytes))) (own_end byte bytes ends) ∙ ap (beside (own_texts bytes)) (column_records-end byte bytes ends) in
     record {
       each = subst (All IsAlone) (sym same) later.each;
@@ -159,8 +159,8 @@ alone_up_to (suc n) (byte ∷ bytes) few = ⊎_elim
 are_alone : (bytes : List ℕ) → AreAlone bytes
 are_alone bytes = alone_up_to (length bytes + 1) bytes (omega arith)
 
-pub each_alone : (bytes : List ℕ) → All (λ (w : Whole). column_records w.own ≡ w.fields ∷ []) (whole_records bytes)
+pub each_alone : (bytes : List ℕ) → All (λ (w : CsvRecord). column_records w.own ≡ w.fields ∷ []) (csv_records bytes)
 each_alone bytes = (are_alone bytes).each
 
-pub of_own_bytes : (bytes : List ℕ) → whole_records bytes ≡ map whole_of (own_texts bytes)
+pub of_own_bytes : (bytes : List ℕ) → csv_records bytes ≡ map whole_of (own_texts bytes)
 of_own_bytes bytes = (are_alone bytes).same

@@ -4,7 +4,7 @@ use Rattle.std.proofs.lemmas.List.{append-nil, drop_all, drop_at, length-append,
 use Rattle.std.specs.Io.KnownBytes.{prepend_known}
 use Rattle.zic_columns.specs.Column.{AreWholeRecords, column_records}
 use Rattle.zic_columns.specs.code.Cut.{AreCutAfter}
-use Rattle.zic_columns.specs.Own.{Whole, first_own, first_text, own_texts, whole_records}
+use Rattle.zic_columns.specs.Own.{CsvRecord, first_own, first_text, own_texts, csv_records}
 use Rattle.zic_columns.specs.Round.{PassesFirst}
 use Rattle.zic_columns.specs.code.Hand.{AreSomeRecords, CanBeCut, Takes}
 use Rattle.zic_columns.proofs.OwnFacts.{own_counted}
@@ -32,21 +32,21 @@ own_next own (Some bytes) mid first next =
 
 -- the first bytes have one record, or none where there is no other
 record AreInTwo (bytes first after : List ℕ) : Type 0 where
-  parts : whole_records bytes ≡ whole_records first ++ whole_records after
+  parts : csv_records bytes ≡ csv_records first ++ csv_records after
   few : length (column_records first) ≤ 1
   some : length (column_records first) ≡ 0 → length (column_records after) ≡ 0
 
-drop_first : (first after : List Whole) → length first ≤ 1 → (length first ≡ 0 → length after ≡ 0) → drop 1 (first ++ after) ≡ after
+drop_first : (first after : List CsvRecord) → length first ≤ 1 → (length first ≡ 0 → length after ≡ 0) → drop 1 (first ++ after) ≡ after
 drop_first [] after few some = let none = nil_from_length after (some refl) in rw none refl
 drop_first (w ∷ []) after few some = refl
 drop_first (w ∷ v ∷ ws) after few some = absurd (omega (arith, few))
 
-left_after : (bytes first after : List ℕ) → AreInTwo bytes first after → whole_records after ≡ drop 1 (whole_records bytes)
+left_after : (bytes first after : List ℕ) → AreInTwo bytes first after → csv_records after ≡ drop 1 (csv_records bytes)
 left_after bytes first after two =
-    let few : length (whole_records first) ≤ 1 = omega (arith, two.few, wholes_counted first) in
-    let some : length (whole_records first) ≡ 0 → length (whole_records after) ≡ 0 =
+    let few : length (csv_records first) ≤ 1 = omega (arith, two.few, wholes_counted first) in
+    let some : length (csv_records first) ≡ 0 → length (csv_records after) ≡ 0 =
     λ none. wholes_counted after ∙ two.some (sym (wholes_counted first) ∙ none) in
-    sym (ap (drop 1) two.parts ∙ drop_first (whole_records first) (whole_records after) few some)
+    sym (ap (drop 1) two.parts ∙ drop_first (csv_records first) (csv_records after) few some)
 
 text_first : (first after : List (List ℕ)) → (length first ≡ 0 → length after ≡ 0) → first_text (first ++ after) ≡ first_text first
 text_first [] after some = let none = nil_from_length after (some refl) in rw none refl
@@ -89,7 +89,7 @@ module _ (held : List ℕ) (count : ℕ) (first rest : List ℕ) (cut : AreCutAf
         cut.whole in
         let size = length-take 1 (column_records (take count held)) in
         record {
-          parts = ap whole_records in_two ∙ wholes_cut first after whole;
+          parts = ap csv_records in_two ∙ wholes_cut first after whole;
           few = omega (arith, number, size);
           some = λ none. absurd (omega (arith, number, size, some.1, none));
         }
@@ -103,7 +103,7 @@ module _ (held : List ℕ) (count : ℕ) (first rest : List ℕ) (cut : AreCutAf
         let size = length-take 1 (column_records (take count held)) in
         let others = length-drop 1 (column_records (take count held)) in
         record {
-          parts = ap whole_records in_two ∙ wholes_joined first after (subst (λ (r : List ℕ). (r ≡ []) ⊎ AreWholeRecords first) (sym left) cut.whole);
+          parts = ap csv_records in_two ∙ wholes_joined first after (subst (λ (r : List ℕ). (r ≡ []) ⊎ AreWholeRecords first) (sym left) cut.whole);
           few = omega (arith, number, size);
           some = λ no. ap (λ (b : List ℕ). length (column_records b)) left ∙ ap length cut.rest_records ∙ omega (arith, number, size, others, no);
         }

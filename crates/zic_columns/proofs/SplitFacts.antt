@@ -1,7 +1,7 @@
 -- The next record of a piece.
 use Rattle.std.proofs.Common.{◌≡◌, ◌+◌, ◌-◌, ◌<◌, ℕ, List, [], ◌∷◌, ◌++◌, length, map, take, drop, get_or, sym, ap, ◌∙◌, append_assoc, arith}
 use Rattle.std.proofs.lemmas.List.{drop_at, drop_more, length-append, take-append-drop}
-use Rattle.zic_columns.specs.Own.{Whole, own_texts, whole_records}
+use Rattle.zic_columns.specs.Own.{CsvRecord, own_texts, csv_records}
 use Rattle.zic_columns.specs.Record.{record_at, whole_of}
 use Rattle.zic_columns.specs.code.Line.{IsAfterLineEnds}
 use Rattle.zic_columns.specs.code.Machine.{BeginsRecord}
@@ -24,7 +24,7 @@ rest_at piece rest at after =
     ap (drop (length piece - length rest)) parts ∙ drop_at front rest (length piece - length rest) size
 
 -- a line end between records makes none
-pub after_end : (piece : List ℕ) (at : ℕ) → IsLineEndAt piece at → whole_records (drop at piece) ≡ whole_records (drop (at + 1) piece)
+pub after_end : (piece : List ℕ) (at : ℕ) → IsLineEndAt piece at → csv_records (drop at piece) ≡ csv_records (drop (at + 1) piece)
 after_end piece at is =
     let rest = drop (at + 1) piece in
     of_own_bytes (drop at piece) ∙ ap (λ (l : List ℕ). map whole_of (own_texts l)) (drop_more piece at 0 is.within)
@@ -32,14 +32,14 @@ after_end piece at is =
 
 module _ (piece : List ℕ) (at start : ℕ) (after : IsAfterLineEnds (drop at piece) (drop start piece)) where
   -- the line ends make no record
-  rest_records : whole_records (drop at piece) ≡ whole_records (drop start piece)
+  rest_records : csv_records (drop at piece) ≡ csv_records (drop start piece)
   rest_records =
       of_own_bytes (drop at piece) ∙ ap (λ (l : List ℕ). map whole_of (own_texts l)) after.parts
       ∙ ap (map whole_of) (own_ends after.skipped (drop start piece) after.ends) ∙ sym (of_own_bytes (drop start piece))
 
-  pub none_next : drop start piece ≡ [] → (whole_records (drop at piece) ≡ []) × (whole_records (drop start piece) ≡ [])
+  pub none_next : drop start piece ≡ [] → (csv_records (drop at piece) ≡ []) × (csv_records (drop start piece) ≡ [])
   none_next none =
-      let nothing : whole_records (drop start piece) ≡ [] =
+      let nothing : csv_records (drop start piece) ≡ [] =
       of_own_bytes (drop start piece) ∙ ap (λ (l : List ℕ). map whole_of (own_texts l)) none ∙ ap (map whole_of) own_nil in
       (rest_records ∙ nothing, nothing)
 
@@ -47,12 +47,12 @@ module _ (piece : List ℕ) (at start : ℕ) (after : IsAfterLineEnds (drop at p
   begins_next some = begins_after (drop at piece) (drop start piece) after some
 
   pub first_next : (wanted : Wanted) (given : Record) → IsRecordFrom piece start wanted given
-      → whole_records (drop at piece) ≡ record_at piece given ∷ whole_records (drop given.own.«end» piece)
+      → csv_records (drop at piece) ≡ record_at piece given ∷ csv_records (drop given.own.«end» piece)
   first_next wanted given is =
       rest_records ∙ of_own_bytes (drop start piece) ∙ ap (map whole_of) is.owns
-      ∙ ap (λ (w : List Whole). record_at piece given ∷ w) (sym (of_own_bytes (drop given.own.«end» piece)))
+      ∙ ap (λ (w : List CsvRecord). record_at piece given ∷ w) (sym (of_own_bytes (drop given.own.«end» piece)))
 
   pub plain_next : (wanted : Wanted) (ends : FieldEnds) (given : Record) → IsPlainFrom piece start wanted ends given
-      → whole_records (drop at piece) ≡ record_at piece given ∷ whole_records (drop (given.own.«end» + 1) piece)
+      → csv_records (drop at piece) ≡ record_at piece given ∷ csv_records (drop (given.own.«end» + 1) piece)
   plain_next wanted ends given is =
-      first_next wanted given is.from ∙ ap (λ (w : List Whole). record_at piece given ∷ w) (after_end piece given.own.«end» is.ended)
+      first_next wanted given is.from ∙ ap (λ (w : List CsvRecord). record_at piece given ∷ w) (after_end piece given.own.«end» is.ended)

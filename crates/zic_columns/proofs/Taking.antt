@@ -5,7 +5,7 @@ use Rattle.std.proofs.KnownBytes.{Consumes-nil, Consumes-trans}
 use Rattle.std.specs.Io.KnownBytes.{IsAtEnd, Keeps, prepend_known}
 use Rattle.csv.specs.Reading.{is_bom, strip_bom}
 use Rattle.zic_columns.specs.Column.{AreWholeRecords, column_records}
-use Rattle.zic_columns.specs.Own.{Whole, whole_records}
+use Rattle.zic_columns.specs.Own.{CsvRecord, csv_records}
 use Rattle.zic_columns.specs.Round.{ColumnOf, HasNoRecord, StaysWithin, TakesOf, may_take, wholes_of}
 use Rattle.zic_columns.specs.code.Hand.{AreSomeRecords, CanBeCut, Takes}
 use Rattle.zic_columns.specs.code.Cutting.{IsCut}
@@ -20,7 +20,7 @@ use Rattle.zic_columns.proofs.Wholes.{none_of_wholes, wholes_cut, wholes_joined,
 pub takes_none : (old new : Option (List ℕ)) → Keeps old new → Takes old new []
 takes_none None new keeps = tt
 takes_none (Some bytes) None keeps = absurd keeps
-takes_none (Some bytes) (Some rest) keeps = (rest, refl, ap whole_records (sym keeps))
+takes_none (Some bytes) (Some rest) keeps = (rest, refl, ap csv_records (sym keeps))
 
 pub takes_next : (old mid new : Option (List ℕ)) (pieces : List (List ℕ)) → Takes old mid [] → Takes mid new pieces → Takes old new pieces
 takes_next None mid new pieces first next = tt
@@ -33,8 +33,8 @@ in_two : (held rest : List ℕ) (count : ℕ) → held ++ rest ≡ take count he
 in_two held rest count = ap (λ (b : List ℕ). b ++ rest) (sym (take-append-drop count held)) ∙ append_assoc (take count held) (drop count held) rest
 
 -- records are taken of bytes that are whole records
-whole_taken : (held rest : List ℕ) (len : ℕ) → AreWholeRecords (take len held) → whole_records (held ++ rest) ≡ whole_records (take len held) ++ whole_records (drop len held ++ rest)
-whole_taken held rest len whole = ap whole_records (in_two held rest len) ∙ wholes_cut (take len held) (drop len held ++ rest) whole
+whole_taken : (held rest : List ℕ) (len : ℕ) → AreWholeRecords (take len held) → csv_records (held ++ rest) ≡ csv_records (take len held) ++ csv_records (drop len held ++ rest)
+whole_taken held rest len whole = ap csv_records (in_two held rest len) ∙ wholes_cut (take len held) (drop len held ++ rest) whole
 
 module _ (held : List ℕ) (count size : ℕ) (cut : Cut) (is : IsCut (take count held) size cut) where
   pieces_of : List (List ℕ)
@@ -43,9 +43,9 @@ module _ (held : List ℕ) (count size : ℕ) (cut : Cut) (is : IsCut (take coun
   cut_within : (cut.len ≤ count) × (cut.len ≤ length held)
   cut_within = (omega (arith, is.within, length-take count held), omega (arith, is.within, length-take count held))
 
-  cut_records : whole_records (take cut.len held) ≡ wholes_of pieces_of
+  cut_records : csv_records (take cut.len held) ≡ wholes_of pieces_of
   unfolding pieces_of
-  cut_records = ap whole_records (sym (take-take cut.len count held cut_within.0)) ∙ is.records ∙ ap wholes_of (pieces_cut held count size cut is)
+  cut_records = ap csv_records (sym (take-take cut.len count held cut_within.0)) ∙ is.records ∙ ap wholes_of (pieces_cut held count size cut is)
 
   -- where nothing is left of what was to be cut
   cut_all : drop cut.len (take count held) ≡ [] → take cut.len held ≡ take count held
@@ -60,13 +60,13 @@ module _ (held : List ℕ) (count size : ℕ) (cut : Cut) (is : IsCut (take coun
       is.whole
 
   -- at the end of the column
-  last_cut : count ≡ length held → whole_records (held ++ []) ≡ wholes_of pieces_of ++ whole_records (drop cut.len held ++ [])
+  last_cut : count ≡ length held → csv_records (held ++ []) ≡ wholes_of pieces_of ++ csv_records (drop cut.len held ++ [])
   last_cut all =
       let same : take count held ≡ held = take_all count held (omega (arith, all)) in
       let left : (drop cut.len held ≡ []) ⊎ AreWholeRecords (take cut.len held) = subst (λ (b : List ℕ). (drop cut.len b ≡ []) ⊎ AreWholeRecords (take cut.len b)) same is.whole in
-      ap whole_records (append-nil held ∙ sym (take-append-drop cut.len held)) ∙ wholes_joined (take cut.len held) (drop cut.len held) left
-      ∙ ap (λ (r : List Whole). r ++ whole_records (drop cut.len held)) cut_records
-      ∙ ap (λ (b : List ℕ). wholes_of pieces_of ++ whole_records b) (sym (append-nil (drop cut.len held)))
+      ap csv_records (append-nil held ∙ sym (take-append-drop cut.len held)) ∙ wholes_joined (take cut.len held) (drop cut.len held) left
+      ∙ ap (λ (r : List CsvRecord). r ++ csv_records (drop cut.len held)) cut_records
+      ∙ ap (λ (b : List ℕ). wholes_of pieces_of ++ csv_records b) (sym (append-nil (drop cut.len held)))
 
   -- pieces are cut of the first bytes in hand
   pub takes_cut : (come : Option (List ℕ)) → CanBeCut held come count → Takes (prepend_known held come) (prepend_known (drop cut.len held) come) (pieces_at (take cut.len held) cut.ranges.items)
@@ -76,12 +76,12 @@ module _ (held : List ℕ) (count size : ℕ) (cut : Cut) (is : IsCut (take coun
       (λ (some : AreSomeRecords (take count held)). (
         drop cut.len held ++ rest,
         refl,
-        whole_taken held rest cut.len (whole_cut some.0) ∙ ap (λ (r : List Whole). r ++ whole_records (drop cut.len held ++ rest)) cut_records,
+        whole_taken held rest cut.len (whole_cut some.0) ∙ ap (λ (r : List CsvRecord). r ++ csv_records (drop cut.len held ++ rest)) cut_records,
       ))
       (λ (last : (count ≡ length held) × (rest ≡ [])). (
         drop cut.len held ++ rest,
         refl,
-        subst (λ (r : List ℕ). whole_records (held ++ r) ≡ wholes_of pieces_of ++ whole_records (drop cut.len held ++ r)) (sym last.1) (last_cut last.0),
+        subst (λ (r : List ℕ). csv_records (held ++ r) ≡ wholes_of pieces_of ++ csv_records (drop cut.len held ++ r)) (sym last.1) (last_cut last.0),
       ))
       can.1
 
@@ -94,9 +94,9 @@ module _ (held : List ℕ) (count size : ℕ) (cut : Cut) (is : IsCut (take coun
       (λ (last : (count ≡ length held) × (rest ≡ [])).
       let all : column_records held ≡ [] = ap column_records (sym (take_all count held (omega (arith, last.0)))) ∙ is.none nil in
       let taken : wholes_of pieces_of ≡ [] = ap (λ (r : List PieceRange). wholes_of (pieces_at (take cut.len held) r)) (nil_from_length cut.ranges.items nil) in
-      let parts = sym (last_cut last.0) ∙ ap whole_records (append-nil held) ∙ wholes_none held all in
+      let parts = sym (last_cut last.0) ∙ ap csv_records (append-nil held) ∙ wholes_none held all in
       subst (λ (r : List ℕ). column_records (drop cut.len held ++ r) ≡ []) (sym last.1)
-      (none_of_wholes (drop cut.len held ++ []) (sym (ap (λ (r : List Whole). r ++ whole_records (drop cut.len held ++ [])) taken) ∙ parts)))
+      (none_of_wholes (drop cut.len held ++ []) (sym (ap (λ (r : List CsvRecord). r ++ csv_records (drop cut.len held ++ [])) taken) ∙ parts)))
       can.1
 
 -- whole records that are none are passed over
@@ -104,7 +104,7 @@ pub takes_blank : (held : List ℕ) (come : Option (List ℕ)) (count : ℕ) →
     → Takes (prepend_known held come) (prepend_known (drop count held) come) []
 takes_blank held None count whole none = tt
 takes_blank held (Some rest) count whole none =
-    (drop count held ++ rest, refl, whole_taken held rest count whole ∙ ap (λ (r : List Whole). r ++ whole_records (drop count held ++ rest)) (wholes_none (take count held) none))
+    (drop count held ++ rest, refl, whole_taken held rest count whole ∙ ap (λ (r : List CsvRecord). r ++ csv_records (drop count held ++ rest)) (wholes_none (take count held) none))
 
 -- ---- the limit
 

@@ -153,6 +153,13 @@ module _ (piece : List ℕ) (at : ℕ) where
               found.ends;
         }
 
+-- the field of these bytes
+abbrev pub field_to : ℕ → ℕ → FoundField
+field_to at stop = record { field = Plain (record { start = at; end = stop }); stop = stop }
+
+pub field_ends : (piece : List ℕ) (at stop : ℕ) → IsFieldEnd piece at stop → stop < length piece → ends_field (get_or piece stop 0) ≡ true
+field_ends piece at stop is inside = ⊎_elim (λ all. absurd (omega (arith, all, inside))) (λ ends. ends) is.ends
+
 -- ---- the record
 
 module _ (piece : List ℕ) (start : ℕ) (wanted : Wanted) where

@@ -3,19 +3,19 @@ use Rattle.std.proofs.Common.{◌≡◌, ◌⊎◌, ℕ, List, [], ◌∷◌, �
 use Rattle.std.proofs.lemmas.List.{append-nil, length-map, map-append}
 use Rattle.zic_columns.specs.Column.{AreWholeRecords, column_records}
 use Rattle.zic_columns.specs.Laws.{BesideIsKept, PiecesHaveRecords}
-use Rattle.zic_columns.specs.Own.{Whole, beside, own_texts, whole_records}
+use Rattle.zic_columns.specs.Own.{CsvRecord, beside, own_texts, csv_records}
 use Rattle.zic_columns.specs.Round.{wholes_of}
 use Rattle.zic_columns.proofs.OwnFacts.{own_counted, own_whole}
 use Rattle.zic_columns.proofs.SomeRecords.{column_records-nil}
 
 -- as many of both
-beside_fields : (texts : List (List ℕ)) (records : List (List (List ℕ))) → length texts ≡ length records → map (λ (w : Whole). w.fields) (beside texts records) ≡ records
+beside_fields : (texts : List (List ℕ)) (records : List (List (List ℕ))) → length texts ≡ length records → map (λ (w : CsvRecord). w.fields) (beside texts records) ≡ records
 beside_fields [] [] same = refl
 beside_fields [] (fields ∷ records) same = absurd (omega (arith, same))
 beside_fields (own ∷ texts) [] same = absurd (omega (arith, same))
 beside_fields (own ∷ texts) (fields ∷ records) same = ap (λ (l : List (List (List ℕ))). fields ∷ l) (beside_fields texts records (omega (arith, same)))
 
-beside_owns : (texts : List (List ℕ)) (records : List (List (List ℕ))) → length texts ≡ length records → map (λ (w : Whole). w.own) (beside texts records) ≡ texts
+beside_owns : (texts : List (List ℕ)) (records : List (List (List ℕ))) → length texts ≡ length records → map (λ (w : CsvRecord). w.own) (beside texts records) ≡ texts
 beside_owns [] [] same = refl
 beside_owns [] (fields ∷ records) same = refl
 beside_owns (own ∷ texts) [] same = absurd (omega (arith, same))
@@ -27,15 +27,15 @@ beside_both [] more [] others same = refl
 beside_both [] more (fields ∷ records) others same = absurd (omega (arith, same))
 beside_both (own ∷ texts) more [] others same = absurd (omega (arith, same))
 beside_both (own ∷ texts) more (fields ∷ records) others same =
-    ap (λ (l : List Whole). record { own = own; fields = fields } ∷ l) (beside_both texts more records others (omega (arith, same)))
+    ap (λ (l : List CsvRecord). record { own = own; fields = fields } ∷ l) (beside_both texts more records others (omega (arith, same)))
 
-pub wholes_fields : (bytes : List ℕ) → map (λ (w : Whole). w.fields) (whole_records bytes) ≡ column_records bytes
+pub wholes_fields : (bytes : List ℕ) → map (λ (w : CsvRecord). w.fields) (csv_records bytes) ≡ column_records bytes
 wholes_fields bytes = beside_fields (own_texts bytes) (column_records bytes) (own_counted bytes)
 
-pub wholes_owns : (bytes : List ℕ) → map (λ (w : Whole). w.own) (whole_records bytes) ≡ own_texts bytes
+pub wholes_owns : (bytes : List ℕ) → map (λ (w : CsvRecord). w.own) (csv_records bytes) ≡ own_texts bytes
 wholes_owns bytes = beside_owns (own_texts bytes) (column_records bytes) (own_counted bytes)
 
-pub wholes_cut : (a b : List ℕ) → AreWholeRecords a → whole_records (a ++ b) ≡ whole_records a ++ whole_records b
+pub wholes_cut : (a b : List ℕ) → AreWholeRecords a → csv_records (a ++ b) ≡ csv_records a ++ csv_records b
 wholes_cut a b whole =
     ap (λ (t : List (List ℕ)). beside t (column_records (a ++ b))) (own_whole a b whole)
     ∙ ap (beside (own_texts a ++ own_texts b)) (whole b)
@@ -46,43 +46,43 @@ pub beside_none : (texts : List (List ℕ)) → beside texts [] ≡ []
 beside_none [] = refl
 beside_none (own ∷ texts) = refl
 
-pub wholes_counted : (bytes : List ℕ) → length (whole_records bytes) ≡ length (column_records bytes)
-wholes_counted bytes = sym (length-map (whole_records bytes) (λ (w : Whole). w.fields)) ∙ ap length (wholes_fields bytes)
+pub wholes_counted : (bytes : List ℕ) → length (csv_records bytes) ≡ length (column_records bytes)
+wholes_counted bytes = sym (length-map (csv_records bytes) (λ (w : CsvRecord). w.fields)) ∙ ap length (wholes_fields bytes)
 
-pub wholes_none : (bytes : List ℕ) → column_records bytes ≡ [] → whole_records bytes ≡ []
+pub wholes_none : (bytes : List ℕ) → column_records bytes ≡ [] → csv_records bytes ≡ []
 wholes_none bytes none = ap (beside (own_texts bytes)) none ∙ beside_none (own_texts bytes)
 
-pub none_of_wholes : (bytes : List ℕ) → whole_records bytes ≡ [] → column_records bytes ≡ []
-none_of_wholes bytes none = sym (wholes_fields bytes) ∙ ap (map (λ (w : Whole). w.fields)) none
+pub none_of_wholes : (bytes : List ℕ) → csv_records bytes ≡ [] → column_records bytes ≡ []
+none_of_wholes bytes none = sym (wholes_fields bytes) ∙ ap (map (λ (w : CsvRecord). w.fields)) none
 
 -- records, and those of what follows, which follows whole records or is nothing
-pub wholes_joined : (first rest : List ℕ) → (rest ≡ []) ⊎ AreWholeRecords first → whole_records (first ++ rest) ≡ whole_records first ++ whole_records rest
+pub wholes_joined : (first rest : List ℕ) → (rest ≡ []) ⊎ AreWholeRecords first → csv_records (first ++ rest) ≡ csv_records first ++ csv_records rest
 wholes_joined first rest whole = ⊎_elim
-    (λ (none : rest ≡ []). ap whole_records (ap (λ (b : List ℕ). first ++ b) none ∙ append-nil first)
-    ∙ sym (ap (λ (w : List Whole). whole_records first ++ w) (ap whole_records none ∙ wholes_none [] column_records-nil) ∙ append-nil (whole_records first)))
+    (λ (none : rest ≡ []). ap csv_records (ap (λ (b : List ℕ). first ++ b) none ∙ append-nil first)
+    ∙ sym (ap (λ (w : List CsvRecord). csv_records first ++ w) (ap csv_records none ∙ wholes_none [] column_records-nil) ∙ append-nil (csv_records first)))
     (wholes_cut first rest)
     whole
 
 -- the own bytes of records that are those of two parts
-pub owns_joined : (bytes first rest : List ℕ) → whole_records bytes ≡ whole_records first ++ whole_records rest → own_texts bytes ≡ own_texts first ++ own_texts rest
+pub owns_joined : (bytes first rest : List ℕ) → csv_records bytes ≡ csv_records first ++ csv_records rest → own_texts bytes ≡ own_texts first ++ own_texts rest
 owns_joined bytes first rest parts =
-    let own = λ (w : Whole). w.own in
-    sym (wholes_owns bytes) ∙ ap (map own) parts ∙ map-append own (whole_records first) (whole_records rest)
-    ∙ ap (λ (t : List (List ℕ)). t ++ map own (whole_records rest)) (wholes_owns first) ∙ ap (λ (t : List (List ℕ)). own_texts first ++ t) (wholes_owns rest)
+    let own = λ (w : CsvRecord). w.own in
+    sym (wholes_owns bytes) ∙ ap (map own) parts ∙ map-append own (csv_records first) (csv_records rest)
+    ∙ ap (λ (t : List (List ℕ)). t ++ map own (csv_records rest)) (wholes_owns first) ∙ ap (λ (t : List (List ℕ)). own_texts first ++ t) (wholes_owns rest)
 
 -- the same records have the same own bytes
-pub owns_same : (bytes rest : List ℕ) → whole_records bytes ≡ whole_records rest → own_texts bytes ≡ own_texts rest
-owns_same bytes rest same = sym (wholes_owns bytes) ∙ ap (map (λ (w : Whole). w.own)) same ∙ wholes_owns rest
+pub owns_same : (bytes rest : List ℕ) → csv_records bytes ≡ csv_records rest → own_texts bytes ≡ own_texts rest
+owns_same bytes rest same = sym (wholes_owns bytes) ∙ ap (map (λ (w : CsvRecord). w.own)) same ∙ wholes_owns rest
 
 -- the fields of the records of pieces
 pub pieces_fields : PiecesHaveRecords
 pieces_fields [] = refl
 pieces_fields (piece ∷ pieces) =
-    let fields = λ (w : Whole). w.fields in
-    map-append fields (whole_records piece) (wholes_of pieces) ∙ ap (λ (r : List (List (List ℕ))). r ++ map fields (wholes_of pieces)) (wholes_fields piece)
+    let fields = λ (w : CsvRecord). w.fields in
+    map-append fields (csv_records piece) (wholes_of pieces) ∙ ap (λ (r : List (List (List ℕ))). r ++ map fields (wholes_of pieces)) (wholes_fields piece)
     ∙ ap (λ (r : List (List (List ℕ))). column_records piece ++ r) (pieces_fields pieces)
 
 pub beside_kept : BesideIsKept
 beside_kept f g [] records = refl
 beside_kept f g (own ∷ texts) [] = refl
-beside_kept f g (own ∷ texts) (fields ∷ records) = ap (λ (l : List Whole). record { own = f own; fields = g fields } ∷ l) (beside_kept f g texts records)
+beside_kept f g (own ∷ texts) (fields ∷ records) = ap (λ (l : List CsvRecord). record { own = f own; fields = g fields } ∷ l) (beside_kept f g texts records)

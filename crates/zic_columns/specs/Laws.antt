@@ -3,8 +3,9 @@ use Rattle.std.specs.Prelude.{◌≡◌, ℕ, List, [], ◌∷◌, ◌++◌, All
 use Rattle.csv.specs.Reading.{strip_bom}
 use Rattle.csv.specs.Writing.{default_writer, row_text, with_delimiter}
 use Rattle.zic_columns.specs.Column.{AreColumnRecords, AreWholeRecords, HasNoQuote, StandsBeforeRecord, column_records, plain_records}
+use Rattle.zic_columns.specs.Ends.{AreBetweenEnds}
 use Rattle.zic_columns.specs.Exchange.{AreDelimitedRecords, CanDelimit, exchanged}
-use Rattle.zic_columns.specs.Own.{Whole, beside, delimited_texts, own_texts, whole_records}
+use Rattle.zic_columns.specs.Own.{CsvRecord, beside, delimited_texts, own_texts, csv_records}
 use Rattle.zic_columns.specs.Record.{whole_of}
 use Rattle.zic_columns.specs.Round.{records_of, wholes_of}
 
@@ -39,15 +40,15 @@ RecordsAreExchanged = (delimiter : ℕ) (column : List ℕ) → CanDelimit delim
 -- Each record has its own bytes: there are as many of both.
 abbrev pub OwnTextsAreOfRecords : Type 0
 OwnTextsAreOfRecords = (bytes : List ℕ)
-    → (map (λ (w : Whole). w.own) (whole_records bytes) ≡ own_texts bytes) × (map (λ (w : Whole). w.fields) (whole_records bytes) ≡ column_records bytes)
+    → (map (λ (w : CsvRecord). w.own) (csv_records bytes) ≡ own_texts bytes) × (map (λ (w : CsvRecord). w.fields) (csv_records bytes) ≡ column_records bytes)
 
 -- Whatever follows whole records, its records with their own bytes come after theirs.
 abbrev pub WholeRecordsAreCut : Type 0
-WholeRecordsAreCut = (bytes rest : List ℕ) → AreWholeRecords bytes → whole_records (bytes ++ rest) ≡ whole_records bytes ++ whole_records rest
+WholeRecordsAreCut = (bytes rest : List ℕ) → AreWholeRecords bytes → csv_records (bytes ++ rest) ≡ csv_records bytes ++ csv_records rest
 
 -- The records of pieces with their own bytes have the fields of the records of the pieces.
 abbrev pub PiecesHaveRecords : Type 0
-PiecesHaveRecords = (pieces : List (List ℕ)) → map (λ (w : Whole). w.fields) (wholes_of pieces) ≡ records_of pieces
+PiecesHaveRecords = (pieces : List (List ℕ)) → map (λ (w : CsvRecord). w.fields) (wholes_of pieces) ≡ records_of pieces
 
 -- The own bytes of the records of a column with another delimiter are those of the column in which it and the comma stand in each other's
 -- place, with the two put back.
@@ -63,7 +64,7 @@ TextsAreCounted = (delimiter : ℕ) (bytes : List ℕ) (records : List (List (Li
 -- Where own bytes and fields are changed, each by itself, those that stood beside each other still do.
 abbrev pub BesideIsKept : Type 0
 BesideIsKept = (f : List ℕ → List ℕ) (g : List (List ℕ) → List (List ℕ)) (texts : List (List ℕ)) (records : List (List (List ℕ)))
-    → beside (map f texts) (map g records) ≡ map (λ (w : Whole). record { own = f w.own; fields = g w.fields }) (beside texts records)
+    → beside (map f texts) (map g records) ≡ map (λ (w : CsvRecord). record { own = f w.own; fields = g w.fields }) (beside texts records)
 
 -- What a CSV writer makes of some fields has the delimiter for each comma that another CSV writer makes of the fields in which the two
 -- stand in each other's place.
@@ -73,8 +74,12 @@ RowsAreExchanged = (delimiter : ℕ) (fields : List (List ℕ)) → CanDelimit d
 
 -- Each record's own bytes alone are that record.
 abbrev pub OwnBytesAreRecords : Type 0
-OwnBytesAreRecords = (bytes : List ℕ) → All (λ (w : Whole). column_records w.own ≡ w.fields ∷ []) (whole_records bytes)
+OwnBytesAreRecords = (bytes : List ℕ) → All (λ (w : CsvRecord). column_records w.own ≡ w.fields ∷ []) (csv_records bytes)
 
 -- So the records of a column are those of their own bytes, each by itself.
 abbrev pub RecordsAreOfOwnBytes : Type 0
-RecordsAreOfOwnBytes = (bytes : List ℕ) → whole_records bytes ≡ map whole_of (own_texts bytes)
+RecordsAreOfOwnBytes = (bytes : List ℕ) → csv_records bytes ≡ map whole_of (own_texts bytes)
+
+-- A column is the own bytes of its records, in order, and line ends; nothing else.
+abbrev pub ColumnIsOwnBytes : Type 0
+ColumnIsOwnBytes = (bytes : List ℕ) → AreBetweenEnds (own_texts bytes) bytes

@@ -39,16 +39,16 @@ abbrev pub first_own : List ℕ → List ℕ
 first_own bytes = first_text (own_texts bytes)
 
 -- a record's own bytes and its fields
-pub record Whole : Type 0 where
+pub record CsvRecord : Type 0 where
   pub own : List ℕ
   pub fields : List (List ℕ)
 
 -- own bytes, each beside the fields of its record
-abbrev pub beside : List (List ℕ) → List (List (List ℕ)) → List Whole
+abbrev pub beside : List (List ℕ) → List (List (List ℕ)) → List CsvRecord
 beside [] records = []
 beside (own ∷ texts) [] = []
 beside (own ∷ texts) (fields ∷ records) = record { own = own; fields = fields } ∷ beside texts records
 
 -- the records of a column, each with its own bytes
-abbrev pub whole_records : List ℕ → List Whole
-whole_records bytes = beside (own_texts bytes) (column_records bytes)
+abbrev pub csv_records : List ℕ → List CsvRecord
+csv_records bytes = beside (own_texts bytes) (column_records bytes)

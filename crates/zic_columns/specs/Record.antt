@@ -1,7 +1,7 @@
 -- The records of a piece: where their bytes stand, and the fields that rows need.
 use Rattle.std.specs.Prelude.{◌≡◌, ◌≤◌, ℕ, List, [], ◌∷◌, Option, None, Some, length, slice_index_or, slice_range}
 use Rattle.zic_columns.specs.Column.{column_records}
-use Rattle.zic_columns.specs.Own.{Whole, first_text}
+use Rattle.zic_columns.specs.Own.{CsvRecord, first_text}
 use Rattle.zic_columns.specs.declared.fields.Field.{Field}
 use Rattle.zic_columns.specs.declared.fields.Field.TheVariants.{Plain, Quoted}
 use Rattle.zic_columns.specs.declared.fields.Record.{Record}
@@ -14,7 +14,7 @@ first_fields [] = []
 first_fields (fields ∷ records) = fields
 
 -- the record of some own bytes: its fields are those that a CSV reader gives of these bytes alone
-abbrev pub whole_of : List ℕ → Whole
+abbrev pub whole_of : List ℕ → CsvRecord
 whole_of own = record { own = own; fields = first_fields (column_records own) }
 
 -- the span is one of the piece
@@ -45,7 +45,7 @@ wanted_text fields None = []
 wanted_text fields (Some index) = slice_index_or fields index []
 
 -- the record that stands in a piece
-abbrev pub record_at : List ℕ → Record → Whole
+abbrev pub record_at : List ℕ → Record → CsvRecord
 record_at piece given = whole_of (bytes_at piece given.own)
 
 -- what is told of a record of a piece
@@ -61,4 +61,4 @@ pub record IsSplit (piece : List ℕ) (wanted : Wanted) (given : Record) : Type 
 pub record Splitting : Type 0 where
   pub piece : List ℕ
   pub wanted : Wanted
-  pub left : List Whole
+  pub left : List CsvRecord

@@ -4,7 +4,7 @@ use Rattle.std.specs.Int.{IsInRange}
 use Rattle.std.specs.List.{flat_map}
 use Rattle.std.specs.Io.KnownBytes.{Consumes, prepend_known}
 use Rattle.zic_columns.specs.Column.{column_records}
-use Rattle.zic_columns.specs.Own.{Whole, whole_records}
+use Rattle.zic_columns.specs.Own.{CsvRecord, csv_records}
 
 -- the byte beyond the limit, if there was one, and then the known bytes
 abbrev pub with_past : Option ℕ → Option (List ℕ) → Option (List ℕ)
@@ -43,12 +43,12 @@ abbrev pub records_of : List (List ℕ) → List (List (List ℕ))
 records_of pieces = flat_map column_records pieces
 
 -- the same, each with its own bytes
-abbrev pub wholes_of : List (List ℕ) → List Whole
-wholes_of pieces = flat_map whole_records pieces
+abbrev pub wholes_of : List (List ℕ) → List CsvRecord
+wholes_of pieces = flat_map csv_records pieces
 
 -- The records of some bytes, each with its own bytes, are those of the pieces, and then those of the rest.
 abbrev pub TakesPieces : List ℕ → List ℕ → List (List ℕ) → Type 0
-TakesPieces bytes rest pieces = whole_records bytes ≡ wholes_of pieces ++ whole_records rest
+TakesPieces bytes rest pieces = csv_records bytes ≡ wholes_of pieces ++ csv_records rest
 
 -- The records of a round were taken, where the bytes are known.
 abbrev pub TakesRound : {R : Type 0} → (R → Option (List ℕ)) → ColumnOf R → ColumnOf R → Type 0
@@ -57,7 +57,7 @@ TakesRound remaining old new =
 
 -- The first record was passed over, if there was one, where the bytes before and after are known: the others are left.
 abbrev pub PassesFirst : Option (List ℕ) → Option (List ℕ) → Type 0
-PassesFirst old new = IfSome old (λ bytes. (rest : List ℕ) × (new ≡ Some rest) × (whole_records rest ≡ drop 1 (whole_records bytes)))
+PassesFirst old new = IfSome old (λ bytes. (rest : List ℕ) × (new ≡ Some rest) × (csv_records rest ≡ drop 1 (csv_records bytes)))
 
 abbrev pub PassesRecord : {R : Type 0} → (R → Option (List ℕ)) → ColumnOf R → ColumnOf R → Type 0
 PassesRecord remaining old new = PassesFirst (unread remaining old) (unread remaining new)

@@ -4,7 +4,7 @@ ghost use Rattle.zic_columns.specs.Laws.{ColumnRecordsAreRead, PlainRecordsAreRe
 ghost use Rattle.zic_columns.specs.Laws.{DelimitedRecordsAreOne, RecordsAreExchanged, RecordsAreOne};
 ghost use Rattle.zic_columns.specs.Laws.{RowsAreExchanged};
 ghost use Rattle.zic_columns.specs.Laws.{BesideIsKept, OwnTextsAreOfRecords, PiecesHaveRecords};
-ghost use Rattle.zic_columns.specs.Laws.{OwnBytesAreRecords, RecordsAreOfOwnBytes};
+ghost use Rattle.zic_columns.specs.Laws.{ColumnIsOwnBytes, OwnBytesAreRecords, RecordsAreOfOwnBytes};
 ghost use Rattle.zic_columns.specs.Laws.{TextsAreCounted, TextsAreExchanged, WholeRecordsAreCut};
 
 /// States that a CSV reader gives bytes their records.
@@ -83,4 +83,10 @@ pub fn own_bytes_are_records()
 /// States that the records of a column are those of their own bytes, each by itself.
 pub fn records_are_of_own_bytes()
     ensures { RecordsAreOfOwnBytes }
+{}
+
+/// States that a column is the own bytes of its records, in order, with line ends alone before, between
+/// and after them.
+pub fn column_is_own_bytes()
+    ensures { ColumnIsOwnBytes }
 {}

@@ -1,10 +1,10 @@
 //! Records of a piece whose fields begin with no double quote.
 
-ghost use Rattle.std.specs.Prelude.{◌≡◌, ◌≢◌, ◌+◌, ◌^◌, ◌<◌, ◌≤◌, ◌∷◌, ◌++◌, [], ℕ, List, drop, length, MatchResult};
+ghost use Rattle.std.specs.Prelude.{◌≡◌, ◌≢◌, ◌+◌, ◌^◌, ◌<◌, ◌≤◌, ◌∷◌, ◌++◌, [], ℕ, List, None, drop, length, IfSome, MatchResult};
 ghost use Rattle.zic_columns.specs.Record.{IsWithin, bytes_at};
 ghost use Rattle.zic_columns.specs.code.Ends.{ShowsEnds};
 ghost use Rattle.zic_columns.specs.code.Machine.{BeginsRecord};
-ghost use Rattle.zic_columns.specs.code.Plain.{IsPlainFrom, IsSought, record_of};
+ghost use Rattle.zic_columns.specs.code.Plain.{IsPlainFrom, IsSought, no_fields, record_of};
 ghost use Rattle.zic_columns.specs.code.Walk.{HasFields, HasWalked};
 
 use crate::ends::FieldEnds;
@@ -109,12 +109,74 @@ pub(crate) fn split_plain(
     ensures { MatchResult result (IsPlainFrom piece.now start wanted ends.new)
         (λ begun. HasWalked piece.now start wanted begun.given begun.at) }
 {
+    match split_pair(piece, start, wanted, ends) {
+        Some(given) => Ok(given),
+        None => split_fields(piece, start, wanted, ends),
+    }
+}
+
+/// Splits the record that begins at an index, where it is a zone and a time in this order, neither of
+/// which begins with a double quote. `None` says nothing, and leaves the field ends as they were.
+#[inline(always)]
+fn split_pair(piece: &[u8], start: usize, wanted: Wanted, ends: &mut FieldEnds) -> Option<Record>
+    requires begins { BeginsRecord (drop start piece.now) }
+    requires shows { ShowsEnds piece.now start ends.old }
+    ensures some { IfSome result (IsPlainFrom piece.now start wanted ends.new) }
+    ensures none { result ≡ None → ends.new ≡ ends.old }
+{
+    let (Some(0), 1) = (wanted.zone, wanted.time) else {
+        return None;
+    };
+    let mut next = *ends;
+    let comma = next.next_end(piece, start)?;
+    let end = next.next_end(piece, comma + 1)?;
+    if piece[comma] != b',' || piece[end] == b',' {
+        return None;
+    }
+    if piece[start] == b'"' || piece[comma + 1] == b'"' {
+        return None;
+    }
+    *ends = next;
+    let indices = indices_of(wanted);
+    let zone = with_span(no_fields(start), Span { start, end: comma }, indices);
+    let time = Span {
+        start: comma + 1,
+        end,
+    };
+    Some(record_of(start, end, with_span(zone, time, indices)))
+}
+
+/// Returns no fields, of a record that begins at an index.
+#[inline(always)]
+fn no_fields(start: usize) -> PlainFields
+    ensures { result ≡ no_fields start }
+{
     let none = Span { start, end: start };
-    let mut fields = PlainFields {
+    PlainFields {
         count: 0,
         zone: none,
         time: none,
-    };
+    }
+}
+
+/// Splits the record that begins at an index, field by field.
+///
+/// # Errors
+///
+/// As [`split_plain`].
+#[inline(never)]
+fn split_fields(
+    piece: &[u8],
+    start: usize,
+    wanted: Wanted,
+    ends: &mut FieldEnds,
+) -> Result<Record, Begun>
+    requires begins { BeginsRecord (drop start piece.now) }
+    requires shows { ShowsEnds piece.now start ends.old }
+    ensures { MatchResult result (IsPlainFrom piece.now start wanted ends.new)
+        (λ begun. HasWalked piece.now start wanted begun.given begun.at) }
+{
+    let mut fields = no_fields(start);
     let indices = indices_of(wanted);
     let mut at = start;
     loop {

@@ -1,7 +1,7 @@
 //! The records of a piece, some at a time.
 
 ghost use Rattle.std.specs.Prelude.{◌≡◌, ◌++◌, ◌+◌, ◌<◌, ◌≤◌, [], All, drop, length, map, take};
-ghost use Rattle.zic_columns.specs.Own.{whole_records};
+ghost use Rattle.zic_columns.specs.Own.{csv_records};
 ghost use Rattle.zic_columns.specs.Record.{IsSplit, record_at};
 ghost use Rattle.zic_columns.specs.code.Ends.{ShowsEnds};
 
@@ -24,7 +24,7 @@ pub struct Splitter<'a> {
 
 impl<'a> Model for Splitter<'a> {
     ghost use Rattle.std.specs.Prelude.{◌≤◌, drop, length};
-    ghost use Rattle.zic_columns.specs.Own.{whole_records};
+    ghost use Rattle.zic_columns.specs.Own.{csv_records};
     ghost use Rattle.zic_columns.specs.Record.{Splitting};
 
     ghost Value = { Splitting };
@@ -32,7 +32,7 @@ impl<'a> Model for Splitter<'a> {
     ghost view = { λ splitter. record {
       piece = splitter.bytes.now;
       wanted = splitter.fields;
-      left = whole_records (drop splitter.at splitter.bytes.now);
+      left = csv_records (drop splitter.at splitter.bytes.now);
     } };
 
     ghost invariant = { λ splitter. splitter.at ≤ length splitter.bytes.now };
@@ -43,7 +43,7 @@ impl<'a> Splitter<'a> {
     pub fn new(piece: &'a [u8], wanted: Wanted) -> Splitter<'a>
         ensures piece { result.piece ≡ piece.now }
         ensures wanted { result.wanted ≡ wanted }
-        ensures left { result.left ≡ whole_records piece.now }
+        ensures left { result.left ≡ csv_records piece.now }
         ensures few { length result.left ≤ length piece.now + 1 }
     {
         Splitter {
@@ -82,10 +82,10 @@ impl<'a> Splitter<'a> {
         ensures shows { ShowsEnds piece.now cursor.new.at cursor.new.ends }
         ensures few { result ≤ BATCH }
         ensures long { length records.new ≡ BATCH }
-        ensures split { whole_records (drop cursor.old.at piece.now) ≡ map (record_at piece.now)
-            (take result records.new) ++ whole_records (drop cursor.new.at piece.now) }
+        ensures split { csv_records (drop cursor.old.at piece.now) ≡ map (record_at piece.now)
+            (take result records.new) ++ csv_records (drop cursor.new.at piece.now) }
         ensures each { All (IsSplit piece.now wanted) (take result records.new) }
-        ensures end { result < BATCH → whole_records (drop cursor.new.at piece.now) ≡ [] }
+        ensures end { result < BATCH → csv_records (drop cursor.new.at piece.now) ≡ [] }
     {
         let mut count = 0;
         while count < BATCH {

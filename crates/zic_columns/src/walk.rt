@@ -136,7 +136,7 @@ fn with_field(given: Record, field: Field, wanted: Wanted) -> Record
 }
 
 /// Splits the rest of a record, whose next field begins at an index.
-#[inline(always)]
+#[inline(never)]
 pub(crate) fn split_rest(piece: &[u8], begun: Begun, wanted: Wanted) -> Record
     requires begins { BeginsRecord (drop begun.given.own.start piece.now) }
     requires walked { HasWalked piece.now begun.given.own.start wanted begun.given begun.at }

@@ -1,12 +1,13 @@
 -- Records of a piece whose fields begin with no double quote.
 use Rattle.std.specs.Prelude.{◌≡◌, ◌+◌, ◌<◌, ℕ, true, List, [], ◌∷◌, length, slice_index, drop, Option, MatchOption, ◌-◌, ◌^◌}
 use Rattle.zic_columns.specs.Column.{ends_line}
-use Rattle.zic_columns.specs.Own.{whole_records}
+use Rattle.zic_columns.specs.Own.{csv_records}
 use Rattle.zic_columns.specs.Record.{IsSplit, record_at}
 use Rattle.zic_columns.specs.code.Ends.{ShowsEnds}
 use Rattle.zic_columns.specs.code.Walk.{IsRecordFrom}
 use Rattle.zic_columns.specs.declared.fields.Field.TheVariants.{Plain}
 use Rattle.zic_columns.specs.declared.fields.Record.{Record}
+use Rattle.zic_columns.specs.declared.fields.Span.{Span}
 use Rattle.zic_columns.specs.declared.fields.Wanted.{Wanted}
 use Rattle.zic_columns.specs.declared.ends.FieldEnds.{FieldEnds}
 use Rattle.zic_columns.specs.declared.plain.PlainFields.{PlainFields}
@@ -19,6 +20,12 @@ IsSought wanted sought = MatchOption wanted.zone (sought.zone ≡ 2 ^ 64 - 1) (�
 -- the record of these fields that stands from an index up to another
 abbrev pub record_of : ℕ → ℕ → PlainFields → Record
 record_of start end fields = record { own = record { start = start; end = end }; count = fields.count; zone = Plain fields.zone; time = Plain fields.time }
+
+-- no fields, of a record that begins at an index
+abbrev pub no_fields : ℕ → PlainFields
+no_fields start = record { count = 0; zone = nowhere; time = nowhere } where
+  nowhere : Span
+  nowhere = record { start = start; end = start }
 
 -- a line ends there
 pub record IsLineEndAt (bytes : List ℕ) (at : ℕ) : Type 0 where
@@ -34,5 +41,5 @@ pub record IsPlainFrom (piece : List ℕ) (start : ℕ) (wanted : Wanted) (ends 
 -- The records of a piece from an index on are a record and those from another index on, or there is none.
 abbrev pub IsNextAt : List ℕ → Wanted → ℕ → Option Record → ℕ → Type 0
 IsNextAt piece wanted old given new = MatchOption given
-    ((whole_records (drop old piece) ≡ []) × (whole_records (drop new piece) ≡ []))
-    (λ first. (whole_records (drop old piece) ≡ record_at piece first ∷ whole_records (drop new piece)) × IsSplit piece wanted first)
+    ((csv_records (drop old piece) ≡ []) × (csv_records (drop new piece) ≡ []))
+    (λ first. (csv_records (drop old piece) ≡ record_at piece first ∷ csv_records (drop new piece)) × IsSplit piece wanted first)

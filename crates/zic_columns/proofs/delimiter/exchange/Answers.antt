@@ -1,7 +1,10 @@
-use Rattle.std.proofs.Common.{arith}
-use Rattle.zic_columns.proofs.Exchanges.{all_done, one_more}
+use Rattle.std.proofs.Common.{arith, refl}
+use Rattle.zic_columns.proofs.Exchanges.{all_done, comma_exchanged, one_more}
 use Rattle.zic_columns.specs.Exchange.{exchanged}
 use Rattle.zic_columns.proofs.delimiter.exchange.Goals as goal
+
+pub returns-then-delimiter-eq44 : goal.returns-then-delimiter-eq44
+returns-then-delimiter-eq44 c = rw (c.if-delimiter-eq44.true, comma_exchanged c.args.bytes.now) refl
 
 pub loop-byte-preserved : goal.loop-byte-preserved
 loop-byte-preserved c =

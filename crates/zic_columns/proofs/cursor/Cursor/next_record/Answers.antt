@@ -1,6 +1,6 @@
 use Rattle.std.proofs.Common.{ℕ, ◌∷◌, drop, sym, ap, subst, ◌∙◌, arith}
 use Rattle.std.proofs.lemmas.List.{length-drop, nil_from_length}
-use Rattle.zic_columns.specs.Own.{whole_records}
+use Rattle.zic_columns.specs.Own.{csv_records}
 use Rattle.zic_columns.specs.Record.{record_at}
 use Rattle.zic_columns.specs.code.Walk.{IsRecordFrom}
 use Rattle.zic_columns.proofs.SplitFacts.{first_next, none_next, plain_next}
@@ -18,7 +18,7 @@ returns-then-piece-self-eq34-clause-next c =
     let piece = c.args.piece.now in
     let given = c.split_record-given in (
       first_next piece c.args.self.now.at c.pass_line_ends.new.self.at c.pass_line_ends.ensures.after c.args.wanted given.result given.ensures
-          ∙ ap (λ (n : ℕ). record_at piece given.result ∷ whole_records (drop n piece)) (sym c.new.ensures.at),
+          ∙ ap (λ (n : ℕ). record_at piece given.result ∷ csv_records (drop n piece)) (sym c.new.ensures.at),
       given.ensures.split,
     )
 
@@ -37,6 +37,6 @@ returns-in-Err-clause-next c =
     let given = c.split_rest-given in
     let is : IsRecordFrom piece start wanted given.result = subst (λ (n : ℕ). IsRecordFrom piece n wanted given.result) c.in-Err.ensures.own given.ensures in (
       first_next piece c.args.self.now.at start c.pass_line_ends.ensures.after wanted given.result is
-          ∙ ap (λ (n : ℕ). record_at piece given.result ∷ whole_records (drop n piece)) (sym c.new-in-Err.ensures.at),
+          ∙ ap (λ (n : ℕ). record_at piece given.result ∷ csv_records (drop n piece)) (sym c.new-in-Err.ensures.at),
       given.ensures.split,
     )

@@ -1,5 +1,5 @@
 use Rattle.std.proofs.Common.{◌≡◌, ◌-◌, ◌≤◌, ◌++◌, All, length, map, take, drop}
-use Rattle.zic_columns.specs.Own.{whole_records}
+use Rattle.zic_columns.specs.Own.{csv_records}
 use Rattle.zic_columns.specs.Record.{IsSplit, record_at}
 use Rattle.zic_columns.specs.code.Ends.{ShowsEnds}
 use Rattle.zic_columns.proofs.splits.Splitter.split_on.Given as goal
@@ -9,7 +9,7 @@ invariant-loop-count l = record {
   few : l.count ≤ 256;
   room : length l.records ≡ 256;
   shows : ShowsEnds l.piece l.cursor.at l.cursor.ends;
-  split : whole_records (drop l.initial.cursor.at l.piece) ≡ map (record_at l.piece) (take l.count l.records) ++ whole_records (drop l.cursor.at l.piece);
+  split : csv_records (drop l.initial.cursor.at l.piece) ≡ map (record_at l.piece) (take l.count l.records) ++ csv_records (drop l.cursor.at l.piece);
   each : All (IsSplit l.piece l.wanted) (take l.count l.records);
 }
 

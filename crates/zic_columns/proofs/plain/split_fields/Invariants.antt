@@ -2,7 +2,7 @@ use Rattle.std.proofs.Common.{◌-◌, length}
 use Rattle.zic_columns.specs.code.Ends.{ShowsEnds}
 use Rattle.zic_columns.specs.code.Plain.{record_of}
 use Rattle.zic_columns.specs.code.Walk.{HasWalked}
-use Rattle.zic_columns.proofs.plain.split_plain.Given as goal
+use Rattle.zic_columns.proofs.plain.split_fields.Given as goal
 
 abbrev pub invariant-loop-end : goal.invariant-loop-end
 invariant-loop-end l = record {

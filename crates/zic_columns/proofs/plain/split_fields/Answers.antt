@@ -1,27 +1,17 @@
-use Rattle.std.proofs.Common.{◌≡◌, ◌<◌, ◌==◌, ℕ, true, false, List, length, get_or, inr, refl, sym, subst, ⊎_elim, arith}
+use Rattle.std.proofs.Common.{◌≡◌, ◌==◌, false, get_or, inr, refl, sym, subst, arith}
 use Rattle.std.proofs.lemmas.Bool.{ne_eqb}
 use Rattle.std.proofs.lemmas.List.{length-drop}
 use Rattle.zic_columns.specs.Column.{ends_line}
-use Rattle.zic_columns.specs.code.Block.{ends_field}
 use Rattle.zic_columns.specs.code.Field.{IsFieldAt}
-use Rattle.zic_columns.specs.code.Plain.{IsPlainFrom, record_of}
-use Rattle.zic_columns.specs.code.Walk.{IsFieldEnd}
-use Rattle.zic_columns.specs.declared.fields.Field.TheVariants.{Plain}
-use Rattle.zic_columns.specs.declared.walk.FoundField.{FoundField}
+use Rattle.zic_columns.specs.code.Plain.{IsPlainFrom, no_fields, record_of}
 use Rattle.zic_columns.proofs.FieldFacts.{either}
-use Rattle.zic_columns.proofs.WalkFacts.{plain_at, record_out, walked_none, walked_on}
-use Rattle.zic_columns.proofs.plain.split_plain.Goals as goal
-
--- the field of these bytes
-abbrev field_to : ℕ → ℕ → FoundField
-field_to at stop = record { field = Plain (record { start = at; end = stop }); stop = stop }
-
-field_ends : (piece : List ℕ) (at stop : ℕ) → IsFieldEnd piece at stop → stop < length piece → ends_field (get_or piece stop 0) ≡ true
-field_ends piece at stop is inside = ⊎_elim (λ all. absurd (omega (arith, all, inside))) (λ ends. ends) is.ends
+use Rattle.zic_columns.proofs.WalkFacts.{field_ends, field_to, plain_at, record_out, walked_none, walked_on}
+use Rattle.zic_columns.proofs.plain.split_fields.Goals as goal
 
 pub loop-end-init : goal.loop-end-init
 loop-end-init c = record {
-  walked = walked_none c.args.piece.now c.args.start c.args.wanted _ (omega (arith, c.requires.begins.some, length-drop c.args.start c.args.piece.now)) refl refl refl refl;
+  walked = rw c.no_fields-fields.ensures (walked_none c.args.piece.now c.args.start c.args.wanted (record_of c.args.start c.args.start (no_fields c.args.start))
+      (omega (arith, c.requires.begins.some, length-drop c.args.start c.args.piece.now)) refl refl refl refl);
   shows = c.requires.shows;
 }
 
