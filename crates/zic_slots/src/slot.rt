@@ -4,7 +4,7 @@ ghost use Rattle.std.specs.Prelude.{◌≡◌};
 ghost use Rattle.zic_slots.specs.Slots.{number_at};
 
 /// The numbers before and from a change on, in seconds after the start of the slot.
-#[derive(Clone, Copy, Debug, Drop)]
+#[derive(Clone, Copy, Debug, PartialEq, Eq, Drop)]
 pub struct Slot {
     pub change: u32,
     pub before: u16,

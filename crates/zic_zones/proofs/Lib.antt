@@ -3,6 +3,7 @@ pub mod Keys
 pub mod Held
 pub mod Numbered
 pub mod Slotted
+pub mod Once
 pub mod Readying
 pub mod Shows
 pub mod Learning

@@ -5,7 +5,8 @@ use Rattle.zic_base.specs.State.{Shown}
 use Rattle.zic_slots.proofs.Slots.{got_more}
 use Rattle.zic_tzif.specs.Content.{Content}
 use Rattle.zic_tzif.specs.States.{IsStateOfNumber}
-use Rattle.zic_zones.specs.code.Texts.{AreNumbersOf, HasText, Keeps}
+use Rattle.zic_zones.specs.States.{HasState}
+use Rattle.zic_zones.specs.code.Texts.{AreNumbersOf, Keeps}
 
 -- ---- lists that grow at the end
 
@@ -15,7 +16,7 @@ keeps_same xs = record { still = λ i x at. at }
 pub keeps_then : {X : Type 0} (xs ys zs : List X) → Keeps xs ys → Keeps ys zs → Keeps xs zs
 keeps_then xs ys zs first second = record { still = λ i x at. second.still i x (first.still i x at) }
 
-got_still : {X : Type 0} (xs ys : List X) (i : ℕ) (x : X) → slice_get xs i ≡ Some x → slice_get (xs ++ ys) i ≡ Some x
+pub got_still : {X : Type 0} (xs ys : List X) (i : ℕ) (x : X) → slice_get xs i ≡ Some x → slice_get (xs ++ ys) i ≡ Some x
 got_still [] ys i x at = absurd cc
 got_still (z ∷ xs) ys zero x at = at
 got_still (z ∷ xs) ys (suc i) x at = got_still xs ys i x at
@@ -25,7 +26,7 @@ keeps_more xs ys = record { still = λ i x at. got_still xs ys i x at }
 
 -- ---- numbers of texts
 
-pub has_text_still : (old new : List Shown) (n : ℕ) (holds : Shown → Type 0) → Keeps old new → HasText old n holds → HasText new n holds
+pub has_text_still : (old new : List Shown) (n : ℕ) (holds : Shown → Type 0) → Keeps old new → HasState old n holds → HasState new n holds
 has_text_still old new n holds keeps has = λ says. let (text, at, it) = has says in (text, keeps.still n text at, it)
 
 module _ (content : Content) where
@@ -38,12 +39,12 @@ module _ (content : Content) where
   no_numbers texts = record { each = λ number n none. absurd cc }
 
   -- the number of one state more
-  pub number_added : (texts : List Shown) (numbers : List ℕ) (n : ℕ) (state : Shown) → AreNumbersOf content texts numbers → HasText texts n (λ text. text ≡ state)
+  pub number_added : (texts : List Shown) (numbers : List ℕ) (n : ℕ) (state : Shown) → AreNumbersOf content texts numbers → HasState texts n (λ text. text ≡ state)
       → IsStateOfNumber content (length numbers) state → AreNumbersOf content texts (numbers ++ n ∷ [])
   number_added texts numbers n state are has of = record {
     each = λ number m at. elim (got_more numbers n m number at) [
       | inl before ↦ are.each number m before
-      | inr last ↦ subst (λ (k : ℕ). HasText texts k (λ s. IsStateOfNumber content number s)) last.1 (λ says.
+      | inr last ↦ subst (λ (k : ℕ). HasState texts k (λ s. IsStateOfNumber content number s)) last.1 (λ says.
           let (text, got, is) = has says in
           (text, got, subst (λ (s : Shown). IsStateOfNumber content number s) (sym is) (subst (λ (i : ℕ). IsStateOfNumber content i state) last.0 of)))
     ];

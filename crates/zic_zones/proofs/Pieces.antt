@@ -7,7 +7,7 @@ use Rattle.std.proofs.lemmas.List.Elements.{All-append, All-cons, All-head, All-
 use Rattle.zic_base.proofs.Lists.{take_next}
 use Rattle.zic_columns.proofs.Wholes.{wholes_fields}
 use Rattle.zic_columns.specs.Column.{column_records}
-use Rattle.zic_columns.specs.Own.{Whole, whole_records}
+use Rattle.zic_columns.specs.Own.{CsvRecord, csv_records}
 use Rattle.zic_columns.specs.Record.{IsSplit, Splitting, record_at}
 use Rattle.zic_columns.specs.Round.{records_of}
 use Rattle.zic_columns.specs.declared.fields.Record.{Record}
@@ -22,7 +22,7 @@ use Rattle.zic_zones.proofs.Learning.{all_known_on}
 use Rattle.zic_zones.proofs.Records.{zone_text}
 
 -- the name of a zone that stands in a field
-abbrev pub name_in : ℕ → Whole → List ℕ
+abbrev pub name_in : ℕ → CsvRecord → List ℕ
 name_in index whole = field_at whole.fields index
 
 abbrev pub wanted_at : ℕ → Wanted
@@ -33,8 +33,8 @@ pub record LearnsPiece {T : Type 0} (replied : T → Option (List Reply)) (old n
   pub grown : Grows replied old now
   pub piece_is : splitting.piece ≡ piece
   pub wanted : splitting.wanted ≡ wanted_at index
-  pub done : List Whole
-  pub parts : whole_records piece ≡ done ++ splitting.left
+  pub done : List CsvRecord
+  pub parts : csv_records piece ≡ done ++ splitting.left
   pub known : All (IsKnown now.learnt) (map (name_in index) done)
   pub few : count ≤ BATCH
   pub end : count < BATCH → splitting.left ≡ []
@@ -48,12 +48,12 @@ names_split piece index (given ∷ records) split =
     let rest = names_split piece index records (All-tail (IsSplit piece (wanted_at index)) given records split) in
     λ k. one k ∷ rest k
 
-of_fields : (index : ℕ) (wholes : List Whole) → map (name_in index) wholes ≡ map (λ (fields : List (List ℕ)). field_at fields index) (map (λ (w : Whole). w.fields) wholes)
+of_fields : (index : ℕ) (wholes : List CsvRecord) → map (name_in index) wholes ≡ map (λ (fields : List (List ℕ)). field_at fields index) (map (λ (w : CsvRecord). w.fields) wholes)
 of_fields index [] = refl
 of_fields index (w ∷ wholes) = ap (λ (l : List (List ℕ)). name_in index w ∷ l) (of_fields index wholes)
 
 module _ {T : Type 0} (replied : T → Option (List Reply)) (old : TreeOf T) (piece : List ℕ) (index : ℕ) where
-  pub no_batch : (splitting : Splitting) → splitting.piece ≡ piece → splitting.wanted ≡ wanted_at index → splitting.left ≡ whole_records piece
+  pub no_batch : (splitting : Splitting) → splitting.piece ≡ piece → splitting.wanted ≡ wanted_at index → splitting.left ≡ csv_records piece
       → LearnsPiece replied old old piece index splitting BATCH
   no_batch splitting piece_is wanted left = record {
     grown = grows_same replied old;
@@ -81,7 +81,7 @@ module _ {T : Type 0} (replied : T → Option (List Reply)) (old : TreeOf T) (pi
           piece_is = piece_is ∙ far.piece_is;
           wanted = wanted ∙ far.wanted;
           done = far.done ++ wholes;
-          parts = far.parts ∙ ap (λ (l : List Whole). far.done ++ l) split_here ∙ sym (append_assoc far.done wholes next.left);
+          parts = far.parts ∙ ap (λ (l : List CsvRecord). far.done ++ l) split_here ∙ sym (append_assoc far.done wholes next.left);
           known = subst (All (IsKnown then.learnt)) (sym (map-append (name_in index) far.done wholes))
               (All-append (IsKnown then.learnt) (map (name_in index) far.done) (map (name_in index) wholes)
               (all_known_on replied now then (map (name_in index) far.done) grows far.known) names);
@@ -92,9 +92,9 @@ module _ {T : Type 0} (replied : T → Option (List Reply)) (old : TreeOf T) (pi
     -- no record is left
     pub piece_done : count < BATCH → All (IsKnown now.learnt) (map (λ (fields : List (List ℕ)). field_at fields index) (column_records piece))
     piece_done lt =
-        let all : whole_records piece ≡ far.done = far.parts ∙ ap (λ (l : List Whole). far.done ++ l) (far.end lt) ∙ append-nil far.done in
+        let all : csv_records piece ≡ far.done = far.parts ∙ ap (λ (l : List CsvRecord). far.done ++ l) (far.end lt) ∙ append-nil far.done in
         let same : map (name_in index) far.done ≡ map (λ (fields : List (List ℕ)). field_at fields index) (column_records piece) =
-        ap (map (name_in index)) (sym all) ∙ of_fields index (whole_records piece) ∙ ap (map (λ (fields : List (List ℕ)). field_at fields index)) (wholes_fields piece) in
+        ap (map (name_in index)) (sym all) ∙ of_fields index (csv_records piece) ∙ ap (map (λ (fields : List (List ℕ)). field_at fields index)) (wholes_fields piece) in
         subst (All (IsKnown now.learnt)) same far.known
 
 -- the zones of the records of the pieces before those that are left are known

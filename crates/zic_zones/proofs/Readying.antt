@@ -1,7 +1,8 @@
 -- What is made ready of files.
-use Rattle.std.proofs.Common.{◌≡◌, ◌∙◌, ◌<◌, ◌++◌, ℕ, zero, suc, List, [], ◌∷◌, length, Option, Some, None, inl, inr, ap, refl, subst, sym, length-append, arith}
-use Rattle.std.specs.Prelude.{ℤ, pos, ◌+◌, ◌+ℤ◌, IfSome, slice_get, slice_index_or}
-use Rattle.std.proofs.lemmas.Option.{none-some, same_Some, slice_get_within}
+use Rattle.std.proofs.Common.{◌≡◌, ◌∙◌, ◌<◌, ◌++◌, ℕ, zero, suc, List, [], ◌∷◌, length, Option, Some, None, inl, inr, ap, subst, sym, length-append, arith}
+use Rattle.std.specs.Prelude.{ℤ, ◌+◌, IfSome, slice_get, slice_index_or}
+use Rattle.std.proofs.lemmas.Option.{same_Some, slice_get_within}
+use Rattle.zic_base.proofs.Elements.{got}
 use Rattle.zic_base.proofs.Options.{if_at}
 use Rattle.zic_base.specs.State.{Shown}
 use Rattle.zic_files.specs.File.{File}
@@ -17,8 +18,8 @@ use Rattle.zic_zones.proofs.Numbered.{numbers_still}
 use Rattle.zic_zones.specs.code.Ready.{AnswersState, AreReady, IsReadyZone, IsTextOf}
 use Rattle.zic_zones.specs.code.NameKeys.{AreNamesOf}
 use Rattle.zic_zones.specs.code.Tables.{HasTexts}
+use Rattle.zic_zones.specs.States.{HasState}
 use Rattle.zic_zones.specs.Zones.{AnswersAt}
-use Rattle.zic_tzif.specs.States.{IsStateOfNumber}
 use Rattle.zic_zones.specs.code.Texts.{IsText, Keeps}
 use Rattle.zic_zones.specs.declared.ready.Ready.{Ready}
 use Rattle.zic_zones.specs.declared.ready.ReadyZone.{ReadyZone}
@@ -32,15 +33,6 @@ got_before (z ∷ xs) ys (suc i) x lt e = got_before xs ys i x (omega (arith, lt
 pub if_some_then : {X : Type 0} (o : Option X) {P Q : X → Type 0} → IfSome o P → ((x : X) → P x → Q x) → IfSome o Q
 if_some_then None holds then = tt
 if_some_then (Some x) holds then = then x holds
-
--- a table of the first era alone
-pub tables_by_era : (holds : ℕ → ℕ → Type 0) (first : Option ℕ) → IfSome first (holds 0) → (era start : ℕ) → slice_index_or (first ∷ None ∷ None ∷ None ∷ []) era None ≡ Some start
-    → holds era start
-tables_by_era holds first is zero start at = if_at first (holds 0) start is at
-tables_by_era holds first is (suc zero) start at = absurd (none-some start at)
-tables_by_era holds first is (suc (suc zero)) start at = absurd (none-some start at)
-tables_by_era holds first is (suc (suc (suc zero))) start at = absurd (none-some start at)
-tables_by_era holds first is (suc (suc (suc (suc era)))) start at = absurd (none-some start at)
 
 zone_still : (content : Content) (texts texts' : List Shown) (slots slots' : List Slot) (zone : ReadyZone) → Keeps texts texts' → Keeps slots slots'
     → IsReadyZone content texts slots zone → IsReadyZone content texts' slots' zone
@@ -100,26 +92,35 @@ ready_added files old new zone content named pushed texts tables lt is made are 
       ];
 }
 
--- what follows of each value follows of whatever is there
-pub if_each : {X : Type 0} (o : Option X) {P : X → Type 0} → ((x : X) → o ≡ Some x → P x) → IfSome o P
-if_each None each = tt
-if_each (Some x) each = each x refl
+-- what a number says of the state of its text
+pub told : (states : List Shown) (n : ℕ) (state : Shown) (holds : Shown → Type 0) → HasState states n holds → IsText states n state → holds state
+told states n state holds has is =
+    let (other, got, it) = has is.0 in
+    subst holds (same_Some other state (sym got ∙ is.1)) it
 
 module _ (files : List File) (ready : Ready) (are : AreReady files ready) (file : ℕ) (zone : ReadyZone) (ready_at : slice_get ready.zones.items file ≡ Some zone) where
-  -- the text of a state
-  pub text_told : (number n : ℕ) (text : Shown) → slice_get zone.numbers.items number ≡ Some n → IsText ready.texts n text → IsTextOf files file number text
-  text_told number n text named is = if_each (slice_get files file) (λ f at.
-      let (other, got, of) = (are.each file f zone at ready_at).numbers.each number n named is.0 in
-      subst (λ (s : Shown). IsStateOfNumber f.image.content number s) (same_Some other text (sym got ∙ is.1)) of)
+  -- the file of the zone
+  its_file : (f : File) × (slice_get files file ≡ Some f)
+  its_file =
+      let few = are.few in
+      let lt = slice_get_within ready.zones.items file zone ready_at in
+      got files file (omega (arith, few, lt))
 
-  -- the text that a table tells
-  pub quick_told : (instant : ℤ) (place : Place) (start : ℕ) (slot : Slot) (text : Shown) → IsPlaceOf instant place → slice_index_or zone.tables place.era None ≡ Some start
-      → slice_get ready.tables (start + place.slot) ≡ Some slot → IsText ready.texts (number_at slot place.second) text → AnswersAt files file instant text
-  quick_told instant place start slot text lies begins at_slot is = if_each (slice_get files file) (λ f at.
+  -- the number of a state
+  pub state_told : (number n : ℕ) → slice_get zone.numbers.items number ≡ Some n → HasState ready.texts n (λ s. IsTextOf files file number s)
+  state_told number n named = λ says.
+      let (f, at) = its_file in
+      let (state, got, of) = (are.each file f zone at ready_at).numbers.each number n named says in
+      (state, got, rw at of)
+
+  -- the number that a table tells
+  pub quick_told : (instant : ℤ) (place : Place) (start : ℕ) (slot : Slot) → IsPlaceOf instant place → slice_index_or zone.tables place.era None ≡ Some start
+      → slice_get ready.tables (start + place.slot) ≡ Some slot → HasState ready.texts (number_at slot place.second) (λ s. AnswersAt files file instant s)
+  quick_told instant place start slot lies begins at_slot = λ says.
+      let (f, at) = its_file in
       let content = f.image.content in
       let table = (are.each file f zone at ready_at).tables place.era start begins in
       let (other, at_other, has) = table.is place.slot lies.slot in
       let texts = subst (λ (s : Slot). HasTexts ready.texts (AnswersState content) (start_of place.era place.slot) s) (same_Some other slot (sym at_other ∙ at_slot)) has in
-      let (state, got, answers) = texts place.second lies.second is.0 in
-      subst (λ (t : ℤ). AnswersState content t text) lies.is
-      (subst (λ (s : Shown). AnswersState content (start_of place.era place.slot +ℤ pos place.second) s) (same_Some state text (sym got ∙ is.1)) answers))
+      let (state, got, answers) = texts place.second lies.second says in
+      (state, got, rw at (subst (λ (t : ℤ). AnswersState content t state) lies.is answers))

@@ -1,10 +1,9 @@
 -- Tables of slots.
-use Rattle.std.proofs.Common.{◌≡◌, ◌∙◌, ◌<◌, ◌+◌, ◌++◌, ℕ, suc, ℤ, List, [], ◌∷◌, length, Some, ap, subst, arith}
+use Rattle.std.proofs.Common.{◌≡◌, ◌∙◌, ◌+◌, ◌++◌, ℕ, suc, ℤ, List, [], ◌∷◌, length, Some, ap, subst, arith}
 use Rattle.std.specs.Prelude.{◌*◌, pos, ◌+ℤ◌, slice_get}
-use Rattle.zic_base.proofs.Elements.{got}
 use Rattle.zic_base.specs.State.{Shown}
-use Rattle.zic_slots.specs.Slots.{AreRight, number_at}
-use Rattle.zic_slots.specs.declared.limit.TheConstants.{SLOT_SECONDS, SLOTS}
+use Rattle.zic_slots.specs.Slots.{number_at}
+use Rattle.zic_slots.specs.declared.limit.TheConstants.{SLOT_SECONDS}
 use Rattle.zic_slots.specs.declared.slot.Slot.{Slot}
 use Rattle.zic_tzif.proofs.States.{one_state}
 use Rattle.zic_tzif.specs.Answer.{Answers}
@@ -15,21 +14,11 @@ use Rattle.zic_zones.specs.code.Tables.{HasTable, IsTable}
 use Rattle.zic_zones.specs.code.Texts.{AreNumbersOf, Keeps}
 
 -- an element of the second of two lists
-got_right : {X : Type 0} (xs ys : List X) (i : ℕ) → slice_get (xs ++ ys) (length xs + i) ≡ slice_get ys i
+pub got_right : {X : Type 0} (xs ys : List X) (i : ℕ) → slice_get (xs ++ ys) (length xs + i) ≡ slice_get ys i
 got_right [] ys i = let none : 0 + i ≡ i = omega arith in ap (slice_get ys) none
 got_right (x ∷ xs) ys i =
     let next : length (x ∷ xs) + i ≡ suc (length xs + i) = omega arith in
     ap (slice_get (x ∷ (xs ++ ys))) next ∙ got_right xs ys i
-
--- a table after all slots from before
-pub table_added : (content : Content) (numbers : List ℕ) (slots made : List Slot) (base : ℤ) → length made ≡ SLOTS → AreRight content numbers base made
-    → HasTable content numbers (slots ++ made) base (length slots)
-table_added content numbers slots made base long right = record {
-  is = λ place lt.
-      let within : place < length made = omega (arith, long, lt) in
-      let (slot, at) = got made place within in
-      (slot, got_right slots made place ∙ at, right.each place slot at);
-}
 
 -- the texts of the numbers of a table
 pub texts_of_table : (content : Content) (numbers : List ℕ) (texts : List Shown) (slots : List Slot) (base : ℤ) (start : ℕ) → AreNumbersOf content texts numbers

@@ -1,4 +1,5 @@
 pub mod Zones
+pub mod States
 pub mod Source
 pub mod Tree
 pub mod Growing

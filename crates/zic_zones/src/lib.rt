@@ -5,14 +5,19 @@
 pub mod laws;
 mod name_keys;
 mod ready;
+mod row_states;
 mod row_zones;
+mod runs;
+mod slot_set;
 mod source_zones;
 mod tables;
 mod texts;
 mod tree_zones;
 mod zones;
 
+pub use row_states::RowStates;
 pub use row_zones::{RowSpan, RowZones};
 pub use source_zones::SourceZones;
 pub use tree_zones::TreeZones;
+pub use zic_slots::UNKNOWN;
 pub use zones::Zones;

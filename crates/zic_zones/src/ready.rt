@@ -1,7 +1,8 @@
 //! What is made ready of files before rows are made.
 
-ghost use Rattle.std.specs.Prelude.{◌≡◌, ◌<◌, ◌≤◌, List, [], IfOk, IfSome, length, slice_range};
+ghost use Rattle.std.specs.Prelude.{◌≡◌, ◌<◌, ◌≤◌, List, [], IfOk, IfSome, Some, length, slice_get, slice_range};
 ghost use Rattle.zic_files.specs.File.{File};
+ghost use Rattle.zic_zones.specs.States.{HasState};
 ghost use Rattle.zic_zones.specs.Zones.{AnswersAt};
 ghost use Rattle.zic_zones.specs.code.Ready.{AreReady, IsFileOf, IsReadyZone, IsTextOf};
 ghost use Rattle.zic_zones.specs.code.Texts.{Keeps};
@@ -12,7 +13,7 @@ use crate::texts::Texts;
 use std::alloc::{AllocError, Global};
 use zic_files::Files;
 use zic_rows::StateText;
-use zic_slots::{ERAS, FIRST_BASE, place_of};
+use zic_slots::{ERAS, UNKNOWN, place_of};
 use zic_tzif::Zone;
 
 /// What is made ready of a zone.
@@ -70,8 +71,7 @@ impl Ready {
         ensures ready { IfOk result (IsReadyZone zone.now self.new.texts self.new.tables) }
     {
         let numbers = self.texts.add_zone(alloc, zone)?;
-        let first = self.tables.add(alloc, zone, &numbers, FIRST_BASE)?;
-        let tables = [first, None, None, None];
+        let tables = self.tables.add_zone(alloc, zone, &numbers)?;
         Ok(ReadyZone { numbers, tables })
     }
 
@@ -86,15 +86,68 @@ impl Ready {
         self.names.quick(bytes, start, end)
     }
 
+    /// Returns the number of the text of a state of a file, by the number of the state, where one was
+    /// made.
+    #[inline(always)]
+    fn state_in(&self, file: usize, number: usize) -> Option<u16>
+        ensures { (files : List File) → AreReady files self.now
+            → IfSome result (λ n. HasState self.now.texts n (IsTextOf files file number)) }
+    {
+        let zone = self.zones.get(file)?;
+        let text = zone.numbers.get(number)?;
+        Some(*text)
+    }
+
+    /// Returns the number of the text of the state that a file shows at an instant, where a table
+    /// tells it.
+    #[inline(always)]
+    fn state_by_table(&self, file: usize, instant: i64) -> Option<u16>
+        ensures { (files : List File) → AreReady files self.now
+            → IfSome result (λ n. HasState self.now.texts n (AnswersAt files file instant)) }
+    {
+        let zone = self.zones.get(file)?;
+        let place = place_of(instant)?;
+        let start = zone.tables[place.era]?;
+        let slot = self.tables.slot(start, place.slot)?;
+        Some(slot.number_at(place.second))
+    }
+
+    /// Returns the number of the text of a state of a file, by the number of the state. `UNKNOWN` says
+    /// nothing.
+    #[inline(always)]
+    pub(crate) fn state(&self, file: usize, number: usize) -> u16
+        ensures { (files : List File) → AreReady files self.now
+            → HasState self.now.texts result (IsTextOf files file number) }
+    {
+        self.state_in(file, number).unwrap_or(UNKNOWN)
+    }
+
+    /// Returns the number of the text of the state that a file shows at an instant. `UNKNOWN` says
+    /// nothing.
+    #[inline(always)]
+    pub(crate) fn quick_state(&self, file: usize, instant: i64) -> u16
+        ensures { (files : List File) → AreReady files self.now
+            → HasState self.now.texts result (AnswersAt files file instant) }
+    {
+        self.state_by_table(file, instant).unwrap_or(UNKNOWN)
+    }
+
+    /// Returns the text of a state, by its number.
+    #[inline(always)]
+    pub(crate) fn state_text(&self, number: u16) -> &StateText
+        requires { number < length self.now.texts }
+        ensures { slice_get self.now.texts number ≡ Some result.now }
+    {
+        self.texts.text(number)
+    }
+
     /// Returns the text of a state of a file, by their numbers, where one was made.
     #[inline(always)]
     pub(crate) fn text(&self, file: usize, number: usize) -> Option<&StateText>
         ensures { (files : List File) → AreReady files self.now
             → IfSome result (λ text. IsTextOf files file number text.now) }
     {
-        let zone = self.zones.get(file)?;
-        let text = zone.numbers.get(number)?;
-        self.texts.get(*text)
+        self.texts.get(self.state(file, number))
     }
 
     /// Returns the text of the state that a file shows at an instant, where a table tells it.
@@ -103,10 +156,6 @@ impl Ready {
         ensures { (files : List File) → AreReady files self.now
             → IfSome result (λ text. AnswersAt files file instant text.now) }
     {
-        let zone = self.zones.get(file)?;
-        let place = place_of(instant)?;
-        let start = zone.tables[place.era]?;
-        let slot = self.tables.slot(start, place.slot)?;
-        self.texts.get(slot.number_at(place.second))
+        self.texts.get(self.quick_state(file, instant))
     }
 }

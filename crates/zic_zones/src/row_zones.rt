@@ -7,6 +7,7 @@ ghost use Rattle.zic_rows.specs.Row.{IsRowState};
 ghost use Rattle.zic_zones.specs.Zones.{AnswersAt, IsShownAt, ShowsThroughout, number_of};
 
 use crate::ready::Ready;
+use crate::row_states::RowStates;
 use std::marker::Model;
 use zic_files::Files;
 use zic_rows::{RowWriter, StateText};
@@ -95,6 +96,17 @@ impl<'a> RowZones<'a> {
                 number: span.number,
             },
             Answer::Unspecified => unreachable!(),
+        }
+    }
+
+    /// Returns the states that the files show, by number.
+    #[inline(always)]
+    pub fn states(&self) -> RowStates<'a>
+        ensures { result.files ≡ self.now }
+    {
+        RowStates {
+            files: self.files,
+            ready: self.ready,
         }
     }
 

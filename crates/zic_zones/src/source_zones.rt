@@ -12,6 +12,7 @@ use std::marker::Model;
 use zic_columns::Round;
 use zic_files::Files;
 use zic_plan::ZoneFrom;
+use zic_slots::place_of;
 
 /// The zones of the files of a source, all of them ready for rows. Clauses see the files.
 #[derive(Drop)]
@@ -27,7 +28,12 @@ enum Rounds {
     None,
     One,
     Several,
+    /// One of them begins with an instant of an era after the first.
+    Late,
 }
+
+/// How many of the first bytes of a round are searched for an instant: those of some records.
+const FIRST_BYTES: usize = 128;
 
 impl<'a> Model for SourceZones<'a> {
     ghost use Rattle.std.specs.Prelude.{List};
@@ -43,7 +49,8 @@ impl<'a> Model for SourceZones<'a> {
 
 impl<'a> SourceZones<'a> {
     /// Makes the zones of all files ready. Tables by which rows are made faster come with the second
-    /// round: a short column has only one.
+    /// round, since a short column has only one; those of the years after 2038 come with a round that
+    /// begins with an instant of theirs.
     ///
     /// # Errors
     ///
@@ -83,6 +90,31 @@ fn ready_of(alloc: Global, files: &Files, expected: Expected) -> Result<Ready, A
     Ok(ready)
 }
 
+/// Returns whether some first bytes of a piece have a number that is an instant of an era after the
+/// first.
+fn begins_late(piece: &[u8]) -> bool {
+    let mut number = 0i64;
+    for byte in piece.iter().take(FIRST_BYTES) {
+        if byte.is_ascii_digit() {
+            let digit = i64::from(*byte ^ b'0');
+            number = number.wrapping_mul(10).wrapping_add(digit);
+        } else if is_late(number) {
+            return true;
+        } else {
+            number = 0;
+        }
+    }
+    false
+}
+
+/// Returns whether an instant is in an era after the first.
+fn is_late(instant: i64) -> bool {
+    match place_of(instant) {
+        Some(place) => place.era > 0,
+        None => false,
+    }
+}
+
 impl<'a> Zones for SourceZones<'a> {
     ghost use Rattle.std.specs.Prelude.{◌≡◌, refl};
     ghost use Rattle.zic_files.specs.Sound.{AreSoundFiles};
@@ -110,14 +142,21 @@ impl<'a> Zones for SourceZones<'a> {
         _zone: &ZoneFrom,
         round: &Round<'_>,
     ) -> Result<(), AllocError> {
+        // The round after the last has no piece.
+        if round.len() == 0 {
+            return Ok(());
+        }
         match self.rounds {
             Rounds::None => self.rounds = Rounds::One,
-            // The round after the last has no piece.
-            Rounds::One if 0 < round.len() => {
+            Rounds::One | Rounds::Several if begins_late(round.piece(0)) => {
+                self.ready = ready_of(alloc, self.files, Expected::LateRows)?;
+                self.rounds = Rounds::Late;
+            }
+            Rounds::One => {
                 self.ready = ready_of(alloc, self.files, Expected::ManyRows)?;
                 self.rounds = Rounds::Several;
             }
-            Rounds::One | Rounds::Several => {}
+            Rounds::Several | Rounds::Late => {}
         }
         Ok(())
     }

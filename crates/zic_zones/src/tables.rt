@@ -1,37 +1,62 @@
 //! Tables of slots, one after another.
 
-ghost use Rattle.std.specs.Prelude.{◌≡◌, ◌<◌, ◌≤ℤ◌, [], IfOk, IfSome, slice_get, Some, ◌+◌};
-ghost use Rattle.zic_slots.specs.declared.limit.TheConstants.{LAST_BASE, SLOTS};
-ghost use Rattle.zic_zones.specs.code.Tables.{HasTable};
+ghost use Rattle.std.specs.Prelude.{◌≡◌, ◌<◌, ◌≤◌, ◌≤ℤ◌, [], IfOk, IfSome, slice_get, Some, ◌+◌};
+ghost use Rattle.zic_slots.specs.Places.{base_of};
+ghost use Rattle.zic_slots.specs.declared.limit.TheConstants.{ERAS, LAST_BASE, SLOTS};
+ghost use Rattle.zic_zones.specs.code.Tables.{HasTable, HaveTables};
 ghost use Rattle.zic_zones.specs.code.Texts.{Keeps};
 
+use crate::runs::Runs;
+use crate::slot_set::SlotSet;
 use std::alloc::{AllocError, Global};
 use std::marker::Model;
-use zic_slots::{Slot, slots_of};
+use zic_slots::{ERAS, FIRST_BASE, Slot, slots_of};
 use zic_tzif::Zone;
 
-/// How many rows are expected. Tables pay for many: those of a whole release take as long as some
-/// thousand rows.
+/// What rows are expected. Tables pay for many: those of one era take as long as some ten thousand
+/// rows.
 #[derive(Clone, Copy, Debug, Drop)]
 pub(crate) enum Expected {
     FewRows,
+    /// Of the first era.
     ManyRows,
+    /// Of all eras.
+    LateRows,
 }
 
-/// The slots of tables, one table after another. Clauses see the slots.
+impl Expected {
+    /// Returns the number of eras, from the first on, that tables pay for.
+    fn eras(self) -> usize
+        ensures { result ≤ ERAS }
+    {
+        match self {
+            Expected::FewRows => 0,
+            Expected::ManyRows => 1,
+            Expected::LateRows => ERAS,
+        }
+    }
+}
+
+/// The slots of tables, one table after another: each slot is kept once, with a number, and a table
+/// is the numbers of its slots. Clauses see the slots.
 #[derive(Drop)]
 pub(crate) struct Tables {
-    slots: Vec<Slot>,
+    slots: SlotSet,
+    /// The numbers of the slots.
+    numbers: Runs,
     expected: Expected,
 }
 
 impl Model for Tables {
-    ghost use Rattle.std.specs.Prelude.{List};
+    ghost use Rattle.std.specs.Prelude.{List, map};
     ghost use Rattle.zic_slots.specs.declared.slot.Slot.{Slot};
+    ghost use Rattle.zic_zones.specs.code.Tables.{HaveSlots, slot_of};
 
     ghost Value = { List Slot };
 
-    ghost view = { λ t. t.slots.items };
+    ghost view = { λ t. map (slot_of t.slots) t.numbers };
+
+    ghost invariant = { λ t. HaveSlots t.slots t.numbers };
 }
 
 impl Tables {
@@ -40,14 +65,34 @@ impl Tables {
         ensures { result ≡ [] }
     {
         Tables {
-            slots: Vec::new(alloc),
+            slots: SlotSet::new(alloc),
+            numbers: Runs::new(alloc),
             expected,
         }
     }
 
-    /// Adds the table of a zone from an instant on, and returns where it begins, or `None` where few
-    /// rows are expected or there are too many tables.
-    pub(crate) fn add(
+    /// Adds the tables of a zone, of the eras that are expected, and returns where they begin. An era
+    /// has none where there are too many tables.
+    pub(crate) fn add_zone(
+        &mut self,
+        alloc: Global,
+        zone: &Zone,
+        numbers: &[u16],
+    ) -> Result<[Option<u32>; ERAS], AllocError>
+        ensures kept { Keeps self.old self.new }
+        ensures tables { IfOk result (HaveTables zone.now numbers.now self.new) }
+    {
+        let mut starts = [None; ERAS];
+        let eras = self.expected.eras();
+        for era in 0..eras {
+            starts[era] = self.add(alloc, zone, numbers, base_of(era))?;
+        }
+        Ok(starts)
+    }
+
+    /// Adds the table of a zone from an instant on, and returns where it begins, or `None` where there
+    /// are too many tables.
+    fn add(
         &mut self,
         alloc: Global,
         zone: &Zone,
@@ -59,15 +104,11 @@ impl Tables {
         ensures table { IfOk result (λ start. IfSome start
             (HasTable zone.now numbers.now self.new base)) }
     {
-        if let Expected::FewRows = self.expected {
-            return Ok(None);
-        }
-        let Ok(start) = u32::try_from(self.slots.len()) else {
-            return Ok(None);
-        };
         let slots = slots_of(alloc, zone, numbers, base)?;
-        self.slots.extend_from_slice(&slots)?;
-        Ok(Some(start))
+        match self.slots.numbers_of(alloc, &slots)? {
+            Some(run) => self.numbers.add(&run),
+            None => Ok(None),
+        }
     }
 
     /// Returns a slot of the table that begins there, by its number in the table.
@@ -76,6 +117,16 @@ impl Tables {
         requires { number < SLOTS }
         ensures { IfSome result (λ slot. slice_get self.now (start + number) ≡ Some slot) }
     {
-        Some(*self.slots.get(start as usize + number)?)
+        let found = self.numbers.number(start as usize + number)?;
+        self.slots.slot(found)
     }
+}
+
+/// Returns the first instant of an era.
+fn base_of(era: usize) -> i64
+    requires { era < ERAS }
+    ensures value { result ≡ base_of era }
+    ensures far { result ≤ℤ LAST_BASE }
+{
+    FIRST_BASE + era as i64 * (1 << 32)
 }

@@ -4,6 +4,7 @@ use Rattle.zic_base.specs.State.{Shown}
 use Rattle.zic_slots.specs.declared.limit.TheConstants.{UNKNOWN}
 use Rattle.zic_tzif.specs.Content.{Content}
 use Rattle.zic_tzif.specs.States.{IsStateOfNumber}
+use Rattle.zic_zones.specs.States.{HasState}
 
 -- A list came of another by additions at the end: what has a number keeps it.
 pub record Keeps {X : Type 0} (old new : List X) : Type 0 where
@@ -13,10 +14,6 @@ pub record Keeps {X : Type 0} (old new : List X) : Type 0 where
 abbrev pub IsText : List Shown → ℕ → Shown → Type 0
 IsText texts n text = (n ≢ UNKNOWN) × (slice_get texts n ≡ Some text)
 
--- a number says nothing, or it is that of a text of which this holds
-abbrev pub HasText : List Shown → ℕ → (Shown → Type 0) → Type 0
-HasText texts n holds = n ≢ UNKNOWN → (text : Shown) × (slice_get texts n ≡ Some text) × holds text
-
 -- Numbers of the texts of a zone's states, or that say nothing.
 pub record AreNumbersOf (content : Content) (texts : List Shown) (numbers : List ℕ) : Type 0 where
-  pub each : (number n : ℕ) → slice_get numbers number ≡ Some n → HasText texts n (IsStateOfNumber content number)
+  pub each : (number n : ℕ) → slice_get numbers number ≡ Some n → HasState texts n (IsStateOfNumber content number)

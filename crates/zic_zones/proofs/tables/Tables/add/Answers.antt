@@ -1,21 +1,52 @@
-use Rattle.std.proofs.Common.{◌≡◌, ◌++◌, ℕ, ℤ, List, length, subst, to_z-of_z, rules}
+use Rattle.std.proofs.Common.{◌≡◌, ℕ, ℤ, List, length, map, sym, subst, to_z-of_z, rules}
 use Rattle.zic_slots.specs.Slots.{AreRight}
 use Rattle.zic_slots.specs.declared.limit.TheConstants.{SLOTS}
 use Rattle.zic_slots.specs.declared.slot.Slot.{Slot}
-use Rattle.zic_zones.proofs.Slotted.{table_added}
-use Rattle.zic_zones.specs.code.Tables.{HasTable}
+use Rattle.zic_zones.proofs.Numbered.{keeps_same}
+use Rattle.zic_zones.proofs.Once.{either_have, either_keeps, has_table, have_still, if_ok_some, slots_still}
+use Rattle.zic_zones.specs.code.Tables.{AreNumbersOfSlots, slot_of}
+use Rattle.zic_zones.specs.code.Texts.{Keeps}
 use Rattle.zic_zones.proofs.tables.Tables.add.Goals as goal
 
-pub returns-clause-table : goal.returns-clause-table
-returns-clause-table c =
+pub returns-in_err-run-clause-kept : goal.returns-in_err-run-clause-kept
+returns-in_err-run-clause-kept c =
+    let old = c.self.inside in
+    let set = c.numbers_of.new.self in
+    subst (λ (l : List Slot). Keeps l (map (slot_of set) old.numbers)) c.self.view_is
+    (slots_still old.slots set c.numbers_of.ensures.kept old.numbers old.numbers c.self.invariant (keeps_same old.numbers))
+
+pub returns-clause-kept : goal.returns-clause-kept
+returns-clause-kept c =
+    let old = c.self.inside in
+    let set = c.numbers_of.new.self in
+    subst (λ (l : List Slot). Keeps l (map (slot_of set) old.numbers)) c.self.view_is
+    (slots_still old.slots set c.numbers_of.ensures.kept old.numbers old.numbers c.self.invariant (keeps_same old.numbers))
+
+pub returns-in-Some-clause-kept : goal.returns-in-Some-clause-kept
+returns-in-Some-clause-kept c =
+    let old = c.self.inside in
+    let set = c.numbers_of.new.self in
+    let numbers = c.add.new.self in
+    subst (λ (l : List Slot). Keeps l (map (slot_of set) numbers)) c.self.view_is
+    (slots_still old.slots set c.numbers_of.ensures.kept old.numbers numbers c.self.invariant (either_keeps old.numbers numbers c.deref-in-Some.result.now c.add.ensures.kept))
+
+pub invariant_of-self-in-Some : goal.invariant_of-self-in-Some
+invariant_of-self-in-Some c =
+    let old = c.self.inside in
+    let set = c.numbers_of.new.self in
+    let run = c.deref-in-Some.result.now in
+    let are = subst (λ (l : List ℕ). AreNumbersOfSlots set l c.deref.result.now) (sym c.deref-in-Some.ensures.value) (rw c.in-Some.is at c.in_ok-run.ensures.numbers) in
+    either_have set run c.deref.result.now are old.numbers c.add.new.self (have_still old.slots set c.numbers_of.ensures.kept old.numbers c.self.invariant) c.add.ensures.kept
+
+pub returns-in-Some-clause-table : goal.returns-in-Some-clause-table
+returns-in-Some-clause-table c =
     let content = c.args.zone.now in
-    let numbers = c.args.numbers.now in
-    let slots = c.self.inside.slots.items in
-    let made = c.in_ok-slots.slots.items in
     let base = c.args.base in
-    let right = subst (λ (t : ℤ). AreRight content numbers t made) (to_z-of_z c.ranges.base) c.in_ok-slots.ensures.right in
+    let set = c.numbers_of.new.self in
+    let run = c.deref-in-Some.result.now in
+    let made = c.in_ok-slots.slots.items in
+    let right = subst (λ (t : ℤ). AreRight content c.args.numbers.now t made) (to_z-of_z c.ranges.base) c.in_ok-slots.ensures.right in
     let long : length made ≡ SLOTS = search rules in
-    let table = table_added content numbers slots made base long right in
-    let start : length slots ≡ c.in-Ok.start = search rules in
-    let pushed : slots ++ made ≡ c.extend_from_slice.new.self.items = search rules in
-    subst (λ (n : ℕ). HasTable content numbers c.extend_from_slice.new.self.items base n) start (subst (λ (l : List Slot). HasTable content numbers l base (length slots)) pushed table)
+    let are = subst (λ (l : List ℕ). AreNumbersOfSlots set l c.deref.result.now) (sym c.deref-in-Some.ensures.value) (rw c.in-Some.is at c.in_ok-run.ensures.numbers) in
+    let of = subst (λ (l : List Slot). AreNumbersOfSlots set run l) c.deref.ensures.value are in
+    if_ok_some c.add.result c.add.ensures.start (λ start stands. has_table set run made of content c.args.numbers.now base c.add.new.self start long right stands)

@@ -1,0 +1,10 @@
+use Rattle.std.proofs.Common.{take}
+use Rattle.zic_zones.specs.code.Tables.{AreNumbersOfSlots}
+use Rattle.zic_zones.specs.code.Texts.{Keeps}
+use Rattle.zic_zones.proofs.slot_set.SlotSet.numbers_of.Given as goal
+
+abbrev pub invariant-loop-slot : goal.invariant-loop-slot
+invariant-loop-slot l = record {
+  kept : Keeps l.fn.self l.self;
+  are : AreNumbersOfSlots l.self l.numbers.items (take l.slot-index l.slots);
+}
