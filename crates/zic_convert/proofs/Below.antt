@@ -6,7 +6,7 @@ use Rattle.std.specs.Io.KnownBytes.{Appends}
 use Rattle.std.specs.List.{concat}
 use Rattle.std.specs.Prelude.{IfSome}
 use Rattle.csv.proofs.WriteFacts.{appends-more}
-use Rattle.zic_columns.specs.Own.{Whole}
+use Rattle.zic_columns.specs.Own.{CsvRecord}
 use Rattle.zic_files.specs.File.{File}
 use Rattle.zic_plan.specs.declared.layout.Header.{Header}
 use Rattle.zic_plan.specs.declared.layout.Layout.{Layout}
@@ -22,13 +22,13 @@ use Rattle.zic_convert.specs.code.Progress.{ConvertsColumn, EndsInColumn, output
 use Rattle.zic_convert.proofs.Bytes.{starts_later}
 use Rattle.zic_convert.proofs.Options.{for_some, if_some}
 
-module _ (layout : Layout) (files : List File) (most : ℕ) (wholes : List Whole) (head : List ℕ) (old mid new : Option (List ℕ)) (log last : Option (List RowFault)) (begun : Appends old mid head) where
-  pub rows_below : (n : ℕ) → WritesRows layout files most [] wholes n (output mid new log last) → WritesRows layout files most head wholes n (output old new log last)
+module _ (layout : Layout) (files : List File) (most : ℕ) (row_records : List CsvRecord) (head : List ℕ) (old mid new : Option (List ℕ)) (log last : Option (List RowFault)) (begun : Appends old mid head) where
+  pub rows_below : (n : ℕ) → WritesRows layout files most [] row_records n (output mid new log last) → WritesRows layout files most head row_records n (output old new log last)
   rows_below n w = (record { texts = w.0.texts; converts = w.0.converts; count = w.0.count; wrote = appends-more old mid new head (concat w.0.texts) begun w.0.wrote }, w.1)
 
-  module _ (why : RunStop) (w : EndsAfterLines layout files most [] wholes why (output mid new log last)) where
+  module _ (why : RunStop) (w : EndsAfterLines layout files most [] row_records why (output mid new log last)) where
     lines_with : (lines : ℕ) (text : List ℕ) → concat (take w.lines ([] ∷ w.texts)) ≡ text → concat (take lines (head ∷ w.texts)) ≡ head ++ text → lines - 1 ≡ w.lines - 1
-        → EndsAfterLines layout files most head wholes why (output old new log last)
+        → EndsAfterLines layout files most head row_records why (output old new log last)
     lines_with lines text before after rows = record {
       texts = w.texts;
       fault = w.fault;
@@ -43,17 +43,17 @@ module _ (layout : Layout) (files : List File) (most : ℕ) (wholes : List Whole
         | inr failed ↦ inr failed
       ];
       wrote = appends-more old mid new head w.part begun w.wrote;
-      noted = subst (λ (k : ℕ). Notes log last (faults_by layout files most 1 (take k wholes))) (sym rows) w.noted;
+      noted = subst (λ (k : ℕ). Notes log last (faults_by layout files most 1 (take k row_records))) (sym rows) w.noted;
     }
 
-    by_lines : (lines : ℕ) → w.lines ≡ lines → EndsAfterLines layout files most head wholes why (output old new log last)
+    by_lines : (lines : ℕ) → w.lines ≡ lines → EndsAfterLines layout files most head row_records why (output old new log last)
     by_lines zero e = lines_with 1 [] (ap (λ (k : ℕ). concat (take k ([] ∷ w.texts))) e) refl (omega (arith, e))
     by_lines (suc k) e = lines_with (suc k) (concat (take k w.texts)) (ap (λ (k : ℕ). concat (take k ([] ∷ w.texts))) e) refl (omega (arith, e))
 
-    pub lines_below : EndsAfterLines layout files most head wholes why (output old new log last)
+    pub lines_below : EndsAfterLines layout files most head row_records why (output old new log last)
     lines_below = by_lines w.lines refl
 
-  pub ends_below : (why : RunStop) → EndsIn layout files most [] wholes why (output mid new log last) → EndsIn layout files most head wholes why (output old new log last)
+  pub ends_below : (why : RunStop) → EndsIn layout files most [] row_records why (output mid new log last) → EndsIn layout files most head row_records why (output old new log last)
   ends_below (stop.Row row kind) w =
       (record { texts = w.0.texts; converts = w.0.converts; number = w.0.number; wrote = appends-more old mid new head (concat w.0.texts) begun w.0.wrote }, w.1)
   ends_below (stop.Source fault) w = absurd w
@@ -70,19 +70,19 @@ one_line starts.Record header d line own = inl refl
 
 -- ---- below the line of names
 
-module _ (layout : Layout) (files : List File) (most : ℕ) (column : List ℕ) (wholes : List Whole) (old mid new : Option (List ℕ)) (log last : Option (List RowFault))
+module _ (layout : Layout) (files : List File) (most : ℕ) (column : List ℕ) (row_records : List CsvRecord) (old mid new : Option (List ℕ)) (log last : Option (List RowFault))
     (begun : Appends old mid (names_line layout)) where
   longer : (texts : List (List ℕ)) → Appends mid new (own_line layout column ++ concat texts) → Appends old new (header_text layout column ++ concat texts)
   longer texts wrote =
       subst (λ (l : List ℕ). Appends old new l) (sym (append_assoc (names_line layout) (own_line layout column) (concat texts)))
       (appends-more old mid new (names_line layout) (own_line layout column ++ concat texts) begun wrote)
 
-  pub rows_after_names : (n : ℕ) → WritesRows layout files most (own_line layout column) wholes n (output mid new log last) → WritesRows layout files most (header_text layout column) wholes n (output old new log last)
+  pub rows_after_names : (n : ℕ) → WritesRows layout files most (own_line layout column) row_records n (output mid new log last) → WritesRows layout files most (header_text layout column) row_records n (output old new log last)
   rows_after_names n w = (record { texts = w.0.texts; converts = w.0.converts; count = w.0.count; wrote = longer w.0.texts w.0.wrote }, w.1)
 
   module _ (why : RunStop) where
-    no_names : (names own : List ℕ) → Appends old mid names → names ≡ [] → EndsAfterLines layout files most own wholes why (output mid new log last)
-        → EndsAfterLines layout files most (names ++ own) wholes why (output old new log last)
+    no_names : (names own : List ℕ) → Appends old mid names → names ≡ [] → EndsAfterLines layout files most own row_records why (output mid new log last)
+        → EndsAfterLines layout files most (names ++ own) row_records why (output old new log last)
     no_names names own first none w = rw none (record {
       texts = w.texts;
       fault = w.fault;
@@ -96,28 +96,28 @@ module _ (layout : Layout) (files : List File) (most : ℕ) (column : List ℕ) 
       noted = w.noted;
     })
 
-    no_own : (names own : List ℕ) → Appends old mid names → own ≡ [] → EndsAfterLines layout files most own wholes why (output mid new log last)
-        → EndsAfterLines layout files most (names ++ own) wholes why (output old new log last)
+    no_own : (names own : List ℕ) → Appends old mid names → own ≡ [] → EndsAfterLines layout files most own row_records why (output mid new log last)
+        → EndsAfterLines layout files most (names ++ own) row_records why (output old new log last)
     no_own names own first none w =
-        subst (λ (l : List ℕ). EndsAfterLines layout files most l wholes why (output old new log last)) (sym (ap (λ (l : List ℕ). names ++ l) none ∙ append-nil names))
-        (lines_below layout files most wholes names old mid new log last first why (rw none at w))
+        subst (λ (l : List ℕ). EndsAfterLines layout files most l row_records why (output old new log last)) (sym (ap (λ (l : List ℕ). names ++ l) none ∙ append-nil names))
+        (lines_below layout files most row_records names old mid new log last first why (rw none at w))
 
-    lines_after_names : EndsAfterLines layout files most (own_line layout column) wholes why (output mid new log last)
-        → EndsAfterLines layout files most (header_text layout column) wholes why (output old new log last)
+    lines_after_names : EndsAfterLines layout files most (own_line layout column) row_records why (output mid new log last)
+        → EndsAfterLines layout files most (header_text layout column) row_records why (output old new log last)
     lines_after_names w = elim (one_line layout.start layout.header layout.delimiter _ _) [
       | inl none ↦ no_names (names_line layout) (own_line layout column) begun none w
       | inr none ↦ no_own (names_line layout) (own_line layout column) begun none w
     ]
 
-    with_names : EndsAfterLines layout files most (own_line layout column) wholes why (output mid new log last) → HasNames layout (output old new log last)
+    with_names : EndsAfterLines layout files most (own_line layout column) row_records why (output mid new log last) → HasNames layout (output old new log last)
     with_names w = (w.part, appends-more old mid new (names_line layout) w.part begun w.wrote)
 
-    both : EndsAfterLines layout files most (own_line layout column) wholes why (output mid new log last)
-        → EndsAfterLines layout files most (header_text layout column) wholes why (output old new log last) × HasNames layout (output old new log last)
+    both : EndsAfterLines layout files most (own_line layout column) row_records why (output mid new log last)
+        → EndsAfterLines layout files most (header_text layout column) row_records why (output old new log last) × HasNames layout (output old new log last)
     both w = (lines_after_names w, with_names w)
 
-  pub ends_after_names : (why : RunStop) → EndsIn layout files most (own_line layout column) wholes why (output mid new log last)
-      → EndsIn layout files most (header_text layout column) wholes why (output old new log last) × HasNames layout (output old new log last)
+  pub ends_after_names : (why : RunStop) → EndsIn layout files most (own_line layout column) row_records why (output mid new log last)
+      → EndsIn layout files most (header_text layout column) row_records why (output old new log last) × HasNames layout (output old new log last)
   ends_after_names (stop.Row row kind) w = (
     (record { texts = w.0.texts; converts = w.0.converts; number = w.0.number; wrote = longer w.0.texts w.0.wrote }, w.1),
     (own_line layout column ++ concat w.0.texts, appends-more old mid new (names_line layout) (own_line layout column ++ concat w.0.texts) begun w.0.wrote),
@@ -133,15 +133,15 @@ module _ (layout : Layout) (files : List File) (most : ℕ) (column : List ℕ) 
 
 module _ (layout : Layout) (most : ℕ) (known : Option (List ℕ)) (files : List File) (old mid new : Option (List ℕ)) (log last : Option (List RowFault)) (begun : Appends old mid (names_line layout)) where
   pub column_after_names : (n : ℕ) → ConvertsColumn layout most known n (output mid new log last) files
-      → IfSome known (λ column. (wholes : List Whole) × AreRowRecords layout column wholes × WritesRows layout files most (header_text layout column) wholes n (output old new log last))
+      → IfSome known (λ column. (row_records : List CsvRecord) × AreRowRecords layout column row_records × WritesRows layout files most (header_text layout column) row_records n (output old new log last))
   column_after_names n all = if_some known _ (λ column e.
-      let (wholes, are, w) = for_some known _ column all e in
-      (wholes, are, rows_after_names layout files most column wholes old mid new log last begun n w))
+      let (row_records, are, w) = for_some known _ column all e in
+      (row_records, are, rows_after_names layout files most column row_records old mid new log last begun n w))
 
   pub column_ends_after_names : (why : RunStop) → EndsInColumn layout most known why (output mid new log last) files
-      → IfSome known (λ column. (wholes : List Whole) × AreRowRecords layout column wholes × EndsIn layout files most (header_text layout column) wholes why (output old new log last)
+      → IfSome known (λ column. (row_records : List CsvRecord) × AreRowRecords layout column row_records × EndsIn layout files most (header_text layout column) row_records why (output old new log last)
       × HasNames layout (output old new log last))
   column_ends_after_names why ends = if_some known _ (λ column e.
-      let (wholes, are, w) = for_some known _ column ends e in
-      let both = ends_after_names layout files most column wholes old mid new log last begun why w in
-      (wholes, are, both.0, both.1))
+      let (row_records, are, w) = for_some known _ column ends e in
+      let both = ends_after_names layout files most column row_records old mid new log last begun why w in
+      (row_records, are, both.0, both.1))

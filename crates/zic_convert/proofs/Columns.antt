@@ -40,22 +40,17 @@ one_told {A} {B} f a b count i d e few lt are =
     sym (get_or-take count b i e lt) ∙ ap (λ (l : List B). slice_index_or l i e) are ∙ get_or-map f (take count a) i d e within ∙ ap f (get_or-take count a i d lt)
 
 -- what is told of each element of a column, with one more
-pub told_more : {A : Type 0} (Q : ℕ → Option A → Type 0) (i : ℕ) (xs : List (Option A)) (v : Option A) → i < length xs → ((j : ℕ) → j < i → Q j (slice_index_or xs j None)) → Q i v
-    → (j : ℕ) → j < i + 1 → Q j (slice_index_or (set xs i v) j None)
-told_more {A} Q i xs v within are is j lt = elim (cases_Bool (j == i)) [
+pub told_more : {A : Type 0} (d : A) (Q : ℕ → A → Type 0) (i : ℕ) (xs : List A) (v : A) → i < length xs → ((j : ℕ) → j < i → Q j (slice_index_or xs j d)) → Q i v
+    → (j : ℕ) → j < i + 1 → Q j (slice_index_or (set xs i v) j d)
+told_more {A} d Q i xs v within are is j lt = elim (cases_Bool (j == i)) [
   | inl same ↦
-      subst (λ (k : ℕ). Q k (slice_index_or (set xs i v) k None)) (sym (eqb-true j i same))
-      (subst (Q i) (sym (get_or-set_same xs i v None within)) is)
+      subst (λ (k : ℕ). Q k (slice_index_or (set xs i v) k d)) (sym (eqb-true j i same))
+      (subst (Q i) (sym (get_or-set_same xs i v d within)) is)
   | inr other ↦
       let ne = eqb-false j i other in
       let before : j < i = omega (arith, lt, ne) in
-      subst (Q j) (sym (get_or-set_other xs i j v None ne)) (are j before)
+      subst (Q j) (sym (get_or-set_other xs i j v d ne)) (are j before)
 ]
-
--- the field of a record's instant has its count
-pub count_told : (piece : Piece) (given : Record) → IsSplit piece.bytes.now (wanted_by piece.layout.now) given
-    → count_of piece.layout.now.unit (field_text piece.bytes.now given.time) ≡ count_at piece given
-count_told piece given is = ap (count_of piece.layout.now.unit) is.time
 
 -- a number that a name has is that of a file
 pub number_within : (files : List File) (name : List ℕ) → IfSome (number_of files name) (λ n. n < length files)

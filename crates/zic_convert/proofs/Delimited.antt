@@ -13,7 +13,7 @@ use Rattle.zic_words.specs.declared.name.TheConstants.{LONGEST_NAME}
 use Rattle.zic_columns.specs.Column.{column_records}
 use Rattle.zic_columns.specs.Exchange.{CanDelimit, exchange, exchanged}
 use Rattle.zic_columns.specs.Laws.{RecordsAreExchanged, TextsAreExchanged}
-use Rattle.zic_columns.specs.Own.{Whole, beside, delimited_texts, first_text, own_texts}
+use Rattle.zic_columns.specs.Own.{CsvRecord, beside, delimited_texts, first_text, own_texts}
 use Rattle.zic_plan.specs.Delimiter.{is_csv_byte, is_delimiter, is_row_byte}
 use Rattle.zic_plan.specs.Layout.{records_before}
 use Rattle.zic_plan.specs.declared.layout.Header.{Header}
@@ -22,7 +22,7 @@ use Rattle.zic_plan.specs.declared.layout.Layout.{Layout}
 use Rattle.zic_zones.specs.Zones.{field_at}
 use Rattle.zic_convert.specs.Column.{AreRowRecords, header_of, own_header, own_line}
 use Rattle.zic_convert.specs.code.Progress.{own_line_in}
-use Rattle.zic_convert.specs.code.Row.{put_back, wholes_in}
+use Rattle.zic_convert.specs.code.Row.{put_back, csv_records_in}
 
 -- what a byte that can stand between fields is not
 pub record IsOutside (d : ℕ) : Type 0 where
@@ -101,14 +101,14 @@ beside_put : (d : ℕ) (texts : List (List ℕ)) (records : List (List (List ℕ
 beside_put d [] records = refl
 beside_put d (own ∷ texts) [] = refl
 beside_put d (own ∷ texts) (fields ∷ records) =
-    ap (λ (l : List Whole). record { own = exchanged d own; fields = map (exchanged d) fields } ∷ l) (beside_put d texts records)
+    ap (λ (l : List CsvRecord). record { own = exchanged d own; fields = map (exchanged d) fields } ∷ l) (beside_put d texts records)
 
 -- the records of a column with another delimiter that make rows are those with the delimiter put back
 wholes_delimited : (layout : Layout) → TextsAreExchanged → is_delimiter layout.delimiter ≡ true → (column : List ℕ)
     → let d = layout.delimiter in
     let inside = strip_bom (exchanged d column) in
     let k = records_before layout.header in
-    drop k (beside (delimited_texts d (strip_bom column)) (map (map (exchanged d)) (column_records inside))) ≡ drop k (wholes_in d inside)
+    drop k (beside (delimited_texts d (strip_bom column)) (map (map (exchanged d)) (column_records inside))) ≡ drop k (csv_records_in d inside)
 wholes_delimited layout own_law is column =
     let d = layout.delimiter in
     let inside = strip_bom (exchanged d column) in
@@ -117,9 +117,9 @@ wholes_delimited layout own_law is column =
     ap (λ (t : List (List ℕ)). drop k (beside t (map (map (exchanged d)) records))) (own_law d column (can_delimit d is)) ∙ ap (drop k) (beside_put d (own_texts inside) records)
 
 -- so are its records that make rows
-pub row_records : (layout : Layout) → RecordsAreExchanged → TextsAreExchanged → is_delimiter layout.delimiter ≡ true → (column : List ℕ)
-    → AreRowRecords layout column (drop (records_before layout.header) (wholes_in layout.delimiter (strip_bom (exchanged layout.delimiter column))))
-row_records layout law own_law is column =
+pub records_alike : (layout : Layout) → RecordsAreExchanged → TextsAreExchanged → is_delimiter layout.delimiter ≡ true → (column : List ℕ)
+    → AreRowRecords layout column (drop (records_before layout.header) (csv_records_in layout.delimiter (strip_bom (exchanged layout.delimiter column))))
+records_alike layout law own_law is column =
     let d = layout.delimiter in
     record {
       records = map (map (exchanged d)) (column_records (strip_bom (exchanged d column)));
@@ -134,6 +134,7 @@ first_put d (text ∷ texts) = refl
 header_put : (d : ℕ) (header : Header) (texts : List (List ℕ)) → exchanged d (own_header header texts) ≡ own_header header (map (exchanged d) texts)
 header_put d headers.Absent texts = refl
 header_put d headers.First texts = first_put d texts
+header_put d headers.Skipped texts = refl
 
 -- and so is its own header
 pub own_line_delimited : (layout : Layout) → TextsAreExchanged → is_delimiter layout.delimiter ≡ true → (column : List ℕ)

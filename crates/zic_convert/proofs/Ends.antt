@@ -7,7 +7,7 @@ use Rattle.std.specs.List.{concat}
 use Rattle.std.specs.Prelude.{IfErr, IfOk, Result, Ok, Err}
 use Rattle.zic_base.specs.declared.run_stop.RunStop.{RunStop}
 use Rattle.zic_base.specs.declared.run_stop.RunStop.TheVariants as stop
-use Rattle.zic_columns.specs.Own.{Whole}
+use Rattle.zic_columns.specs.Own.{CsvRecord}
 use Rattle.zic_counted.specs.Counts.{Counts}
 use Rattle.zic_files.specs.File.{File}
 use Rattle.zic_plan.specs.declared.layout.Layout.{Layout}
@@ -38,14 +38,14 @@ module _ {R : Type 0} (reader : Counts R) (failures taken most : ℕ) where
   err_end (Err (halt.Stop stop)) (Err why) P Q S all read stops is p q = subst S (sym is.stops) (stops stop q)
 
 -- all lines were written
-all_lines : (layout : Layout) (files : List File) (most : ℕ) (header : List ℕ) (wholes : List Whole) (n : ℕ) (why : RunStop) (out : Output) → WritesRows layout files most header wholes n out
-    → EndsAfterLines layout files most header wholes why out
-all_lines layout files most header wholes n why out w =
+all_lines : (layout : Layout) (files : List File) (most : ℕ) (header : List ℕ) (row_records : List CsvRecord) (n : ℕ) (why : RunStop) (out : Output) → WritesRows layout files most header row_records n out
+    → EndsAfterLines layout files most header row_records why out
+all_lines layout files most header row_records n why out w =
     let texts = w.0.texts in
     let all : concat (take (suc n) (header ∷ texts)) ≡ header ++ concat texts = ap (λ (l : List (List ℕ)). header ++ concat l) (take_all n texts (omega (arith, w.0.count))) in
-    let many = all_texts layout files most 1 wholes texts w.0.converts in
+    let many = all_texts layout files most 1 row_records texts w.0.converts in
     let rows : suc n - 1 ≡ n = omega arith in
-    let whole : take (suc n - 1) wholes ≡ wholes = ap (λ (k : ℕ). take k wholes) rows ∙ take_all n wholes (omega (arith, w.0.count, many)) in
+    let row_record : take (suc n - 1) row_records ≡ row_records = ap (λ (k : ℕ). take k row_records) rows ∙ take_all n row_records (omega (arith, w.0.count, many)) in
     record {
       texts = texts;
       fault = None;
@@ -56,13 +56,13 @@ all_lines layout files most header wholes n why out w =
       least = subst (λ (l : List ℕ). StartsWith (header ++ concat texts) l) (sym all) (take-length (header ++ concat texts));
       exact = inl (sym all);
       wrote = w.0.wrote;
-      noted = subst (λ (l : List Whole). Notes out.log out.log' (faults_by layout files most 1 l)) (sym whole) w.1;
+      noted = subst (λ (l : List CsvRecord). Notes out.log out.log' (faults_by layout files most 1 l)) (sym row_record) w.1;
     }
 
 -- where a read failed, other causes leave the same output
-read_as : (layout : Layout) (files : List File) (most : ℕ) (header : List ℕ) (wholes : List Whole) (why : RunStop) (out : Output) → EndsAfterLines layout files most header wholes stop.ReadFailed out
-    → EndsAfterLines layout files most header wholes why out
-read_as layout files most header wholes why out w = record {
+read_as : (layout : Layout) (files : List File) (most : ℕ) (header : List ℕ) (row_records : List CsvRecord) (why : RunStop) (out : Output) → EndsAfterLines layout files most header row_records stop.ReadFailed out
+    → EndsAfterLines layout files most header row_records why out
+read_as layout files most header row_records why out w = record {
   texts = w.texts;
   fault = w.fault;
   come = w.come;
@@ -80,15 +80,15 @@ read_as layout files most header wholes why out w = record {
 
 module _ (layout : Layout) (most : ℕ) (known : Option (List ℕ)) (out : Output) (files : List File) where
   all_read : (n : ℕ) → ConvertsColumn layout most known n out files → EndsInColumn layout most known stop.ReadFailed out files
-  all_read n all = if_some known _ (λ column e. (let (wholes, are, w) = for_some known _ column all e in (wholes, are, all_lines layout files most _ wholes n stop.ReadFailed out w)))
+  all_read n all = if_some known _ (λ column e. (let (row_records, are, w) = for_some known _ column all e in (row_records, are, all_lines layout files most _ row_records n stop.ReadFailed out w)))
 
   ends_as_read : {R : Type 0} (reader : Counts R) (failures taken most_bytes : ℕ) (why : RunStop) → IsReadingStop reader failures taken most_bytes why → EndsInColumn layout most known stop.ReadFailed out files
       → EndsInColumn layout most known why out files
   ends_as_read reader failures taken most_bytes stop.ReadFailed is ends = ends
   ends_as_read reader failures taken most_bytes stop.ColumnTooLong is ends =
-      if_some known _ (λ column e. (let (wholes, are, w) = for_some known _ column ends e in (wholes, are, read_as layout files most _ wholes stop.ColumnTooLong out w)))
+      if_some known _ (λ column e. (let (row_records, are, w) = for_some known _ column ends e in (row_records, are, read_as layout files most _ row_records stop.ColumnTooLong out w)))
   ends_as_read reader failures taken most_bytes stop.Memory is ends =
-      if_some known _ (λ column e. (let (wholes, are, w) = for_some known _ column ends e in (wholes, are, read_as layout files most _ wholes stop.Memory out w)))
+      if_some known _ (λ column e. (let (row_records, are, w) = for_some known _ column ends e in (row_records, are, read_as layout files most _ row_records stop.Memory out w)))
   ends_as_read reader failures taken most_bytes (stop.Row row kind) is ends = absurd is
   ends_as_read reader failures taken most_bytes (stop.Source fault) is ends = absurd is
   ends_as_read reader failures taken most_bytes stop.WriteFailed is ends = absurd is

@@ -1,14 +1,14 @@
 -- The rows of the first of some records.
 use Rattle.std.proofs.Common.{◌≡◌, ◌+◌, ℕ, suc, List, [], ◌∷◌, ◌++◌, length, take, Option, Some, None, refl, sym, ap, ◌∙◌, arith}
 use Rattle.std.proofs.lemmas.List.{append-nil}
-use Rattle.zic_columns.specs.Own.{Whole}
+use Rattle.zic_columns.specs.Own.{CsvRecord}
 use Rattle.zic_tzif.specs.Laws.{FilesAnswerOnce}
 use Rattle.zic_files.specs.File.{File}
 use Rattle.zic_files.specs.Sound.{AreSoundFiles}
 use Rattle.zic_plan.specs.declared.layout.Layout.{Layout}
 use Rattle.zic_base.specs.declared.row_fault.RowFault.{RowFault}
 use Rattle.zic_base.specs.declared.row_fault.RowKind.{RowKind}
-use Rattle.zic_convert.specs.LayoutRows.{ComeToBy, fault_by, faults_by, noted}
+use Rattle.zic_convert.specs.LayoutRows.{RecordsConvertBy, fault_by, faults_by, noted}
 use Rattle.zic_convert.specs.code.Row.{AreRowsOf, RowsOf}
 use Rattle.zic_convert.proofs.Coming.{come_after, come_more}
 use Rattle.zic_convert.proofs.Once.{once_by}
@@ -16,17 +16,17 @@ use Rattle.zic_convert.proofs.Sounds.{all_known}
 use Rattle.zic_convert.proofs.Totals.{all_come}
 
 -- some elements, and then the first of others
-pub take_after : (xs ys : List Whole) (m : ℕ) → take (length xs + m) (xs ++ ys) ≡ xs ++ take m ys
+pub take_after : (xs ys : List CsvRecord) (m : ℕ) → take (length xs + m) (xs ++ ys) ≡ xs ++ take m ys
 take_after [] ys m =
     let at : 0 + m ≡ m = omega arith in
     ap (λ (k : ℕ). take k ys) at
 take_after (x ∷ xs) ys m =
     let at : suc (length xs) + m ≡ suc (length xs + m) = omega arith in
-    ap (λ (k : ℕ). take k (x ∷ (xs ++ ys))) at ∙ ap (λ (l : List Whole). x ∷ l) (take_after xs ys m)
+    ap (λ (k : ℕ). take k (x ∷ (xs ++ ys))) at ∙ ap (λ (l : List CsvRecord). x ∷ l) (take_after xs ys m)
 
 -- as many records as have rows have the faults of all
-pub faults_front : (layout : Layout) (files : List File) (most number : ℕ) (done others : List Whole) (texts : List (List ℕ)) (fault : Option RowKind)
-    → ComeToBy layout files most number done texts fault → faults_by layout files most number (take (length texts) (done ++ others)) ≡ faults_by layout files most number done
+pub faults_front : (layout : Layout) (files : List File) (most number : ℕ) (done others : List CsvRecord) (texts : List (List ℕ)) (fault : Option RowKind)
+    → RecordsConvertBy layout files most number done texts fault → faults_by layout files most number (take (length texts) (done ++ others)) ≡ faults_by layout files most number done
 faults_front layout files most number [] others [] fault come = refl
 faults_front layout files most number [] others (t ∷ ts) fault come = absurd (cc come.0)
 faults_front layout files most number (x ∷ xs) others [] None come = absurd (cc come.1)
@@ -34,9 +34,9 @@ faults_front layout files most number (x ∷ xs) others [] (Some kind) come = rw
 faults_front layout files most number (x ∷ xs) others (t ∷ ts) fault come =
     rw come.0 (ap (λ (l : List RowFault). noted number (fault_by layout files most number x.fields) ++ l) (faults_front layout files most (number + 1) xs others ts fault come.2))
 
-module _ (once : FilesAnswerOnce) (layout : Layout) (files : List File) (most : ℕ) (sound : AreSoundFiles files) (number : ℕ) (all done others : List Whole) (parts : all ≡ done ++ others)
+module _ (once : FilesAnswerOnce) (layout : Layout) (files : List File) (most : ℕ) (sound : AreSoundFiles files) (number : ℕ) (all done others : List CsvRecord) (parts : all ≡ done ++ others)
     (rows : RowsOf) (are : AreRowsOf layout files most number all rows) where
-  comes : ComeToBy layout files most number (done ++ others) are.texts rows.fault
+  comes : RecordsConvertBy layout files most number (done ++ others) are.texts rows.fault
   comes = rw parts at are.come
 
   front_by : (front : RowsOf) (are_front : AreRowsOf layout files most number done front) (fault : Option RowKind) → front.fault ≡ fault

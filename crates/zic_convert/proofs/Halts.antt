@@ -1,6 +1,6 @@
 -- How many rows there are, and how a conversion ends in a round.
 use Rattle.std.proofs.Common.{◌≡◌, ◌≤◌, ◌+◌, ℕ, List, [], length, Option, None, inl, inr, refl, sym, subst, ◌∙◌, arith}
-use Rattle.zic_columns.specs.Own.{Whole}
+use Rattle.zic_columns.specs.Own.{CsvRecord}
 use Rattle.zic_counted.specs.Counts.{Counts}
 use Rattle.zic_counted.specs.Written.{FailsWithin}
 use Rattle.zic_files.specs.File.{File}
@@ -19,24 +19,24 @@ use Rattle.zic_convert.proofs.Coming.{all_texts, all_within, few_texts}
 use Rattle.zic_convert.proofs.Progress.{ends_after, ends_here, up_to_row}
 
 -- rows without a fault are as many as their records
-pub as_many : (layout : Layout) (files : List File) (most n : ℕ) (rs : List Whole) (rows : RowsOf) → AreRowsOf layout files most n rs rows → rows.fault ≡ None → rows.count ≡ length rs
+pub as_many : (layout : Layout) (files : List File) (most n : ℕ) (rs : List CsvRecord) (rows : RowsOf) → AreRowsOf layout files most n rs rows → rows.fault ≡ None → rows.count ≡ length rs
 as_many layout files most n rs rows are none = are.count ∙ all_texts layout files most n rs are.texts (rw none at are.come)
 
 -- and no more than there may be
-pub no_more : (layout : Layout) (files : List File) (most n : ℕ) (rs : List Whole) (rows : RowsOf) → AreRowsOf layout files most (n + 1) rs rows → rows.fault ≡ None → n ≤ most → n + rows.count ≤ most
+pub no_more : (layout : Layout) (files : List File) (most n : ℕ) (rs : List CsvRecord) (rows : RowsOf) → AreRowsOf layout files most (n + 1) rs rows → rows.fault ≡ None → n ≤ most → n + rows.count ≤ most
 no_more layout files most n rs rows are none within =
     let all = all_within layout files most (n + 1) rs are.texts (rw none at are.come) (omega (arith, within)) in
     omega (arith, are.count, all)
 
 -- rows are no more than their records
-pub few : (layout : Layout) (files : List File) (most n : ℕ) (rs : List Whole) (rows : RowsOf) → AreRowsOf layout files most n rs rows → rows.count ≤ length rs
+pub few : (layout : Layout) (files : List File) (most n : ℕ) (rs : List CsvRecord) (rows : RowsOf) → AreRowsOf layout files most n rs rows → rows.count ≤ length rs
 few layout files most n rs rows are = omega (arith, are.count, few_texts layout files most n rs are.texts rows.fault are.come)
 
-module _ {W : Type 0} (contents : W → Option (List ℕ)) (once : FilesAnswerOnce) (layout : Layout) (files : List File) (most : ℕ) (sound : AreSoundFiles files) (all : List Whole)
+module _ {W : Type 0} (contents : W → Option (List ℕ)) (once : FilesAnswerOnce) (layout : Layout) (files : List File) (most : ℕ) (sound : AreSoundFiles files) (all : List CsvRecord)
     (left : Option (List ℕ)) (n : ℕ) (old : Option (List ℕ)) (mid new : Counts W) (log now last : Option (List RowFault))
     (far : IsSoFar layout files most all left n (output old (contents mid.inner) log now)) where
   -- a row ends the run, or the writer failed
-  pub ends_in_rows : (rs : List Whole) → ComeNext layout.delimiter left rs → (rows : RowsOf) → AreRowsOf layout files most (n + 1) rs rows → (why : RunStop)
+  pub ends_in_rows : (rs : List CsvRecord) → ComeNext layout.delimiter left rs → (rows : RowsOf) → AreRowsOf layout files most (n + 1) rs rows → (why : RunStop)
       → EndsInRows contents mid new now last layout files most (n + 1) rs rows why → EndsIn layout files most [] all why (output old (contents new.inner) log last)
   ends_in_rows rs come rows are (stop.Row row kind) h =
       subst (λ (k : ℕ). EndsAtRow layout files most [] all k kind (output old (contents new.inner) log last)) (sym h.1)
@@ -50,14 +50,14 @@ module _ {W : Type 0} (contents : W → Option (List ℕ)) (once : FilesAnswerOn
   ends_in_rows rs come rows are stop.Memory h = absurd h
   ends_in_rows rs come rows are stop.NoThread h = absurd h
 
-module _ (once : FilesAnswerOnce) (layout : Layout) (files : List File) (most : ℕ) (sound : AreSoundFiles files) (all : List Whole)
+module _ (once : FilesAnswerOnce) (layout : Layout) (files : List File) (most : ℕ) (sound : AreSoundFiles files) (all : List CsvRecord)
     (left : Option (List ℕ)) (n : ℕ) (old mid : Option (List ℕ)) (log now : Option (List RowFault)) (far : IsSoFar layout files most all left n (output old mid log now)) where
   -- nothing more was written
   pub ends_still : (why : RunStop) → EndsAfterLines layout files most [] all why (output old mid log now)
   ends_still why = ends_here layout files most all once sound left n old mid mid log now far why [] refl (inl refl) (appends-none mid)
 
 -- the writer failed as it passed on what it held back
-pub ends_at_flush : {W : Type 0} (contents : W → Option (List ℕ)) (once : FilesAnswerOnce) (layout : Layout) (files : List File) (most : ℕ) (sound : AreSoundFiles files) (all : List Whole)
+pub ends_at_flush : {W : Type 0} (contents : W → Option (List ℕ)) (once : FilesAnswerOnce) (layout : Layout) (files : List File) (most : ℕ) (sound : AreSoundFiles files) (all : List CsvRecord)
     (left : Option (List ℕ)) (n : ℕ) (old : Option (List ℕ)) (mid new : Counts W) (log now : Option (List RowFault))
     → IsSoFar layout files most all left n (output old (contents mid.inner) log now) → FailsWithin contents mid new []
     → EndsAfterLines layout files most [] all stop.WriteFailed (output old (contents new.inner) log now)

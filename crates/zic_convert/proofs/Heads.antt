@@ -9,7 +9,7 @@ use Rattle.csv.specs.Reading.{strip_bom}
 use Rattle.csv.proofs.WriteFacts.{appends-none}
 use Rattle.zic_columns.specs.Exchange.{exchanged}
 use Rattle.zic_columns.specs.Laws.{RecordsAreExchanged, TextsAreExchanged}
-use Rattle.zic_columns.specs.Own.{Whole, own_texts, whole_records}
+use Rattle.zic_columns.specs.Own.{CsvRecord, own_texts, csv_records}
 use Rattle.zic_counted.specs.Counts.{Counts}
 use Rattle.zic_counted.specs.Written.{FailsWithin}
 use Rattle.zic_tzif.specs.Laws.{FilesAnswerOnce}
@@ -25,13 +25,13 @@ use Rattle.zic_convert.specs.Column.{AreRowRecords, header_of, own_header, own_l
 use Rattle.zic_convert.specs.Run.{EndsAfterLines, EndsIn, WritesRows}
 use Rattle.zic_convert.specs.code.Halt.{IsCauseOfHalt, stop_of}
 use Rattle.zic_convert.specs.code.Progress.{BeginsRows, ConvertsColumn, ConvertsRest, EndsInColumn, EndsInRest, HaltsAtHead, output, own_line_in}
-use Rattle.zic_convert.specs.code.Row.{put_back, wholes_in}
+use Rattle.zic_convert.specs.code.Row.{put_back, csv_records_in}
 use Rattle.zic_convert.specs.code.Written.{EndsAtHead, Wrote}
 use Rattle.zic_convert.specs.declared.halt.Halt.{Halt}
 use Rattle.zic_convert.specs.declared.halt.Halt.TheVariants as halt
 use Rattle.zic_convert.proofs.Below.{ends_below, rows_below}
 use Rattle.zic_convert.proofs.Bytes.{fails_later, starts_later, wrote_both}
-use Rattle.zic_convert.proofs.Delimited.{own_line_delimited, row_records}
+use Rattle.zic_convert.proofs.Delimited.{own_line_delimited, records_alike}
 use Rattle.zic_convert.proofs.Logs.{notes_none}
 use Rattle.zic_convert.proofs.Options.{for_some, if_some}
 use Rattle.zic_convert.proofs.Sounds.{all_known}
@@ -77,10 +77,10 @@ module _ {W : Type 0} (contents : W → Option (List ℕ)) where
     cause_at_head (halt.Stop stop.NoThread) ends = absurd ends
 
 -- not even a header was written whole
-no_line : FilesAnswerOnce → (layout : Layout) (files : List File) (most : ℕ) → AreSoundFiles files → (head : List ℕ) (wholes : List Whole) (why : RunStop) (old new : Option (List ℕ)) (log : Option (List RowFault))
-    (part : List ℕ) → StartsWith head part → Appends old new part → ((part ≡ []) ⊎ (why ≡ stop.WriteFailed)) → EndsAfterLines layout files most head wholes why (output old new log log)
-no_line once layout files most sound head wholes why old new log part starts wrote exact =
-    let (texts, fault, come) = all_come layout files most (all_known files sound once) 1 wholes in
+no_line : FilesAnswerOnce → (layout : Layout) (files : List File) (most : ℕ) → AreSoundFiles files → (head : List ℕ) (row_records : List CsvRecord) (why : RunStop) (old new : Option (List ℕ)) (log : Option (List RowFault))
+    (part : List ℕ) → StartsWith head part → Appends old new part → ((part ≡ []) ⊎ (why ≡ stop.WriteFailed)) → EndsAfterLines layout files most head row_records why (output old new log log)
+no_line once layout files most sound head row_records why old new log part starts wrote exact =
+    let (texts, fault, come) = all_come layout files most (all_known files sound once) 1 row_records in
     record {
       texts = texts;
       fault = fault;
@@ -100,16 +100,16 @@ module _ (layout : Layout) (most : ℕ) (law : RecordsAreExchanged) (own_law : T
   within : (column : List ℕ) → known ≡ Some column → inside ≡ Some (exchanged layout.delimiter column)
   within column e = is ∙ ap (option_map (exchanged layout.delimiter)) e
 
-  abbrev row_wholes : List ℕ → List Whole
-  row_wholes column = drop (records_before layout.header) (wholes_in layout.delimiter (strip_bom (exchanged layout.delimiter column)))
+  abbrev row_wholes : List ℕ → List CsvRecord
+  row_wholes column = drop (records_before layout.header) (csv_records_in layout.delimiter (strip_bom (exchanged layout.delimiter column)))
 
   -- the rows of a column did not begin
   module _ {W : Type 0} (contents : W → Option (List ℕ)) (once : FilesAnswerOnce) (old new : Counts W) (log : Option (List RowFault)) (files : List File) (sound : AreSoundFiles files) where
-    none_written : (why : RunStop) → IfSome known (λ column. (wholes : List Whole) × AreRowRecords layout column wholes
-        × EndsAfterLines layout files most (own_line layout column) wholes why (output (contents old.inner) (contents old.inner) log log))
+    none_written : (why : RunStop) → IfSome known (λ column. (row_records : List CsvRecord) × AreRowRecords layout column row_records
+        × EndsAfterLines layout files most (own_line layout column) row_records why (output (contents old.inner) (contents old.inner) log log))
     none_written why = if_some known _ (λ column e. (
       row_wholes column,
-      row_records layout law own_law can column,
+      records_alike layout law own_law can column,
       no_line once layout files most sound (own_line layout column) (row_wholes column) why (contents old.inner) (contents old.inner) log [] refl (appends-none (contents old.inner)) (inl refl),
     ))
 
@@ -120,7 +120,7 @@ module _ (layout : Layout) (most : ℕ) (law : RecordsAreExchanged) (own_law : T
         let fails = for_some inside _ (exchanged layout.delimiter column) failed.1 (within column e) in
         let same = own_line_delimited layout own_law can column in (
           row_wholes column,
-          row_records layout law own_law can column,
+          records_alike layout law own_law can column,
           no_line once layout files most sound (own_line layout column) (row_wholes column) stop.WriteFailed (contents old.inner) (contents new.inner) log fails.part
               (subst (λ (l : List ℕ). StartsWith l fails.part) same fails.starts) fails.wrote (inr refl),
         ))
@@ -133,27 +133,27 @@ module _ (layout : Layout) (most : ℕ) (law : RecordsAreExchanged) (own_law : T
   -- the rest of a column was converted, once its header was written
   module _ (files : List File) (left : Option (List ℕ)) (old mid new : Option (List ℕ)) (log last : Option (List RowFault))
       (begins : IfSome inside (λ bytes. BeginsRows layout.header bytes left)) (head : IfSome inside (λ bytes. Appends old mid (own_line_in layout bytes))) where
-    begun_as : (P : List Whole → Type 0) (Q : List ℕ → List Whole → Type 0)
-        → ((column : List ℕ) (wholes : List Whole) → Appends old mid (own_line layout column) → P wholes → Q column wholes)
-        → IfSome left (λ bytes. P (wholes_in layout.delimiter bytes)) → IfSome known (λ column. (wholes : List Whole) × AreRowRecords layout column wholes × Q column wholes)
+    begun_as : (P : List CsvRecord → Type 0) (Q : List ℕ → List CsvRecord → Type 0)
+        → ((column : List ℕ) (row_records : List CsvRecord) → Appends old mid (own_line layout column) → P row_records → Q column row_records)
+        → IfSome left (λ bytes. P (csv_records_in layout.delimiter bytes)) → IfSome known (λ column. (row_records : List CsvRecord) × AreRowRecords layout column row_records × Q column row_records)
     begun_as P Q below p = if_some known _ (λ column e.
         let d = layout.delimiter in
         let k = records_before layout.header in
         let text = exchanged d column in
         let (rest, at, same) = for_some inside _ text begins (within column e) in
-        let all : wholes_in d rest ≡ drop k (wholes_in d (strip_bom text)) = ap (map (put_back d)) same ∙ sym (drop-map (put_back d) k (whole_records (strip_bom text))) in
+        let all : csv_records_in d rest ≡ drop k (csv_records_in d (strip_bom text)) = ap (map (put_back d)) same ∙ sym (drop-map (put_back d) k (csv_records (strip_bom text))) in
         let line = subst (λ (l : List ℕ). Appends old mid l) (own_line_delimited layout own_law can column) (for_some inside _ text head (within column e)) in (
-          drop k (wholes_in d (strip_bom text)),
-          row_records layout law own_law can column,
-          below column (drop k (wholes_in d (strip_bom text))) line (subst P all (for_some left _ rest p at)),
+          drop k (csv_records_in d (strip_bom text)),
+          records_alike layout law own_law can column,
+          below column (drop k (csv_records_in d (strip_bom text))) line (subst P all (for_some left _ rest p at)),
         ))
 
     pub converts_column : (n : ℕ) → ConvertsRest layout most left n (output mid new log last) files → ConvertsColumn layout most known n (output old new log last) files
-    converts_column n = begun_as (λ wholes. WritesRows layout files most [] wholes n (output mid new log last))
-        (λ column wholes. WritesRows layout files most (own_line layout column) wholes n (output old new log last))
-        (λ column wholes line w. rows_below layout files most wholes (own_line layout column) old mid new log last line n w)
+    converts_column n = begun_as (λ row_records. WritesRows layout files most [] row_records n (output mid new log last))
+        (λ column row_records. WritesRows layout files most (own_line layout column) row_records n (output old new log last))
+        (λ column row_records line w. rows_below layout files most row_records (own_line layout column) old mid new log last line n w)
 
     pub ends_column : (why : RunStop) → EndsInRest layout most left why (output mid new log last) files → EndsInColumn layout most known why (output old new log last) files
-    ends_column why = begun_as (λ wholes. EndsIn layout files most [] wholes why (output mid new log last))
-        (λ column wholes. EndsIn layout files most (own_line layout column) wholes why (output old new log last))
-        (λ column wholes line w. ends_below layout files most wholes (own_line layout column) old mid new log last line why w)
+    ends_column why = begun_as (λ row_records. EndsIn layout files most [] row_records why (output mid new log last))
+        (λ column row_records. EndsIn layout files most (own_line layout column) row_records why (output old new log last))
+        (λ column row_records line w. ends_below layout files most row_records (own_line layout column) old mid new log last line why w)

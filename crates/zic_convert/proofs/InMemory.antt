@@ -7,14 +7,14 @@ use Rattle.zic_files.specs.File.{File}
 use Rattle.zic_plan.specs.Layout.{HasPlainRows}
 use Rattle.zic_plan.specs.declared.layout.Layout.{Layout}
 use Rattle.zic_convert.specs.Column.{AreRowsOfColumn}
-use Rattle.zic_convert.specs.Rows.{ComeTo}
-use Rattle.zic_convert.specs.code.Row.{AreRowsOf, RowsOf, wholes_in}
+use Rattle.zic_convert.specs.Rows.{RecordsConvertTo}
+use Rattle.zic_convert.specs.code.Row.{AreRowsOf, RowsOf, csv_records_in}
 use Rattle.zic_convert.proofs.Coming.{few_texts}
 use Rattle.zic_convert.proofs.Plain.{come_plainly}
 use Rattle.zic_convert.proofs.Wholes.{as_many_in, comma_fields_in}
 
 module _ (layout : Layout) (plain : HasPlainRows layout) (files : List File) (most : ℕ) (column : List ℕ) (rows : RowsOf)
-    (are : AreRowsOf layout files most 1 (wholes_in layout.delimiter (strip_bom column)) rows) where
+    (are : AreRowsOf layout files most 1 (csv_records_in layout.delimiter (strip_bom column)) rows) where
   -- the rows of all its records are those of the column
   pub rows_in_memory : ColumnRecordsAreRead → AreRowsOfColumn files most column rows.text rows.count rows.fault
   rows_in_memory read =
@@ -24,8 +24,8 @@ module _ (layout : Layout) (plain : HasPlainRows layout) (files : List File) (mo
         converts = record {
           records = column_records bytes;
           are = read bytes;
-          rows = subst (λ (l : List (List (List ℕ))). ComeTo files most 1 l are.texts rows.fault) (comma_fields_in layout.delimiter plain.delimiter bytes)
-              (come_plainly layout plain files most 1 (wholes_in layout.delimiter bytes) are.texts rows.fault are.come);
+          rows = subst (λ (l : List (List (List ℕ))). RecordsConvertTo files most 1 l are.texts rows.fault) (comma_fields_in layout.delimiter plain.delimiter bytes)
+              (come_plainly layout plain files most 1 (csv_records_in layout.delimiter bytes) are.texts rows.fault are.come);
         };
         text_is = are.text;
         count_is = are.count;
@@ -33,4 +33,4 @@ module _ (layout : Layout) (plain : HasPlainRows layout) (files : List File) (mo
 
   -- and there are no more of them than records
   pub few_rows : rows.count ≤ length (column_records (strip_bom column))
-  few_rows = omega (arith, are.count, few_texts layout files most 1 (wholes_in layout.delimiter (strip_bom column)) are.texts rows.fault are.come, as_many_in layout.delimiter (strip_bom column))
+  few_rows = omega (arith, are.count, few_texts layout files most 1 (csv_records_in layout.delimiter (strip_bom column)) are.texts rows.fault are.come, as_many_in layout.delimiter (strip_bom column))

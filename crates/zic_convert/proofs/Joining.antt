@@ -8,10 +8,10 @@ use mathlib.Core.Option.{some}
 use lib.ListN.{get_elem?}
 use Rattle.zic_columns.specs.Round.{ArePiecesOf, records_of}
 use Rattle.zic_columns.specs.Column.{column_records}
-use Rattle.zic_columns.specs.Own.{Whole}
+use Rattle.zic_columns.specs.Own.{CsvRecord}
 use Rattle.zic_pieces.specs.Task.{AreValues}
 use Rattle.zic_files.specs.File.{File}
-use Rattle.zic_convert.specs.code.Row.{AreRowsOf, RowsOf, wholes_in, wholes_of_all}
+use Rattle.zic_convert.specs.code.Row.{AreRowsOf, RowsOf, csv_records_in, wholes_of_all}
 use Rattle.zic_convert.specs.code.Written.{EndsInPieces, EndsInRound, EndsInRows, WritesRound}
 use Rattle.zic_counted.specs.Counts.{Counts}
 use Rattle.zic_plan.specs.declared.layout.Layout.{Layout}
@@ -20,7 +20,7 @@ use Rattle.zic_base.specs.declared.run_stop.RunStop.{RunStop}
 use Rattle.zic_base.specs.declared.run_stop.RunStop.TheVariants as stop
 use Rattle.zic_convert.specs.code.Pieces.{ArePieces, AreRowsOfPiece, IsOutcomeOf, Pieces, joined}
 use Rattle.zic_base.specs.declared.row_fault.RowKind.{RowKind}
-use Rattle.zic_convert.specs.LayoutRows.{ComeToBy, faults_by}
+use Rattle.zic_convert.specs.LayoutRows.{RecordsConvertBy, faults_by}
 use Rattle.zic_convert.proofs.Coming.{come_more, faults_more, no_rows, rows_followed}
 use Rattle.zic_convert.proofs.Wholes.{as_many_in, as_many_of_all}
 
@@ -28,14 +28,14 @@ module _ (layout : Layout) (files : List File) (most size : ℕ) where
   -- the rows of pieces, by those of each
   abbrev AreRowsOfEach : ℕ → List (List ℕ) → List RowsOf → Type 0
   AreRowsOfEach first pieces values =
-      (i : ℕ) (x : RowsOf) → get_elem? values i ≡ some x → IfSome (slice_get pieces i) (λ piece. AreRowsOf layout files most (first + i * size) (wholes_in layout.delimiter piece) x)
+      (i : ℕ) (x : RowsOf) → get_elem? values i ≡ some x → IfSome (slice_get pieces i) (λ piece. AreRowsOf layout files most (first + i * size) (csv_records_in layout.delimiter piece) x)
 
   -- those of the first piece
   first_rows : (first : ℕ) (piece : List ℕ) (pieces : List (List ℕ)) (x : RowsOf) (values : List RowsOf) → AreRowsOfEach first (piece ∷ pieces) (x ∷ values)
-      → AreRowsOf layout files most first (wholes_in layout.delimiter piece) x
+      → AreRowsOf layout files most first (csv_records_in layout.delimiter piece) x
   first_rows first piece pieces x values each =
       let at : first + 0 * size ≡ first = omega arith in
-      subst (λ (n : ℕ). AreRowsOf layout files most n (wholes_in layout.delimiter piece) x) at (each 0 x refl)
+      subst (λ (n : ℕ). AreRowsOf layout files most n (csv_records_in layout.delimiter piece) x) at (each 0 x refl)
 
   -- those of the pieces after it
   later_rows : (first : ℕ) (piece : List ℕ) (pieces : List (List ℕ)) (x : RowsOf) (values : List RowsOf) → AreRowsOfEach first (piece ∷ pieces) (x ∷ values)
@@ -43,7 +43,7 @@ module _ (layout : Layout) (files : List File) (most size : ℕ) where
   later_rows first piece pieces x values each =
       λ i y e.
       let at : first + suc i * size ≡ first + size + i * size = grind arith in
-      subst (λ (n : ℕ). IfSome (slice_get pieces i) (λ piece. AreRowsOf layout files most n (wholes_in layout.delimiter piece) y)) at (each (suc i) y e)
+      subst (λ (n : ℕ). IfSome (slice_get pieces i) (λ piece. AreRowsOf layout files most n (csv_records_in layout.delimiter piece) y)) at (each (suc i) y e)
 
   -- the rows of all, where each piece but the last is full
   rows_of_all : (first : ℕ) (pieces : List (List ℕ)) (values : List RowsOf) → ArePiecesOf size pieces → length values ≡ length pieces → AreRowsOfEach first pieces values
@@ -53,10 +53,10 @@ module _ (layout : Layout) (files : List File) (most size : ℕ) where
   rows_of_all first (p ∷ ps) [] cut long each = absurd (omega (arith, long))
   rows_of_all first (p ∷ []) (x ∷ y ∷ values) cut long each = absurd (omega (arith, long))
   rows_of_all first (p ∷ []) (x ∷ []) cut long each =
-      rows_followed layout files most first (wholes_in layout.delimiter p) [] x (joined []) x.fault refl (first_rows first p [] x [] each) (λ none. no_rows layout files most (first + length (wholes_in layout.delimiter p)))
+      rows_followed layout files most first (csv_records_in layout.delimiter p) [] x (joined []) x.fault refl (first_rows first p [] x [] each) (λ none. no_rows layout files most (first + length (csv_records_in layout.delimiter p)))
   rows_of_all first (p ∷ q ∷ ps) (x ∷ values) cut long each =
       let after = rows_of_all (first + size) (q ∷ ps) values cut.1 (omega (arith, long)) (later_rows first p (q ∷ ps) x values each) in
-      rows_followed layout files most first (wholes_in layout.delimiter p) (wholes_of_all layout.delimiter (q ∷ ps)) x (joined values) x.fault refl (first_rows first p (q ∷ ps) x values each)
+      rows_followed layout files most first (csv_records_in layout.delimiter p) (wholes_of_all layout.delimiter (q ∷ ps)) x (joined values) x.fault refl (first_rows first p (q ∷ ps) x values each)
       (λ none. subst (λ (n : ℕ). AreRowsOf layout files most (first + n) (wholes_of_all layout.delimiter (q ∷ ps)) (joined values)) (sym (as_many_in layout.delimiter p ∙ cut.0)) after)
 
   -- the rows of the first pieces
@@ -68,12 +68,12 @@ module _ (layout : Layout) (files : List File) (most size : ℕ) where
   rows_of_front (suc i) first (p ∷ ps) [] cut long each = absurd (omega (arith, long))
   rows_of_front (suc i) first (p ∷ []) (x ∷ y ∷ values) cut long each = absurd (omega (arith, long))
   rows_of_front (suc zero) first (p ∷ []) (x ∷ []) cut long each =
-      rows_followed layout files most first (wholes_in layout.delimiter p) [] x (joined []) x.fault refl (first_rows first p [] x [] each) (λ none. no_rows layout files most (first + length (wholes_in layout.delimiter p)))
+      rows_followed layout files most first (csv_records_in layout.delimiter p) [] x (joined []) x.fault refl (first_rows first p [] x [] each) (λ none. no_rows layout files most (first + length (csv_records_in layout.delimiter p)))
   rows_of_front (suc (suc i)) first (p ∷ []) (x ∷ []) cut long each =
-      rows_followed layout files most first (wholes_in layout.delimiter p) [] x (joined []) x.fault refl (first_rows first p [] x [] each) (λ none. no_rows layout files most (first + length (wholes_in layout.delimiter p)))
+      rows_followed layout files most first (csv_records_in layout.delimiter p) [] x (joined []) x.fault refl (first_rows first p [] x [] each) (λ none. no_rows layout files most (first + length (csv_records_in layout.delimiter p)))
   rows_of_front (suc i) first (p ∷ q ∷ ps) (x ∷ values) cut long each =
       let after = rows_of_front i (first + size) (q ∷ ps) values cut.1 (omega (arith, long)) (later_rows first p (q ∷ ps) x values each) in
-      rows_followed layout files most first (wholes_in layout.delimiter p) (wholes_of_all layout.delimiter (take i (q ∷ ps))) x (joined (take i values)) x.fault refl (first_rows first p (q ∷ ps) x values each)
+      rows_followed layout files most first (csv_records_in layout.delimiter p) (wholes_of_all layout.delimiter (take i (q ∷ ps))) x (joined (take i values)) x.fault refl (first_rows first p (q ∷ ps) x values each)
       (λ none. subst (λ (n : ℕ). AreRowsOf layout files most (first + n) (wholes_of_all layout.delimiter (take i (q ∷ ps))) (joined (take i values))) (sym (as_many_in layout.delimiter p ∙ cut.0)) after)
 
 -- the rows of all pieces of a round
@@ -83,7 +83,7 @@ joined_round p values sound are = rows_of_all p.layout p.files p.most p.size p.f
 
 -- the records of the first pieces, and of the others
 wholes_split : (d i : ℕ) (pieces : List (List ℕ)) → wholes_of_all d pieces ≡ wholes_of_all d (take i pieces) ++ wholes_of_all d (drop i pieces)
-wholes_split d i pieces = ap (wholes_of_all d) (sym (take-append-drop i pieces)) ∙ flat_map-append (wholes_in d) (take i pieces) (drop i pieces)
+wholes_split d i pieces = ap (wholes_of_all d) (sym (take-append-drop i pieces)) ∙ flat_map-append (csv_records_in d) (take i pieces) (drop i pieces)
 
 -- where pieces end, their rows do
 pub pieces_end : {W : Type 0} (contents : W → Option (List ℕ)) (old new : Counts W) (log log' : Option (List RowFault)) (p : Pieces) (values : List RowsOf) → ArePieces p
@@ -156,20 +156,20 @@ front_sound p i sound = record {
 
 -- the records up to a piece, and its own
 front_records : (d size : ℕ) (pieces : List (List ℕ)) (i : ℕ) (piece : List ℕ) → ArePiecesOf size pieces → slice_get pieces i ≡ Some piece
-    → (before : List Whole) × (length before ≡ i * size) × (wholes_of_all d (take (suc i) pieces) ≡ before ++ wholes_in d piece)
+    → (before : List CsvRecord) × (length before ≡ i * size) × (wholes_of_all d (take (suc i) pieces) ≡ before ++ csv_records_in d piece)
 front_records d size [] i piece cut e = absurd cc
-front_records d size (p ∷ ps) zero piece cut e = ([], omega arith, append-nil (wholes_in d p) ∙ ap (wholes_in d) (same_Some p piece e))
+front_records d size (p ∷ ps) zero piece cut e = ([], omega arith, append-nil (csv_records_in d p) ∙ ap (csv_records_in d) (same_Some p piece e))
 front_records d size (p ∷ []) (suc i) piece cut e = absurd cc
 front_records d size (p ∷ q ∷ ps) (suc i) piece cut e =
     let later = front_records d size (q ∷ ps) i piece cut.1 e in (
-      wholes_in d p ++ later.0,
-      (let times : suc i * size ≡ size + i * size = grind arith in omega (arith, length-append (wholes_in d p) later.0, as_many_in d p, cut.0, later.1, times)),
-      ap (λ (r : List Whole). wholes_in d p ++ r) later.2 ∙ sym (append_assoc (wholes_in d p) later.0 (wholes_in d piece)),
+      csv_records_in d p ++ later.0,
+      (let times : suc i * size ≡ size + i * size = grind arith in omega (arith, length-append (csv_records_in d p) later.0, as_many_in d p, cut.0, later.1, times)),
+      ap (λ (r : List CsvRecord). csv_records_in d p ++ r) later.2 ∙ sym (append_assoc (csv_records_in d p) later.0 (csv_records_in d piece)),
     )
 
 module _ (layout : Layout) (files : List File) (most : ℕ) where
   -- records don't come to rows with a fault and without
-  one_way : (number : ℕ) (xs : List Whole) (t u : List (List ℕ)) (fault : Option RowKind) → ComeToBy layout files most number xs t None → ComeToBy layout files most number xs u fault → IsSome fault → ⊥
+  one_way : (number : ℕ) (xs : List CsvRecord) (t u : List (List ℕ)) (fault : Option RowKind) → RecordsConvertBy layout files most number xs t None → RecordsConvertBy layout files most number xs u fault → IsSome fault → ⊥
   one_way number [] t u None first second has = cc has
   one_way number [] t u (Some kind) first second has = cc second.1
   one_way number (x ∷ xs) [] u fault first second has = cc first.1
@@ -178,15 +178,15 @@ module _ (layout : Layout) (files : List File) (most : ℕ) where
   one_way number (x ∷ xs) (t ∷ ts) (u ∷ us) fault first second has = one_way (number + 1) xs ts us fault first.2 second.2 has
 
   -- nor do some that come after others
-  clash : (number : ℕ) (xs ys : List Whole) (t u : List (List ℕ)) (fault : Option RowKind) → ComeToBy layout files most number (xs ++ ys) t None
-      → ComeToBy layout files most (number + length xs) ys u fault → IsSome fault → ⊥
+  clash : (number : ℕ) (xs ys : List CsvRecord) (t u : List (List ℕ)) (fault : Option RowKind) → RecordsConvertBy layout files most number (xs ++ ys) t None
+      → RecordsConvertBy layout files most (number + length xs) ys u fault → IsSome fault → ⊥
   clash number [] ys t u fault first second has =
       let at : number + 0 ≡ number = omega arith in
-      one_way number ys t u fault first (subst (λ (n : ℕ). ComeToBy layout files most n ys u fault) at second) has
+      one_way number ys t u fault first (subst (λ (n : ℕ). RecordsConvertBy layout files most n ys u fault) at second) has
   clash number (x ∷ xs) ys [] u fault first second has = cc first.1
   clash number (x ∷ xs) ys (t ∷ ts) u fault first second has =
       let at : number + suc (length xs) ≡ number + 1 + length xs = omega arith in
-      clash (number + 1) xs ys ts u fault first.2 (subst (λ (n : ℕ). ComeToBy layout files most n ys u fault) at second) has
+      clash (number + 1) xs ys ts u fault first.2 (subst (λ (n : ℕ). RecordsConvertBy layout files most n ys u fault) at second) has
 
 -- the rows up to a piece that has a fault have one
 pub front_faults : (p : Pieces) (i : ℕ) (rows found : RowsOf) → ArePieces p → i < length p.pieces → AreRowsOf p.layout p.files p.most p.first (wholes_of_all p.layout.delimiter (take (i + 1) p.pieces)) rows
@@ -198,10 +198,10 @@ front_faults p i rows found sound lt are of_piece has none =
     let parts = front_records d p.size p.pieces i piece sound.cut e in
     let here = rw e at of_piece in
     let at : i + 1 ≡ suc i = omega arith in
-    let all : wholes_of_all d (take (i + 1) p.pieces) ≡ parts.0 ++ wholes_in d piece = ap (λ (n : ℕ). wholes_of_all d (take n p.pieces)) at ∙ parts.2 in
+    let all : wholes_of_all d (take (i + 1) p.pieces) ≡ parts.0 ++ csv_records_in d piece = ap (λ (n : ℕ). wholes_of_all d (take n p.pieces)) at ∙ parts.2 in
     let come = rw (none, all) at are.come in
-    clash p.layout p.files p.most p.first parts.0 (wholes_in d piece) are.texts here.texts found.fault come
-    (subst (λ (n : ℕ). ComeToBy p.layout p.files p.most (p.first + n) (wholes_in d piece) here.texts found.fault) (sym parts.1) here.come) has
+    clash p.layout p.files p.most p.first parts.0 (csv_records_in d piece) are.texts here.texts found.fault come
+    (subst (λ (n : ℕ). RecordsConvertBy p.layout p.files p.most (p.first + n) (csv_records_in d piece) here.texts found.fault) (sym parts.1) here.come) has
 
 -- rows up to a fault are those of all
 pub front_of_all : (p : Pieces) (i : ℕ) (rows : RowsOf) (kind : RowKind) → AreRowsOf p.layout p.files p.most p.first (wholes_of_all p.layout.delimiter (take (i + 1) p.pieces)) rows → rows.fault ≡ Some kind
@@ -209,7 +209,7 @@ pub front_of_all : (p : Pieces) (i : ℕ) (rows : RowsOf) (kind : RowKind) → A
 front_of_all p i rows kind are has =
     let d = p.layout.delimiter in
     let all : wholes_of_all d p.pieces ≡ wholes_of_all d (take (i + 1) p.pieces) ++ wholes_of_all d (drop (i + 1) p.pieces) =
-    ap (wholes_of_all d) (sym (take-append-drop (i + 1) p.pieces)) ∙ flat_map-append (wholes_in d) (take (i + 1) p.pieces) (drop (i + 1) p.pieces) in
+    ap (wholes_of_all d) (sym (take-append-drop (i + 1) p.pieces)) ∙ flat_map-append (csv_records_in d) (take (i + 1) p.pieces) (drop (i + 1) p.pieces) in
     let front = wholes_of_all d (take (i + 1) p.pieces) in
     let behind = wholes_of_all d (drop (i + 1) p.pieces) in
     let come = rw has at are.come in
@@ -244,7 +244,7 @@ module _ (p : Pieces) (i : ℕ) (found : RowsOf) (sound : ArePieces p) (lt : i <
         record {
           done = h.done;
           more = h.more ++ rest;
-          parts = wholes_split d (i + 1) p.pieces ∙ ap (λ (l : List Whole). l ++ rest) h.parts ∙ append_assoc h.done h.more rest;
+          parts = wholes_split d (i + 1) p.pieces ∙ ap (λ (l : List CsvRecord). l ++ rest) h.parts ∙ append_assoc h.done h.more rest;
           front = h.front;
           are = h.are;
           fails = h.fails;
@@ -272,5 +272,5 @@ on_err (Err e) P Q f is = f e is
 
 -- the rows of a piece's bytes are those of the piece
 pub rows_of_bytes : (p : Pieces) (i : ℕ) (piece : List ℕ) (rows : RowsOf) → slice_get p.pieces i ≡ Some piece
-    → AreRowsOf p.layout p.files p.most (p.first + i * p.size) (wholes_in p.layout.delimiter piece) rows → AreRowsOfPiece p i rows
+    → AreRowsOf p.layout p.files p.most (p.first + i * p.size) (csv_records_in p.layout.delimiter piece) rows → AreRowsOfPiece p i rows
 rows_of_bytes p i piece rows at are = rw at are

@@ -21,6 +21,7 @@ pub mod Progress
 pub mod PutBack
 pub mod Rounds
 pub mod RowFaults
+pub mod Stated
 pub mod Sounds
 pub mod Sources
 pub mod Staying

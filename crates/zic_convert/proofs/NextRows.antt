@@ -2,7 +2,7 @@
 use Rattle.std.proofs.Common.{◌≡◌, ◌+◌, ◌++◌, ◌∙◌, ℕ, List, [], ◌∷◌, Option, Some, None, refl, sym, ap, subst}
 use Rattle.std.specs.Prelude.{MatchOption}
 use Rattle.std.proofs.lemmas.List.{append-nil}
-use Rattle.zic_columns.specs.Own.{Whole}
+use Rattle.zic_columns.specs.Own.{CsvRecord}
 use Rattle.zic_files.specs.File.{File}
 use Rattle.zic_plan.specs.declared.layout.AtFault.{AtFault}
 use Rattle.zic_plan.specs.declared.layout.AtFault.TheVariants as at_fault
@@ -17,46 +17,46 @@ pub none_ends : (at : AtFault) → ending at None ≡ None
 none_ends at_fault.End = refl
 none_ends at_fault.GoOn = refl
 
-module _ (layout : Layout) (files : List File) (most number : ℕ) (whole : Whole) (old new : RowsOf) where
+module _ (layout : Layout) (files : List File) (most number : ℕ) (row_record : CsvRecord) (old new : RowsOf) where
   -- by the fault that ends the run there, or none
   abbrev pub IsNextAt : Option RowKind → Type 0
   IsNextAt end = MatchOption end
-      ((row : List ℕ) × IsRowBy layout files most number whole row × (new ≡ record { text = old.text ++ row; count = old.count + 1; fault = old.fault; faults = old.faults ++ noted number (fault_by layout files most number whole.fields) }))
+      ((row : List ℕ) × IsRowBy layout files most number row_record row × (new ≡ record { text = old.text ++ row; count = old.count + 1; fault = old.fault; faults = old.faults ++ noted number (fault_by layout files most number row_record.fields) }))
       (λ kind. new ≡ record old { fault = Some kind })
 
   -- a record with a row
-  pub next_row : (row : List ℕ) → fault_by layout files most number whole.fields ≡ None → IsTextBy layout files whole row
-      → new ≡ record { text = old.text ++ row; count = old.count + 1; fault = old.fault; faults = old.faults } → AreNext layout files most number whole old new
+  pub next_row : (row : List ℕ) → fault_by layout files most number row_record.fields ≡ None → IsTextBy layout files row_record row
+      → new ≡ record { text = old.text ++ row; count = old.count + 1; fault = old.fault; faults = old.faults } → AreNext layout files most number row_record old new
   next_row row none is made =
-      let goes_on : ends_by layout files most number whole.fields ≡ None = ap (ending layout.at_fault) none ∙ none_ends layout.at_fault in
-      let same : old.faults ++ noted number (fault_by layout files most number whole.fields) ≡ old.faults =
+      let goes_on : ends_by layout files most number row_record.fields ≡ None = ap (ending layout.at_fault) none ∙ none_ends layout.at_fault in
+      let same : old.faults ++ noted number (fault_by layout files most number row_record.fields) ≡ old.faults =
       ap (λ (o : Option RowKind). old.faults ++ noted number o) none ∙ append-nil old.faults in
       subst IsNextAt (sym goes_on) (
         row,
-        subst (λ (o : Option RowKind). IsRowAt layout files o whole row) (sym none) is,
+        subst (λ (o : Option RowKind). IsRowAt layout files o row_record row) (sym none) is,
         made
             ∙ ap (λ (l : List RowFault). record { text = old.text ++ row; count = old.count + 1; fault = old.fault; faults = l }) (sym same),
       )
 
-  module _ (kind : RowKind) (some : fault_by layout files most number whole.fields ≡ Some kind) where
+  module _ (kind : RowKind) (some : fault_by layout files most number row_record.fields ≡ Some kind) where
     -- a record with a fault that doesn't end the run
     pub next_faulty : ending layout.at_fault (Some kind) ≡ None
-        → new ≡ record { text = old.text ++ faulty_text layout kind whole; count = old.count + 1; fault = old.fault; faults = old.faults ++ record { row = number; kind = kind } ∷ [] }
-        → AreNext layout files most number whole old new
+        → new ≡ record { text = old.text ++ faulty_text layout kind row_record; count = old.count + 1; fault = old.fault; faults = old.faults ++ record { row = number; kind = kind } ∷ [] }
+        → AreNext layout files most number row_record old new
     next_faulty goes made =
-        let goes_on : ends_by layout files most number whole.fields ≡ None = ap (ending layout.at_fault) some ∙ goes in
-        let row = faulty_text layout kind whole in
-        let here : old.faults ++ noted number (fault_by layout files most number whole.fields) ≡ old.faults ++ noted number (Some kind) =
+        let goes_on : ends_by layout files most number row_record.fields ≡ None = ap (ending layout.at_fault) some ∙ goes in
+        let row = faulty_text layout kind row_record in
+        let here : old.faults ++ noted number (fault_by layout files most number row_record.fields) ≡ old.faults ++ noted number (Some kind) =
         ap (λ (o : Option RowKind). old.faults ++ noted number o) some in
         subst IsNextAt (sym goes_on) (
           row,
-          subst (λ (o : Option RowKind). IsRowAt layout files o whole row) (sym some) refl,
+          subst (λ (o : Option RowKind). IsRowAt layout files o row_record row) (sym some) refl,
           made
               ∙ ap (λ (l : List RowFault). record { text = old.text ++ row; count = old.count + 1; fault = old.fault; faults = l }) (sym here),
         )
 
     -- a record that ends the run
-    pub next_end : ending layout.at_fault (Some kind) ≡ Some kind → new ≡ record old { fault = Some kind } → AreNext layout files most number whole old new
+    pub next_end : ending layout.at_fault (Some kind) ≡ Some kind → new ≡ record old { fault = Some kind } → AreNext layout files most number row_record old new
     next_end ends made =
-        let ended : ends_by layout files most number whole.fields ≡ Some kind = ap (ending layout.at_fault) some ∙ ends in
+        let ended : ends_by layout files most number row_record.fields ≡ Some kind = ap (ending layout.at_fault) some ∙ ends in
         subst IsNextAt (sym ended) made

@@ -5,7 +5,7 @@ use Rattle.std.proofs.lemmas.List.Elements.{All-contains}
 use Rattle.std.proofs.lemmas.Option.{same_Some}
 use Rattle.csv.specs.Reading.{strip_bom}
 use Rattle.zic_columns.specs.Exchange.{exchanged}
-use Rattle.zic_columns.specs.Own.{Whole, beside, delimited_texts}
+use Rattle.zic_columns.specs.Own.{CsvRecord, beside, delimited_texts}
 use Rattle.zic_columns.specs.Laws.{DelimitedRecordsAreOne, RecordsAreOne}
 use Rattle.zic_tzif.specs.Answer.{Answers}
 use Rattle.zic_tzif.specs.Laws.{FilesAnswerOnce}
@@ -19,8 +19,8 @@ use Rattle.zic_plan.specs.Layout.{records_before}
 use Rattle.zic_plan.specs.declared.layout.Layout.{Layout}
 use Rattle.zic_base.specs.declared.row_fault.RowKind.{RowKind}
 use Rattle.zic_convert.specs.Laws.{ColumnsConvertOnce}
-use Rattle.zic_convert.specs.LayoutRows.{ComeToBy, IsRowAt, IsTextBy, ends_by, fault_by, start_text}
-use Rattle.zic_convert.specs.Rows.{ComeTo, IsTextOf, fault_of}
+use Rattle.zic_convert.specs.LayoutRows.{RecordsConvertBy, IsRowAt, IsTextBy, ends_by, fault_by, start_text}
+use Rattle.zic_convert.specs.Rows.{RecordsConvertTo, IsTextOf, fault_of}
 
 module _ (answers : FilesAnswerOnce) (files : List File) (sound : AreSoundFiles files) where
   -- a name is one file's
@@ -44,22 +44,22 @@ module _ (answers : FilesAnswerOnce) (files : List File) (sound : AreSoundFiles 
       a.is ∙ same ∙ sym b.is
 
   -- also by a layout
-  one_text_by : (layout : Layout) (whole : Whole) (t u : List ℕ) → IsTextBy layout files whole t → IsTextBy layout files whole u → t ≡ u
-  one_text_by layout whole t u a b =
+  one_text_by : (layout : Layout) (row_record : CsvRecord) (t u : List ℕ) → IsTextBy layout files row_record t → IsTextBy layout files row_record u → t ≡ u
+  one_text_by layout row_record t u a b =
       let file = one_file a.file b.file a.among b.among (a.named ∙ sym b.named) in
       let count = same_Some a.count b.count (sym a.says ∙ b.says) in
       let is = All-contains IsSoundFile files a.file sound.each a.among in
       let there = subst (λ (f : File). Answers f.image.content (second_of layout.unit b.count) (Some b.state)) (sym file) b.answers in
       let other = subst (λ (n : ℤ). Answers a.file.image.content (second_of layout.unit n) (Some b.state)) (sym count) there in
       let state = same_Some a.state b.state (answers.only a.file.image.octets a.file.image.content is.read (second_of layout.unit a.count) (Some a.state) (Some b.state) a.answers other) in
-      let start : start_text layout whole.own a.file.name a.count ≡ start_text layout whole.own b.file.name b.count = rw (file, count) refl in
+      let start : start_text layout row_record.own a.file.name a.count ≡ start_text layout row_record.own b.file.name b.count = rw (file, count) refl in
       let rest : counted_rest_text layout.unit a.count a.state ≡ counted_rest_text layout.unit b.count b.state = rw (count, state) refl in
       a.is ∙ ap₂ (λ (x y : List ℕ). x ++ exchanged layout.delimiter y) start rest ∙ sym b.is
 
   -- and so has a row, with this fault or none
-  one_row : (layout : Layout) (fault : Option RowKind) (whole : Whole) (t u : List ℕ) → IsRowAt layout files fault whole t → IsRowAt layout files fault whole u → t ≡ u
-  one_row layout None whole t u a b = one_text_by layout whole t u a b
-  one_row layout (Some kind) whole t u a b = a ∙ sym b
+  one_row : (layout : Layout) (fault : Option RowKind) (row_record : CsvRecord) (t u : List ℕ) → IsRowAt layout files fault row_record t → IsRowAt layout files fault row_record u → t ≡ u
+  one_row layout None row_record t u a b = one_text_by layout row_record t u a b
+  one_row layout (Some kind) row_record t u a b = a ∙ sym b
 
   module _ (most : ℕ) where
     -- no fault is none that a row has
@@ -68,7 +68,7 @@ module _ (answers : FilesAnswerOnce) (files : List File) (sound : AreSoundFiles 
 
     -- records come to one list of texts, and one fault or none
     pub once : (number : ℕ) (records : List (List (List ℕ))) (a b : List (List ℕ)) (fault other : Option RowKind)
-        → ComeTo files most number records a fault → ComeTo files most number records b other → (a ≡ b) × (fault ≡ other)
+        → RecordsConvertTo files most number records a fault → RecordsConvertTo files most number records b other → (a ≡ b) × (fault ≡ other)
     once number [] a b fault other come then = (come.0 ∙ sym then.0, come.1 ∙ sym then.1)
     once number (x ∷ xs) [] [] fault other come then = (refl, come.0 ∙ sym then.0)
     once number (x ∷ xs) [] (u ∷ us) fault other come then = absurd (faultless fault (fault_of files most number x) come.0 come.1 then.0)
@@ -79,8 +79,8 @@ module _ (answers : FilesAnswerOnce) (files : List File) (sound : AreSoundFiles 
         (ap (λ (l : List ℕ). l ∷ ts) first ∙ ap (λ (l : List (List ℕ)). u ∷ l) rest.0, rest.1)
 
     -- also by a layout
-    pub once_by : (layout : Layout) (number : ℕ) (wholes : List Whole) (a b : List (List ℕ)) (fault other : Option RowKind)
-        → ComeToBy layout files most number wholes a fault → ComeToBy layout files most number wholes b other → (a ≡ b) × (fault ≡ other)
+    pub once_by : (layout : Layout) (number : ℕ) (row_records : List CsvRecord) (a b : List (List ℕ)) (fault other : Option RowKind)
+        → RecordsConvertBy layout files most number row_records a fault → RecordsConvertBy layout files most number row_records b other → (a ≡ b) × (fault ≡ other)
     once_by layout number [] a b fault other come then = (come.0 ∙ sym then.0, come.1 ∙ sym then.1)
     once_by layout number (x ∷ xs) [] [] fault other come then = (refl, come.0 ∙ sym then.0)
     once_by layout number (x ∷ xs) [] (u ∷ us) fault other come then = absurd (faultless fault (ends_by layout files most number x.fields) come.0 come.1 then.0)
@@ -98,7 +98,7 @@ columns_once one delimited answers = record {
       once answers files sound most 1 come.records a b fault other come.rows (rw same then.rows));
   by = λ files layout most column a b fault other sound come then.
       (let same = delimited layout.delimiter _ come.are.records then.are.records come.are.are then.are.are in
-      let wholes : come.wholes ≡ then.wholes = come.are.is
+      let row_records : come.row_records ≡ then.row_records = come.are.is
       ∙ ap (λ (records : List (List (List ℕ))). drop (records_before layout.header) (beside (delimited_texts layout.delimiter (strip_bom column)) records)) same ∙ sym then.are.is in
-      once_by answers files sound most layout 1 come.wholes a b fault other come.rows (rw wholes then.rows));
+      once_by answers files sound most layout 1 come.row_records a b fault other come.rows (rw row_records then.rows));
 }

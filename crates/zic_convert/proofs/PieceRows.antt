@@ -4,7 +4,7 @@ use Rattle.std.specs.Prelude.{IsSome, false, is_some}
 use Rattle.std.proofs.lemmas.List.{append-nil, length-map, map-append}
 use Rattle.std.proofs.lemmas.Simd.{map-map}
 use Rattle.zic_base.specs.declared.row_fault.RowKind.{RowKind}
-use Rattle.zic_columns.specs.Own.{Whole, whole_records}
+use Rattle.zic_columns.specs.Own.{CsvRecord, csv_records}
 use Rattle.zic_columns.specs.Record.{IsSplit, Splitting, record_at}
 use Rattle.zic_columns.specs.declared.fields.Record.{Record}
 use Rattle.zic_columns.specs.declared.splits.TheConstants.{BATCH}
@@ -12,7 +12,7 @@ use Rattle.zic_files.specs.File.{File}
 use Rattle.zic_plan.specs.declared.layout.Layout.{Layout}
 use Rattle.zic_convert.specs.code.Batch.{record_of, records_of, wanted_by}
 use Rattle.zic_convert.specs.code.Piece.{AreSoFar}
-use Rattle.zic_convert.specs.code.Row.{AreRowsOf, RowsOf, empty_rows, put_back, wholes_in}
+use Rattle.zic_convert.specs.code.Row.{AreRowsOf, RowsOf, empty_rows, put_back, csv_records_in}
 use Rattle.zic_convert.specs.declared.batch.Batch.{Batch}
 use Rattle.zic_convert.specs.declared.piece.Piece.{Piece}
 use Rattle.zic_convert.proofs.Coming.{come_more, faults_more, no_rows}
@@ -23,7 +23,7 @@ none_by None none = refl
 none_by (Some kind) none = absurd (cc none)
 
 -- records after a row that ends the run change nothing
-rows_more : (layout : Layout) (files : List File) (most first : ℕ) (xs ys : List Whole) (rows : RowsOf) (fault : Option RowKind) → rows.fault ≡ fault → IsSome fault
+rows_more : (layout : Layout) (files : List File) (most first : ℕ) (xs ys : List CsvRecord) (rows : RowsOf) (fault : Option RowKind) → rows.fault ≡ fault → IsSome fault
     → AreRowsOf layout files most first xs rows → AreRowsOf layout files most first (xs ++ ys) rows
 rows_more layout files most first xs ys rows None e some are = absurd (cc some)
 rows_more layout files most first xs ys rows (Some kind) e some are =
@@ -38,15 +38,15 @@ rows_more layout files most first xs ys rows (Some kind) e some are =
 
 module _ (piece : Piece) where
   -- records that are split from those that are left
-  parts_split : (records : List Record) (old left : List Whole) → old ≡ map (record_at piece.bytes.now) records ++ left
+  parts_split : (records : List Record) (old left : List CsvRecord) → old ≡ map (record_at piece.bytes.now) records ++ left
       → map (put_back piece.layout.now.delimiter) old ≡ map (record_of piece) records ++ map (put_back piece.layout.now.delimiter) left
   parts_split records old left split =
       let put = put_back piece.layout.now.delimiter in
       ap (map put) split ∙ map-append put (map (record_at piece.bytes.now) records) left
-      ∙ ap (λ (l : List Whole). l ++ map put left) (map-map put (record_at piece.bytes.now) records)
+      ∙ ap (λ (l : List CsvRecord). l ++ map put left) (map-map put (record_at piece.bytes.now) records)
 
   -- the first batch
-  pub far_at_first : (rows : RowsOf) (batch : Batch) (count : ℕ) (old new : Splitting) → rows ≡ empty_rows → length batch.records ≡ BATCH → old.left ≡ whole_records piece.bytes.now
+  pub far_at_first : (rows : RowsOf) (batch : Batch) (count : ℕ) (old new : Splitting) → rows ≡ empty_rows → length batch.records ≡ BATCH → old.left ≡ csv_records piece.bytes.now
       → old.piece ≡ piece.bytes.now → old.wanted ≡ wanted_by piece.layout.now → new.piece ≡ old.piece → new.wanted ≡ old.wanted → count ≤ BATCH
       → old.left ≡ map (record_at old.piece) (take count batch.records) ++ new.left → All (IsSplit old.piece old.wanted) (take count batch.records) → (count < BATCH → new.left ≡ [])
       → AreSoFar piece rows batch count new
@@ -70,13 +70,13 @@ module _ (piece : Piece) where
     many = length-take-le count batch.records (omega (arith, far.few, far.long))
 
     -- how many records there are
-    pub all_counted : length (whole_records piece.bytes.now) ≡ length far.done + (count + length splitter.left)
+    pub all_counted : length (csv_records piece.bytes.now) ≡ length far.done + (count + length splitter.left)
     all_counted =
         let put = put_back piece.layout.now.delimiter in
         omega (
           arith,
           ap length far.parts,
-          length-map (whole_records piece.bytes.now) put,
+          length-map (csv_records piece.bytes.now) put,
           length-append far.done (records_of piece batch count ++ map put splitter.left),
           length-append (records_of piece batch count) (map put splitter.left),
           length-map (take count batch.records) (record_of piece),
@@ -85,15 +85,15 @@ module _ (piece : Piece) where
         )
 
     -- all records have their rows
-    pub all_made : splitter.left ≡ [] → count ≤ 0 → AreRowsOf piece.layout.now piece.zones.now piece.most piece.first (wholes_in piece.layout.now.delimiter piece.bytes.now) rows
+    pub all_made : splitter.left ≡ [] → count ≤ 0 → AreRowsOf piece.layout.now piece.zones.now piece.most piece.first (csv_records_in piece.layout.now.delimiter piece.bytes.now) rows
     all_made none zero =
         let no_more : count ≡ 0 = omega (arith, zero) in
-        let is : wholes_in piece.layout.now.delimiter piece.bytes.now ≡ far.done =
-        far.parts ∙ ap₂ (λ (n : ℕ) (l : List Whole). far.done ++ (map (record_of piece) (take n batch.records) ++ map (put_back piece.layout.now.delimiter) l)) no_more none ∙ append-nil far.done in
+        let is : csv_records_in piece.layout.now.delimiter piece.bytes.now ≡ far.done =
+        far.parts ∙ ap₂ (λ (n : ℕ) (l : List CsvRecord). far.done ++ (map (record_of piece) (take n batch.records) ++ map (put_back piece.layout.now.delimiter) l)) no_more none ∙ append-nil far.done in
         rw is far.rows_are
 
     -- or a row ends the run
-    pub ended : IsSome rows.fault → AreRowsOf piece.layout.now piece.zones.now piece.most piece.first (wholes_in piece.layout.now.delimiter piece.bytes.now) rows
+    pub ended : IsSome rows.fault → AreRowsOf piece.layout.now piece.zones.now piece.most piece.first (csv_records_in piece.layout.now.delimiter piece.bytes.now) rows
     ended some = rw far.parts (rows_more piece.layout.now piece.zones.now piece.most piece.first far.done _ rows rows.fault refl some far.rows_are)
 
     -- the next batch
@@ -114,7 +114,7 @@ module _ (piece : Piece) where
           end = end;
           done = far.done ++ records_of piece batch count;
           parts = far.parts
-              ∙ ap (λ (l : List Whole). far.done ++ (records_of piece batch count ++ l)) (parts_split (take n then.records) splitter.left new.left here)
+              ∙ ap (λ (l : List CsvRecord). far.done ++ (records_of piece batch count ++ l)) (parts_split (take n then.records) splitter.left new.left here)
               ∙ sym (append_assoc far.done (records_of piece batch count) (records_of piece then n ++ map put new.left));
           rows_are = are;
           counted = λ goes_on. omega (

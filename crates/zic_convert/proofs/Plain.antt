@@ -13,7 +13,7 @@ use Rattle.zic_columns.proofs.Wholes.{wholes_fields}
 use Rattle.zic_columns.specs.Column.{AreColumnRecords, column_records}
 use Rattle.zic_columns.specs.Exchange.{config_of, exchange, exchanged}
 use Rattle.zic_columns.specs.Laws.{ColumnRecordsAreRead, DelimitedRecordsAreOne}
-use Rattle.zic_columns.specs.Own.{Whole, whole_records}
+use Rattle.zic_columns.specs.Own.{CsvRecord, csv_records}
 use Rattle.zic_files.specs.File.{File}
 use Rattle.zic_plan.specs.Layout.{HasPlainRows, records_before}
 use Rattle.zic_plan.specs.declared.layout.Header.TheVariants as header
@@ -28,8 +28,8 @@ use Rattle.zic_rows.specs.Row.{row_text}
 use Rattle.zic_zones.specs.Zones.{is_named}
 use Rattle.zic_convert.specs.Column.{AreRowRecords, ConvertsBodyTo, ConvertsBy, ConvertsTo}
 use Rattle.zic_convert.specs.Laws.{PlainColumnsConvertAlike}
-use Rattle.zic_convert.specs.Rows.{ComeTo, IsTextOf, fault_of, instant_in, is_row_instant, name_in}
-use Rattle.zic_convert.specs.LayoutRows.{ComeToBy, IsRowAt, IsTextBy, ends_by, fault_by, start_text}
+use Rattle.zic_convert.specs.Rows.{RecordsConvertTo, IsTextOf, fault_of, instant_in, is_row_instant, name_in}
+use Rattle.zic_convert.specs.LayoutRows.{RecordsConvertBy, IsRowAt, IsTextBy, ends_by, fault_by, start_text}
 use Rattle.zic_convert.specs.code.Row.{comma_start, fields_of_all}
 
 same_seconds : (o : Option ℤ) → option_map (second_of unit.Second) o ≡ o
@@ -72,7 +72,7 @@ module _ (layout : Layout) (plain : HasPlainRows layout) (files : List File) whe
     pub plain_fault : (number : ℕ) (fields : List (List ℕ)) → fault_by layout files most number fields ≡ fault_of files most number fields
     plain_fault number [] = other_fault number [] (ne_eqb (length {A = List ℕ} []) 2 (λ e. omega (arith, e)))
     plain_fault number (a ∷ []) = other_fault number (a ∷ []) (ne_eqb (length (a ∷ [])) 2 (λ e. omega (arith, e)))
-    plain_fault number (a ∷ b ∷ []) = rw (plain.count, plain.zone, plain.time, plain.unit, count_seconds b, same_seconds (instant_of b)) refl
+    plain_fault number (a ∷ b ∷ []) = rw (plain.count, plain.zone, plain.time, plain.from, plain.unit, count_seconds b, same_seconds (instant_of b)) refl
     plain_fault number (a ∷ b ∷ c ∷ rest) = other_fault number (a ∷ b ∷ c ∷ rest) (ne_eqb (length (a ∷ b ∷ c ∷ rest)) 2 (λ e. omega (arith, e)))
 
     -- which ends the run
@@ -89,16 +89,16 @@ module _ (layout : Layout) (plain : HasPlainRows layout) (files : List File) whe
         among = is.among;
         named = rw (plain.zone, two) (rw two at is.named);
         count = is.instant;
-        says = rw (plain.time, plain.unit, two, count_seconds field) says;
+        says = rw (plain.time, plain.from, plain.unit, two, count_seconds field) says;
         state = is.state;
         answers = rw (plain.unit, second_one is.instant) is.answers;
         is = is.is ∙ sym (plain_row_text own is.file.name is.instant is.state);
       }
 
   -- and the other way round
-  text_plainly : (whole : Whole) (name field text : List ℕ) → whole.fields ≡ name ∷ field ∷ [] → IsTextBy layout files whole text → IsTextOf files whole.fields text
-  text_plainly whole name field text two is =
-      let says = rw (plain.time, plain.unit, two, count_seconds field) at is.says in
+  text_plainly : (row_record : CsvRecord) (name field text : List ℕ) → row_record.fields ≡ name ∷ field ∷ [] → IsTextBy layout files row_record text → IsTextOf files row_record.fields text
+  text_plainly row_record name field text two is =
+      let says = rw (plain.time, plain.from, plain.unit, two, count_seconds field) at is.says in
       record {
         file = is.file;
         among = is.among;
@@ -107,7 +107,7 @@ module _ (layout : Layout) (plain : HasPlainRows layout) (files : List File) whe
         says = rw two says;
         state = is.state;
         answers = rw (plain.unit, second_one is.count) at is.answers;
-        is = is.is ∙ plain_row_text whole.own is.file.name is.count is.state;
+        is = is.is ∙ plain_row_text row_record.own is.file.name is.count is.state;
       }
 
   -- a record without a fault has two fields
@@ -117,32 +117,32 @@ module _ (layout : Layout) (plain : HasPlainRows layout) (files : List File) whe
       two_fields fields (eqb-true (length fields) 2 two)
 
   -- plain columns come to the same
-  pub come_plainly : (most number : ℕ) (wholes : List Whole) (texts : List (List ℕ)) (fault : Option RowKind)
-      → ComeToBy layout files most number wholes texts fault → ComeTo files most number (fields_of_all wholes) texts fault
+  pub come_plainly : (most number : ℕ) (row_records : List CsvRecord) (texts : List (List ℕ)) (fault : Option RowKind)
+      → RecordsConvertBy layout files most number row_records texts fault → RecordsConvertTo files most number (fields_of_all row_records) texts fault
   come_plainly most number [] texts fault come = come
-  come_plainly most number (whole ∷ wholes) [] fault come = (come.0 ∙ plain_ends most number whole.fields, come.1)
-  come_plainly most number (whole ∷ wholes) (text ∷ texts) fault come =
-      let sound = sym (plain_ends most number whole.fields) ∙ come.0 in
-      let two = two_of most number whole.fields sound in
-      let row = subst (λ (o : Option RowKind). IsRowAt layout files o whole text) (plain_fault most number whole.fields ∙ sound) come.1 in
-      (sound, text_plainly whole two.0 two.1 text two.2 row, come_plainly most (number + 1) wholes texts fault come.2)
+  come_plainly most number (row_record ∷ row_records) [] fault come = (come.0 ∙ plain_ends most number row_record.fields, come.1)
+  come_plainly most number (row_record ∷ row_records) (text ∷ texts) fault come =
+      let sound = sym (plain_ends most number row_record.fields) ∙ come.0 in
+      let two = two_of most number row_record.fields sound in
+      let row = subst (λ (o : Option RowKind). IsRowAt layout files o row_record text) (plain_fault most number row_record.fields ∙ sound) come.1 in
+      (sound, text_plainly row_record two.0 two.1 text two.2 row, come_plainly most (number + 1) row_records texts fault come.2)
 
   -- and the other way round
-  come_by : (most number : ℕ) (wholes : List Whole) (texts : List (List ℕ)) (fault : Option RowKind) → ComeTo files most number (fields_of_all wholes) texts fault
-      → ComeToBy layout files most number wholes texts fault
+  come_by : (most number : ℕ) (row_records : List CsvRecord) (texts : List (List ℕ)) (fault : Option RowKind) → RecordsConvertTo files most number (fields_of_all row_records) texts fault
+      → RecordsConvertBy layout files most number row_records texts fault
   come_by most number [] texts fault come = come
-  come_by most number (whole ∷ wholes) [] fault come = (come.0 ∙ sym (plain_ends most number whole.fields), come.1)
-  come_by most number (whole ∷ wholes) (text ∷ texts) fault come =
-      let two = two_of most number whole.fields come.0 in
-      let row = text_by whole.own whole.fields two.0 two.1 text two.2 come.1 in (
-        plain_ends most number whole.fields ∙ come.0,
-        subst (λ (o : Option RowKind). IsRowAt layout files o whole text) (sym (plain_fault most number whole.fields ∙ come.0)) row,
-        come_by most (number + 1) wholes texts fault come.2,
+  come_by most number (row_record ∷ row_records) [] fault come = (come.0 ∙ sym (plain_ends most number row_record.fields), come.1)
+  come_by most number (row_record ∷ row_records) (text ∷ texts) fault come =
+      let two = two_of most number row_record.fields come.0 in
+      let row = text_by row_record.own row_record.fields two.0 two.1 text two.2 come.1 in (
+        plain_ends most number row_record.fields ∙ come.0,
+        subst (λ (o : Option RowKind). IsRowAt layout files o row_record text) (sym (plain_fault most number row_record.fields ∙ come.0)) row,
+        come_by most (number + 1) row_records texts fault come.2,
       )
 
-fields_after : (wholes : List Whole) → fields_of_all (drop 1 wholes) ≡ drop 1 (fields_of_all wholes)
+fields_after : (row_records : List CsvRecord) → fields_of_all (drop 1 row_records) ≡ drop 1 (fields_of_all row_records)
 fields_after [] = refl
-fields_after (whole ∷ wholes) = refl
+fields_after (row_record ∷ row_records) = refl
 
 -- a comma is what stands between fields by default
 comma_config : config_of 44 ≡ default_config
@@ -155,12 +155,12 @@ module _ (read : ColumnRecordsAreRead) (one : DelimitedRecordsAreOne) (files : L
   records_are records are = one 44 (strip_bom column) records (column_records (strip_bom column)) are (read (strip_bom column))
 
   -- those that make rows, with their own bytes
-  rows_are : (wholes : List Whole) → AreRowRecords layout column wholes → wholes ≡ drop (records_before layout.header) (whole_records (strip_bom column))
-  rows_are wholes are =
+  rows_are : (row_records : List CsvRecord) → AreRowRecords layout column row_records → row_records ≡ drop (records_before layout.header) (csv_records (strip_bom column))
+  rows_are row_records are =
       let same = records_are are.records (rw plain.delimiter at are.are) in
       rw (plain.delimiter, same) at are.is
 
-  all_rows : AreRowRecords layout column (drop (records_before layout.header) (whole_records (strip_bom column)))
+  all_rows : AreRowRecords layout column (drop (records_before layout.header) (csv_records (strip_bom column)))
   all_rows = record {
     records = column_records (strip_bom column);
     are = rw plain.delimiter (read (strip_bom column));
@@ -168,42 +168,42 @@ module _ (read : ColumnRecordsAreRead) (one : DelimitedRecordsAreOne) (files : L
   }
 
   -- the rows of a column are those of its records after the header, if it has one, without a layout
-  plainly : ConvertsBy files layout most column texts fault → ComeTo files most 1 (fields_of_all (drop (records_before layout.header) (whole_records (strip_bom column)))) texts fault
+  plainly : ConvertsBy files layout most column texts fault → RecordsConvertTo files most 1 (fields_of_all (drop (records_before layout.header) (csv_records (strip_bom column)))) texts fault
   plainly come =
-      subst (λ (l : List Whole). ComeTo files most 1 (fields_of_all l) texts fault) (rows_are come.wholes come.are) (come_plainly layout plain files most 1 come.wholes texts fault come.rows)
+      subst (λ (l : List CsvRecord). RecordsConvertTo files most 1 (fields_of_all l) texts fault) (rows_are come.row_records come.are) (come_plainly layout plain files most 1 come.row_records texts fault come.rows)
 
-  by_layout : ComeTo files most 1 (fields_of_all (drop (records_before layout.header) (whole_records (strip_bom column)))) texts fault → ConvertsBy files layout most column texts fault
+  by_layout : RecordsConvertTo files most 1 (fields_of_all (drop (records_before layout.header) (csv_records (strip_bom column)))) texts fault → ConvertsBy files layout most column texts fault
   by_layout come =
-      let wholes = drop (records_before layout.header) (whole_records (strip_bom column)) in
-      record { wholes = wholes; are = all_rows; rows = come_by layout plain files most 1 wholes texts fault come }
+      let row_records = drop (records_before layout.header) (csv_records (strip_bom column)) in
+      record { row_records = row_records; are = all_rows; rows = come_by layout plain files most 1 row_records texts fault come }
 
   without_header : layout.header ≡ header.Absent → ConvertsBy files layout most column texts fault ↔ ConvertsTo files most column texts fault
   without_header none =
       let bytes = strip_bom column in
-      let same : fields_of_all (drop (records_before layout.header) (whole_records bytes)) ≡ column_records bytes = rw none (wholes_fields bytes) in (
+      let same : fields_of_all (drop (records_before layout.header) (csv_records bytes)) ≡ column_records bytes = rw none (wholes_fields bytes) in (
         λ by. record {
           records = column_records bytes;
           are = read bytes;
-          rows = subst (λ (l : List (List (List ℕ))). ComeTo files most 1 l texts fault) same (plainly by);
+          rows = subst (λ (l : List (List (List ℕ))). RecordsConvertTo files most 1 l texts fault) same (plainly by);
         },
         λ to.
             let is = records_are to.records to.are ∙ sym same in
-            by_layout (subst (λ (l : List (List (List ℕ))). ComeTo files most 1 l texts fault) is to.rows),
+            by_layout (subst (λ (l : List (List (List ℕ))). RecordsConvertTo files most 1 l texts fault) is to.rows),
       )
 
-  with_header : layout.header ≡ header.First → ConvertsBy files layout most column texts fault ↔ ConvertsBodyTo files most column texts fault
-  with_header first =
+  with_header : records_before layout.header ≡ 1 → ConvertsBy files layout most column texts fault ↔ ConvertsBodyTo files most column texts fault
+  with_header one_before =
       let bytes = strip_bom column in
-      let same : fields_of_all (drop (records_before layout.header) (whole_records bytes)) ≡ drop 1 (column_records bytes) =
-      rw first (fields_after (whole_records bytes) ∙ ap (λ (l : List (List (List ℕ))). drop 1 l) (wholes_fields bytes)) in (
+      let same : fields_of_all (drop (records_before layout.header) (csv_records bytes)) ≡ drop 1 (column_records bytes) =
+      rw one_before (fields_after (csv_records bytes) ∙ ap (λ (l : List (List (List ℕ))). drop 1 l) (wholes_fields bytes)) in (
         λ by. record {
           records = column_records bytes;
           are = read bytes;
-          rows = subst (λ (l : List (List (List ℕ))). ComeTo files most 1 l texts fault) same (plainly by);
+          rows = subst (λ (l : List (List (List ℕ))). RecordsConvertTo files most 1 l texts fault) same (plainly by);
         },
         λ to.
             let is = ap (λ (l : List (List (List ℕ))). drop 1 l) (records_are to.records to.are) ∙ sym same in
-            by_layout (subst (λ (l : List (List (List ℕ))). ComeTo files most 1 l texts fault) is to.rows),
+            by_layout (subst (λ (l : List (List (List ℕ))). RecordsConvertTo files most 1 l texts fault) is to.rows),
       )
 
 -- A column of plain rows converts as it does without a layout.

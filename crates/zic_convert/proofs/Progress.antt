@@ -8,7 +8,7 @@ use Rattle.std.proofs.Math.Seq.{take-append_seam}
 use Rattle.std.proofs.lemmas.List.{append-nil, length-append, map-append}
 use Rattle.std.proofs.lemmas.List.Folds.{concat-append}
 use Rattle.csv.proofs.WriteFacts.{appends-more, appends-none}
-use Rattle.zic_columns.specs.Own.{Whole, whole_records}
+use Rattle.zic_columns.specs.Own.{CsvRecord, csv_records}
 use Rattle.zic_columns.specs.Round.{HasNoRecord, TakesPieces, wholes_of}
 use Rattle.zic_tzif.specs.Laws.{FilesAnswerOnce}
 use Rattle.zic_files.specs.File.{File}
@@ -18,10 +18,10 @@ use Rattle.zic_base.specs.declared.row_fault.RowFault.{RowFault}
 use Rattle.zic_base.specs.declared.row_fault.RowKind.{RowKind}
 use Rattle.zic_base.specs.declared.run_stop.RunStop.{RunStop}
 use Rattle.zic_base.specs.declared.run_stop.RunStop.TheVariants as stop
-use Rattle.zic_convert.specs.LayoutRows.{ComeToBy, faults_by}
+use Rattle.zic_convert.specs.LayoutRows.{RecordsConvertBy, faults_by}
 use Rattle.zic_convert.specs.Run.{EndsAfterLines, EndsAtRow, Notes, WritesRows}
 use Rattle.zic_convert.specs.code.Progress.{ComeNext, IsSoFar, Takes, output}
-use Rattle.zic_convert.specs.code.Row.{AreRowsOf, RowsOf, empty_rows, put_back, wholes_in, wholes_of_all}
+use Rattle.zic_convert.specs.code.Row.{AreRowsOf, RowsOf, empty_rows, put_back, csv_records_in, wholes_of_all}
 use Rattle.zic_convert.proofs.Bytes.{starts_later}
 use Rattle.zic_convert.proofs.Coming.{all_texts, come_after, come_more, faults_after, faults_more, no_rows}
 use Rattle.zic_convert.proofs.Fronts.{faults_front, front_texts, take_after}
@@ -36,23 +36,23 @@ pub round_taken : (d : ℕ) (old new : Option (List ℕ)) (pieces : List (List �
     → IfSome old (λ bytes. (rest : List ℕ) × (new ≡ Some rest) × TakesPieces bytes rest pieces) → Takes d old new (wholes_of_all d pieces)
 round_taken d old new pieces takes = if_some old _ (λ bytes e.
     let (rest, at, same) = for_some old _ bytes takes e in
-    (rest, at, ap (map (put_back d)) same ∙ map-append (put_back d) (wholes_of pieces) (whole_records rest) ∙ ap (λ (l : List Whole). l ++ wholes_in d rest) (sym (all_put d pieces))))
+    (rest, at, ap (map (put_back d)) same ∙ map-append (put_back d) (wholes_of pieces) (csv_records rest) ∙ ap (λ (l : List CsvRecord). l ++ csv_records_in d rest) (sym (all_put d pieces))))
 
 -- records that are taken come next
-pub taken_come_next : (d : ℕ) (old new : Option (List ℕ)) (rs : List Whole) → Takes d old new rs → ComeNext d old rs
-taken_come_next d old new rs takes = if_some old _ (λ bytes e. (let t = for_some old _ bytes takes e in (wholes_in d t.0, t.2)))
+pub taken_come_next : (d : ℕ) (old new : Option (List ℕ)) (rs : List CsvRecord) → Takes d old new rs → ComeNext d old rs
+taken_come_next d old new rs takes = if_some old _ (λ bytes e. (let t = for_some old _ bytes takes e in (csv_records_in d t.0, t.2)))
 
 -- a round without a piece takes no record
 pub no_piece : (d : ℕ) (old new : Option (List ℕ)) (pieces : List (List ℕ)) → (0 < length pieces → ⊥) → Takes d old new (wholes_of_all d pieces) → Takes d old new []
 no_piece d old new [] none takes = takes
 no_piece d old new (p ∷ ps) none takes = absurd (none (omega arith))
 
-module _ (layout : Layout) (files : List File) (most : ℕ) (all : List Whole) where
+module _ (layout : Layout) (files : List File) (most : ℕ) (all : List CsvRecord) where
   -- nothing yet
-  pub at_start : (known held : Option (List ℕ)) (log : Option (List RowFault)) (bytes : List ℕ) → known ≡ Some bytes → all ≡ wholes_in layout.delimiter bytes
+  pub at_start : (known held : Option (List ℕ)) (log : Option (List RowFault)) (bytes : List ℕ) → known ≡ Some bytes → all ≡ csv_records_in layout.delimiter bytes
       → IsSoFar layout files most all known 0 (output held held log log)
   at_start known held log bytes is same = record {
-    wholes = [];
+    row_records = [];
     texts = [];
     rest = bytes;
     bytes = is;
@@ -69,11 +69,11 @@ module _ (layout : Layout) (files : List File) (most : ℕ) (all : List Whole) w
   none_taken left next n old new log now takes far =
       let t = for_some left _ far.rest takes far.bytes in
       record {
-        wholes = far.wholes;
+        row_records = far.row_records;
         texts = far.texts;
         rest = t.0;
         bytes = t.1;
-        goes_on = far.goes_on ∙ ap (λ (r : List Whole). far.wholes ++ r) t.2;
+        goes_on = far.goes_on ∙ ap (λ (r : List CsvRecord). far.row_records ++ r) t.2;
         come = far.come;
         counted = far.counted;
         wrote = far.wrote;
@@ -85,42 +85,42 @@ module _ (layout : Layout) (files : List File) (most : ℕ) (all : List Whole) w
       → HasNoRecord left → Appends mid new [] → WritesRows layout files most [] all n (output old new log now)
   all_written left n old mid new log now far none flushed =
       let last = none_in layout.delimiter far.rest (for_some left _ far.rest none far.bytes) in
-      let same = far.goes_on ∙ ap (λ (r : List Whole). far.wholes ++ r) last ∙ append-nil far.wholes in (
+      let same = far.goes_on ∙ ap (λ (r : List CsvRecord). far.row_records ++ r) last ∙ append-nil far.row_records in (
         record {
           texts = far.texts;
-          converts = subst (λ (r : List Whole). ComeToBy layout files most 1 r far.texts None) (sym same) far.come;
+          converts = subst (λ (r : List CsvRecord). RecordsConvertBy layout files most 1 r far.texts None) (sym same) far.come;
           count = far.counted;
           wrote = subst (λ (l : List ℕ). Appends old new l) (append-nil (concat far.texts)) (appends-more old mid new (concat far.texts) [] far.wrote flushed);
         },
-        subst (λ (r : List Whole). Notes log now (faults_by layout files most 1 r)) (sym same) far.noted,
+        subst (λ (r : List CsvRecord). Notes log now (faults_by layout files most 1 r)) (sym same) far.noted,
       )
 
   module _ (left : Option (List ℕ)) (n : ℕ) (old mid new : Option (List ℕ)) (log now last : Option (List RowFault)) (far : IsSoFar layout files most all left n (output old mid log now)) where
     number : n + 1 ≡ 1 + length far.texts
     number = omega (arith, far.counted)
 
-    many : length far.wholes ≡ n
-    many = sym (far.counted ∙ all_texts layout files most 1 far.wholes far.texts far.come)
+    many : length far.row_records ≡ n
+    many = sym (far.counted ∙ all_texts layout files most 1 far.row_records far.texts far.come)
 
     -- the rows so far, and those of the records that come next
-    come_on : (rs : List Whole) (us : List (List ℕ)) (end : Option RowKind) → ComeToBy layout files most (n + 1) rs us end
-        → ComeToBy layout files most 1 (far.wholes ++ rs) (far.texts ++ us) end
-    come_on rs us end come = come_after layout files most 1 far.wholes rs far.texts us end far.come (subst (λ (k : ℕ). ComeToBy layout files most k rs us end) number come)
+    come_on : (rs : List CsvRecord) (us : List (List ℕ)) (end : Option RowKind) → RecordsConvertBy layout files most (n + 1) rs us end
+        → RecordsConvertBy layout files most 1 (far.row_records ++ rs) (far.texts ++ us) end
+    come_on rs us end come = come_after layout files most 1 far.row_records rs far.texts us end far.come (subst (λ (k : ℕ). RecordsConvertBy layout files most k rs us end) number come)
 
     -- the faults of the rows so far, and of those of the records that come next
-    faults_on : (rs : List Whole) → faults_by layout files most 1 (far.wholes ++ rs) ≡ faults_by layout files most 1 far.wholes ++ faults_by layout files most (n + 1) rs
+    faults_on : (rs : List CsvRecord) → faults_by layout files most 1 (far.row_records ++ rs) ≡ faults_by layout files most 1 far.row_records ++ faults_by layout files most (n + 1) rs
     faults_on rs =
-        let at : 1 + length far.wholes ≡ n + 1 = omega (arith, many) in
-        faults_after layout files most 1 far.wholes rs far.texts far.come ∙ ap (λ (k : ℕ). faults_by layout files most 1 far.wholes ++ faults_by layout files most k rs) at
+        let at : 1 + length far.row_records ≡ n + 1 = omega (arith, many) in
+        faults_after layout files most 1 far.row_records rs far.texts far.come ∙ ap (λ (k : ℕ). faults_by layout files most 1 far.row_records ++ faults_by layout files most k rs) at
 
     wrote_on : (us : List (List ℕ)) (bytes : List ℕ) → bytes ≡ concat us → Appends mid new bytes → Appends old new (concat (far.texts ++ us))
     wrote_on us bytes e wrote =
         subst (λ (l : List ℕ). Appends old new l) (ap (λ (l : List ℕ). concat far.texts ++ l) e ∙ sym (concat-append far.texts us))
         (appends-more old mid new (concat far.texts) bytes far.wrote wrote)
 
-    module _ (rs : List Whole) (rows : RowsOf) (are : AreRowsOf layout files most (n + 1) rs rows) where
-      noted_on : Notes now last rows.faults → Notes log last (faults_by layout files most 1 (far.wholes ++ rs))
-      noted_on noted = subst (λ (l : List RowFault). Notes log last l) (ap (λ (l : List RowFault). faults_by layout files most 1 far.wholes ++ l) are.faults ∙ sym (faults_on rs))
+    module _ (rs : List CsvRecord) (rows : RowsOf) (are : AreRowsOf layout files most (n + 1) rs rows) where
+      noted_on : Notes now last rows.faults → Notes log last (faults_by layout files most 1 (far.row_records ++ rs))
+      noted_on noted = subst (λ (l : List RowFault). Notes log last l) (ap (λ (l : List RowFault). faults_by layout files most 1 far.row_records ++ l) are.faults ∙ sym (faults_on rs))
           (notes_more log now last _ rows.faults far.noted noted)
 
       -- more rows
@@ -129,11 +129,11 @@ module _ (layout : Layout) (files : List File) (most : ℕ) (all : List Whole) w
       later next none takes wrote noted =
           let t = for_some left _ far.rest takes far.bytes in
           record {
-            wholes = far.wholes ++ rs;
+            row_records = far.row_records ++ rs;
             texts = far.texts ++ are.texts;
             rest = t.0;
             bytes = t.1;
-            goes_on = far.goes_on ∙ ap (λ (r : List Whole). far.wholes ++ r) t.2 ∙ sym (append_assoc far.wholes rs (wholes_in layout.delimiter t.0));
+            goes_on = far.goes_on ∙ ap (λ (r : List CsvRecord). far.row_records ++ r) t.2 ∙ sym (append_assoc far.row_records rs (csv_records_in layout.delimiter t.0));
             come = come_on rs are.texts None (rw none at are.come);
             counted = omega (arith, far.counted, are.count, length-append far.texts are.texts);
             wrote = wrote_on are.texts rows.text are.text wrote;
@@ -146,13 +146,13 @@ module _ (layout : Layout) (files : List File) (most : ℕ) (all : List Whole) w
             → EndsAtRow layout files most [] all (n + 1 + rows.count) kind (output old new log last)
         up_to_row kind some wrote noted =
             let (more, next) = for_some left _ far.rest come far.bytes in
-            let whole = far.goes_on ∙ ap (λ (r : List Whole). far.wholes ++ r) next in
+            let row_record = far.goes_on ∙ ap (λ (r : List CsvRecord). far.row_records ++ r) next in
             let ends = rw some at are.come in
-            let same = ap (faults_by layout files most 1) whole ∙ faults_on (rs ++ more)
-            ∙ ap (λ (l : List RowFault). faults_by layout files most 1 far.wholes ++ l) (faults_more layout files most (n + 1) rs more are.texts kind ends) ∙ sym (faults_on rs) in (
+            let same = ap (faults_by layout files most 1) row_record ∙ faults_on (rs ++ more)
+            ∙ ap (λ (l : List RowFault). faults_by layout files most 1 far.row_records ++ l) (faults_more layout files most (n + 1) rs more are.texts kind ends) ∙ sym (faults_on rs) in (
               record {
                 texts = far.texts ++ are.texts;
-                converts = rw whole (come_on (rs ++ more) are.texts (Some kind) (come_more layout files most (n + 1) rs more are.texts kind ends));
+                converts = rw row_record (come_on (rs ++ more) are.texts (Some kind) (come_more layout files most (n + 1) rs more are.texts kind ends));
                 number = omega (arith, far.counted, are.count, length-append far.texts are.texts);
                 wrote = wrote_on are.texts rows.text are.text wrote;
               },
@@ -160,12 +160,12 @@ module _ (layout : Layout) (files : List File) (most : ℕ) (all : List Whole) w
             )
 
         -- The rows of the first of these records, and perhaps a beginning of the text of the others, after which nothing was noted.
-        pub ends_after : (once : FilesAnswerOnce) → AreSoundFiles files → (done others : List Whole) → rs ≡ done ++ others → (front : RowsOf) → AreRowsOf layout files most (n + 1) done front
+        pub ends_after : (once : FilesAnswerOnce) → AreSoundFiles files → (done others : List CsvRecord) → rs ≡ done ++ others → (front : RowsOf) → AreRowsOf layout files most (n + 1) done front
             → (part : List ℕ) → StartsWith rows.text part → StartsWith part front.text → (why : RunStop) → (part ≡ front.text) ⊎ (why ≡ stop.WriteFailed) → Appends mid new part
             → Notes now last front.faults → EndsAfterLines layout files most [] all why (output old new log last)
         ends_after once sound done others parts front are_front part starts least why exact wrote noted =
             let (more, next) = for_some left _ far.rest come far.bytes in
-            let whole = far.goes_on ∙ ap (λ (r : List Whole). far.wholes ++ r) next in
+            let row_record = far.goes_on ∙ ap (λ (r : List CsvRecord). far.row_records ++ r) next in
             let (texts, end, comes, later, longer) = come_to_more layout files most (all_known files sound once) (n + 1) rs more rows are in
             let (rest, front_first) = front_texts once layout files most sound (n + 1) rs done others parts rows are front are_front in
             let m = length are_front.texts in
@@ -181,18 +181,18 @@ module _ (layout : Layout) (files : List File) (most : ℕ) (all : List Whole) w
             ap₂ (λ (k : ℕ) (l : List (List ℕ)). take k l) long split ∙ take-append_seam (far.texts ++ are_front.texts) (rest ++ later) in
             let lines : concat (take (suc (n + m)) ([] ∷ (far.texts ++ texts))) ≡ base ++ front.text =
             ap concat firsts ∙ concat-append far.texts are_front.texts ∙ ap (λ (l : List ℕ). base ++ l) (sym are_front.text) in
-            let regroup : all ≡ far.wholes ++ (done ++ (others ++ more)) = whole ∙ ap (λ (l : List Whole). far.wholes ++ l) (ap (λ (l : List Whole). l ++ more) parts ∙ append_assoc done others more) in
-            let upto : suc (n + m) - 1 ≡ length far.wholes + m = omega (arith, many) in
-            let taken : take (suc (n + m) - 1) all ≡ far.wholes ++ take m (done ++ (others ++ more)) =
-            ap₂ (λ (k : ℕ) (l : List Whole). take k l) upto regroup ∙ take_after far.wholes (done ++ (others ++ more)) m in
-            let faults : faults_by layout files most 1 (take (suc (n + m) - 1) all) ≡ faults_by layout files most 1 far.wholes ++ front.faults =
+            let regroup : all ≡ far.row_records ++ (done ++ (others ++ more)) = row_record ∙ ap (λ (l : List CsvRecord). far.row_records ++ l) (ap (λ (l : List CsvRecord). l ++ more) parts ∙ append_assoc done others more) in
+            let upto : suc (n + m) - 1 ≡ length far.row_records + m = omega (arith, many) in
+            let taken : take (suc (n + m) - 1) all ≡ far.row_records ++ take m (done ++ (others ++ more)) =
+            ap₂ (λ (k : ℕ) (l : List CsvRecord). take k l) upto regroup ∙ take_after far.row_records (done ++ (others ++ more)) m in
+            let faults : faults_by layout files most 1 (take (suc (n + m) - 1) all) ≡ faults_by layout files most 1 far.row_records ++ front.faults =
             ap (faults_by layout files most 1) taken ∙ faults_on (take m (done ++ (others ++ more)))
-            ∙ ap (λ (l : List RowFault). faults_by layout files most 1 far.wholes ++ l)
+            ∙ ap (λ (l : List RowFault). faults_by layout files most 1 far.row_records ++ l)
             (faults_front layout files most (n + 1) done (others ++ more) are_front.texts front.fault are_front.come ∙ sym are_front.faults) in
             record {
               texts = far.texts ++ texts;
               fault = end;
-              come = rw whole (come_on (rs ++ more) texts end comes);
+              come = rw row_record (come_on (rs ++ more) texts end comes);
               lines = suc (n + m);
               part = base ++ part;
               starts = subst (λ (l : List ℕ). StartsWith l (base ++ part)) joined (starts_later base rows.text part (concat later) starts);
@@ -211,6 +211,6 @@ module _ (layout : Layout) (files : List File) (most : ℕ) (all : List Whole) w
       → IsSoFar layout files most all left n (output old mid log now) → (why : RunStop) (part : List ℕ) → StartsWith [] part → (part ≡ []) ⊎ (why ≡ stop.WriteFailed) → Appends mid new part
       → EndsAfterLines layout files most [] all why (output old new log now)
   ends_here once sound left n old mid new log now far why part starts exact wrote =
-      let come : ComeNext layout.delimiter left [] = if_some left _ (λ bytes e. (wholes_in layout.delimiter bytes, refl)) in
+      let come : ComeNext layout.delimiter left [] = if_some left _ (λ bytes e. (csv_records_in layout.delimiter bytes, refl)) in
       let none = no_rows layout files most (n + 1) in
       ends_after left n old mid new log now now far [] empty_rows none come once sound [] [] refl empty_rows none part starts refl why exact wrote (notes_none now)

@@ -17,7 +17,8 @@ use Rattle.zic_words.specs.Name.{is_name, is_name_byte, is_name_part}
 use Rattle.zic_words.specs.declared.name.TheConstants.{LONGEST_NAME}
 use Rattle.zic_base.specs.State.{Shown}
 use Rattle.zic_columns.specs.Exchange.{CanDelimit, exchange, exchanged}
-use Rattle.zic_columns.specs.Record.{record_at}
+use Rattle.zic_base.specs.Check.{first_failed}
+use Rattle.zic_columns.specs.Record.{IsSplit, field_text, record_at}
 use Rattle.zic_columns.specs.declared.fields.Record.{Record}
 use Rattle.zic_columns.proofs.Exchanges.{as_other, twice}
 use Rattle.zic_files.specs.File.{File}
@@ -26,14 +27,15 @@ use Rattle.zic_plan.specs.Delimiter.{is_csv_byte, is_delimiter, is_row_byte}
 use Rattle.zic_plan.specs.declared.layout.Layout.{Layout}
 use Rattle.zic_plan.specs.declared.layout.RowStart.{RowStart}
 use Rattle.zic_plan.specs.declared.layout.RowStart.TheVariants as starts
+use Rattle.zic_plan.specs.declared.layout.TimeFrom.TheVariants as from
 use Rattle.zic_plan.specs.declared.layout.Unit.{Unit}
 use Rattle.zic_plan.specs.declared.layout.ZoneFrom.{ZoneFrom}
 use Rattle.zic_plan.specs.declared.layout.ZoneFrom.TheVariants as zone
 use Rattle.zic_rows.specs.Count.{count_of, counted_rest_text, second_of}
-use Rattle.zic_rows.specs.Instant.{decimal_value, number}
+use Rattle.zic_base.specs.Number.{decimal_value, number}
 use Rattle.zic_zones.specs.Zones.{AnswersAt, field_at, is_named, zone_in}
-use Rattle.zic_convert.specs.LayoutRows.{IsTextBy, beginning, count_in, fault_by, start_text}
-use Rattle.zic_convert.specs.code.Batch.{IsRowQuery}
+use Rattle.zic_convert.specs.LayoutRows.{IsTextBy, beginning, checks_of, count_in, fault_by, start_text}
+use Rattle.zic_convert.specs.code.Batch.{IsRowQuery, count_at, wanted_by}
 use Rattle.zic_convert.specs.code.Row.{comma_start, put_back}
 use Rattle.zic_convert.specs.declared.piece.Piece.{Piece}
 use Rattle.zic_convert.specs.declared.row.RowQuery.{RowQuery}
@@ -140,7 +142,8 @@ module _ (d : ℕ) (o : IsOutside d) where
   minus_same : (b : ℕ) → (exchange d b == 45) ≡ (b == 45)
   minus_same b = as_other d 45 b (omega arith) (λ e. (let bad = rw (← e) at o.row in cc bad))
 
-  count_same : (u : Unit) (field : List ℕ) → count_of u (exchanged d field) ≡ count_of u field
+  -- a count in decimals stays as it is
+  pub count_same : (u : Unit) (field : List ℕ) → count_of u (exchanged d field) ≡ count_of u field
   unfolding count_of
   count_same u [] = refl
   count_same u (b ∷ bytes) = rw (minus_same b, number_same _ bytes, number_same _ (b ∷ bytes)) refl
@@ -180,27 +183,10 @@ module _ (d : ℕ) (o : IsOutside d) where
         sym (name_kept file (All-contains IsSoundFile files file sound.each among)) ∙ ap (exchanged d) named ∙ sym (field_same fields index)
     zone_named (zone.Name name) fields file among named = named
 
-    module _ (layout : Layout) where
-      count_in_same : (fields : List (List ℕ)) → count_in layout (map (exchanged d) fields) ≡ count_in layout fields
-      count_in_same fields = rw (field_same fields layout.time) (count_same layout.unit (field_at fields layout.time))
-
-      -- a record whose fields are exchanged has the fault that it has
-      pub fault_same : (most n : ℕ) (fields : List (List ℕ)) → fault_by layout files most n (map (exchanged d) fields) ≡ fault_by layout files most n fields
-      fault_same most n fields = rw (length-map fields (exchanged d), zone_same layout.zone fields, count_in_same fields) refl
-
-      -- and the text, whatever its own bytes are
-      pub text_same : (own : List ℕ) (fields : List (List ℕ)) (text : List ℕ) → IsTextBy layout files (record { own = own; fields = fields }) text
-          → IsTextBy layout files (record { own = own; fields = map (exchanged d) fields }) text
-      text_same own fields text is = record {
-        file = is.file;
-        among = is.among;
-        named = zone_named layout.zone fields is.file is.among is.named;
-        count = is.count;
-        says = count_in_same fields ∙ is.says;
-        state = is.state;
-        answers = is.answers;
-        is = is.is;
-      }
+    -- a record whose fields are exchanged has the fault that it has with the same count
+    pub fault_same : (layout : Layout) (most n : ℕ) (fields : List (List ℕ)) → fault_by layout files most n (map (exchanged d) fields)
+        ≡ first_failed (checks_of layout files most n fields (count_in layout (map (exchanged d) fields)))
+    fault_same layout most n fields = rw (length-map fields (exchanged d), zone_same layout.zone fields) refl
 
 -- what a row begins with, and its rest, exchanged together
 pub row_put_back : (start : RowStart) (d : ℕ) (own name : List ℕ) (count : ℤ) (rest : List ℕ)
@@ -220,22 +206,33 @@ among files i file e = subst (λ (f : File). Contains files f) (get_or_from_slic
 -- the text of a record's row, as it was made
 pub text_made : (piece : Piece) (given : Record) (query : RowQuery) (state : Shown) → is_delimiter piece.layout.now.delimiter ≡ true → AreSoundFiles piece.zones.now
     → IsRowQuery piece given query → AnswersAt piece.zones.now query.file (second_of piece.layout.now.unit query.count) state
-    → let whole = record_at piece.bytes.now given in
+    → let row_record = record_at piece.bytes.now given in
     let layout = piece.layout.now in
-    IsTextBy layout piece.zones.now (put_back layout.delimiter whole)
-    (start_text layout (exchanged layout.delimiter whole.own) (zone_in layout.zone whole.fields) query.count ++ exchanged layout.delimiter (counted_rest_text layout.unit query.count state))
+    IsTextBy layout piece.zones.now (put_back layout.delimiter row_record)
+    (start_text layout (exchanged layout.delimiter row_record.own) (zone_in layout.zone row_record.fields) query.count ++ exchanged layout.delimiter (counted_rest_text layout.unit query.count state))
 text_made piece given query state delimiter sound is answers =
-    let whole = record_at piece.bytes.now given in
+    let row_record = record_at piece.bytes.now given in
     let layout = piece.layout.now in
     let d = layout.delimiter in
-    let (file, got, called, known) = found piece.zones.now (zone_in layout.zone whole.fields) query.file is.file in
-    text_same d (outside d delimiter) piece.zones.now sound layout (exchanged d whole.own) whole.fields _ (record {
+    let (file, got, called, known) = found piece.zones.now (zone_in layout.zone row_record.fields) query.file is.file in
+    record {
       file = file;
       among = among piece.zones.now query.file file got;
-      named = called;
+      named = zone_named d (outside d delimiter) piece.zones.now sound layout.zone row_record.fields file (among piece.zones.now query.file file got) called;
       count = query.count;
       says = is.count;
       state = state;
       answers = rw got at answers;
-      is = ap (λ (n : List ℕ). start_text layout (exchanged d whole.own) n query.count ++ exchanged d (counted_rest_text layout.unit query.count state)) (sym called);
-    })
+      is = ap (λ (n : List ℕ). start_text layout (exchanged d row_record.own) n query.count ++ exchanged d (counted_rest_text layout.unit query.count state)) (sym called);
+    }
+
+-- the count of a field that has decimals is that of the record, where counts are read
+pub count_read : (piece : Piece) (given : Record) → is_delimiter piece.layout.now.delimiter ≡ true → piece.layout.now.from ≡ from.Count
+    → IsSplit piece.bytes.now (wanted_by piece.layout.now) given → count_of piece.layout.now.unit (field_text piece.bytes.now given.time) ≡ count_at piece given
+count_read piece given delimiter counts split =
+    let layout = piece.layout.now in
+    let d = layout.delimiter in
+    let fields = (record_at piece.bytes.now given).fields in
+    let there : count_of layout.unit (field_at (map (exchanged d) fields) layout.time) ≡ count_of layout.unit (field_at fields layout.time) =
+    ap (count_of layout.unit) (field_same d (outside d delimiter) fields layout.time) ∙ count_same d (outside d delimiter) layout.unit (field_at fields layout.time) in
+    rw counts (ap (count_of layout.unit) split.time ∙ sym there)

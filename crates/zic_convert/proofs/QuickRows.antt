@@ -22,15 +22,14 @@ use Rattle.zic_rows.specs.PlainTime.{IsPlainTime}
 use Rattle.zic_rows.specs.declared.limit.TheConstants.{FIRST_INSTANT, LAST_INSTANT}
 use Rattle.zic_rows.specs.declared.row_time.RowTime.{RowTime}
 use Rattle.zic_zones.specs.Zones.{AnswersAt, zone_in}
-use Rattle.zic_convert.specs.LayoutRows.{IsTextBy, fault_by, start_text}
+use Rattle.zic_convert.specs.LayoutRows.{IsTextBy, start_text}
 use Rattle.zic_convert.specs.Rows.{is_row_instant}
-use Rattle.zic_convert.specs.code.Batch.{IsQuickRow, IsRowQuery, IsTimeIn, count_at, wanted_by}
+use Rattle.zic_convert.specs.code.Batch.{IsQuickRow, IsRowQuery, IsTimeIn, count_at, fault_at, wanted_by}
 use Rattle.zic_convert.specs.code.Row.{comma_start, field_start, put_back}
 use Rattle.zic_convert.specs.declared.piece.Piece.{Piece}
 use Rattle.zic_convert.specs.declared.quick.QuickRow.{QuickRow}
 use Rattle.zic_convert.specs.declared.row.RowQuery.{RowQuery}
-use Rattle.zic_convert.proofs.Columns.{count_told}
-use Rattle.zic_convert.proofs.PutBack.{row_exchanged, row_put_back, text_made}
+use Rattle.zic_convert.proofs.PutBack.{count_read, row_exchanged, row_put_back, text_made}
 use Rattle.zic_convert.proofs.RowFaults.{no_fault}
 
 -- two parts with a comma between them
@@ -50,14 +49,14 @@ own_begins piece given split k zone time by_field plain first next last within c
     let told = rw (plain, by_field) at split.zone in
     let name : slice_range bytes zone.start zone.end ≡ zone_in piece.layout.now.zone (record_at bytes given).fields = rw by_field told in
     let here : bytes_at bytes given.own ≡ slice_range bytes zone.start time.end = ap₂ (λ (a b : ℕ). slice_range bytes a b) (sym first) (sym last) in
-    let whole = joined bytes zone.start zone.end time.end stands.0 (omega (arith, next, within.0)) within.1 comma in
-    here ∙ whole ∙ ap₂ (λ (l : List ℕ) (n : ℕ). l ++ 44 ∷ slice_range bytes n time.end) name next
+    let row_record = joined bytes zone.start zone.end time.end stands.0 (omega (arith, next, within.0)) within.1 comma in
+    here ∙ row_record ∙ ap₂ (λ (l : List ℕ) (n : ℕ). l ++ 44 ∷ slice_range bytes n time.end) name next
 
 -- a row that is appended in parts is longer than what was there
 pub longer : (old begun part start rest all : List ℕ) → begun ++ part ≡ old ++ start → all ≡ begun ++ (part ++ rest) → length old ≤ length all
 longer old begun part start rest all is made =
-    let whole : all ≡ (old ++ start) ++ rest = made ∙ sym (append_assoc begun part rest) ∙ ap (λ (l : List ℕ). l ++ rest) is in
-    omega (arith, ap length whole, length-append (old ++ start) rest, length-append old start)
+    let row_record : all ≡ (old ++ start) ++ rest = made ∙ sym (append_assoc begun part rest) ∙ ap (λ (l : List ℕ). l ++ rest) is in
+    omega (arith, ap length row_record, length-append (old ++ start) rest, length-append old start)
 
 -- the check passes an instant that a row may have
 may_row : (t : ℤ) → IsRowInstant t → is_row_instant (Some t) ≡ true
@@ -90,14 +89,14 @@ module _ (piece : Piece) (given : Record) (row : QuickRow) (split : IsSplit piec
 
 module _ (piece : Piece) (given : Record) (row : QuickRow) (split : IsSplit piece.bytes.now (wanted_by piece.layout.now) given) (is : IsQuickRow piece given row)
     (read : IsPlainTime piece.layout.now.unit (field_text piece.bytes.now given.time) row.time) where
-  count_is : count_at piece given ≡ Some read.count
-  count_is = sym (count_told piece given split) ∙ read.says
+  count_is : is_delimiter piece.layout.now.delimiter ≡ true → count_at piece given ≡ Some read.count
+  count_is delimiter = sym (count_read piece given delimiter is.from split) ∙ read.says
 
   -- the row has no fault
-  pub faultless : (number : ℕ) → number ≤ piece.most → fault_by piece.layout.now piece.zones.now piece.most number (record_at piece.bytes.now given).fields ≡ None
-  faultless number le =
+  pub faultless : (number : ℕ) → number ≤ piece.most → is_delimiter piece.layout.now.delimiter ≡ true → fault_at piece number given ≡ None
+  faultless number le delimiter =
       let admits = subst (λ (n : ℕ). has_count piece.layout.now.count n ≡ true) split.count is.admitted in
-      no_fault piece number given le admits row.file is.file read.count count_is (may_row (second_of piece.layout.now.unit read.count) read.may)
+      no_fault piece number given le admits row.file is.file read.count (count_is delimiter) (may_row (second_of piece.layout.now.unit read.count) read.may)
 
   -- its text, as it is made
   pub quick_text_made : (old begun_text all : List ℕ) (start : ℕ) → start ≡ length old → is_delimiter piece.layout.now.delimiter ≡ true → AreSoundFiles piece.zones.now
@@ -112,15 +111,15 @@ module _ (piece : Piece) (given : Record) (row : QuickRow) (split : IsSplit piec
       let own = bytes_at piece.bytes.now given.own in
       let name = zone_in layout.zone (record_at piece.bytes.now given).fields in
       let query : RowQuery = record { file = row.file; count = read.count } in
-      let asked : IsRowQuery piece given query = record { file = is.file; count = count_is; may = read.may } in
+      let asked : IsRowQuery piece given query = record { file = is.file; count = count_is delimiter; may = read.may } in
       let rest = counted_rest_text layout.unit read.count row.text.now in
       let answers = subst (λ (t : ℤ). AnswersAt piece.zones.now row.file t row.text.now) read.second is.answers in
-      let whole : all ≡ old ++ (comma_start layout.start own name read.count ++ rest) =
+      let row_record : all ≡ old ++ (comma_start layout.start own name read.count ++ rest) =
       made ∙ ap (λ (l : List ℕ). begun_text ++ l) (rest_same layout.unit (field_text piece.bytes.now given.time) row.time read row.text.now)
       ∙ ap (λ (l : List ℕ). l ++ rest) (begun ∙ ap (λ (l : List ℕ). old ++ field_start layout.start own name l) read.plain)
       ∙ append_assoc old (comma_start layout.start own name read.count) rest in (
         start_text layout (exchanged d own) name read.count ++ exchanged d rest,
-        row_exchanged d start old (comma_start layout.start own name read.count ++ rest) all at whole
+        row_exchanged d start old (comma_start layout.start own name read.count ++ rest) all at row_record
             ∙ ap (λ (l : List ℕ). old ++ l) (row_put_back layout.start d own name read.count rest),
         text_made piece given query row.text.now delimiter sound asked answers,
       )

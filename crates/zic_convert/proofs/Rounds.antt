@@ -2,7 +2,7 @@
 use Rattle.std.proofs.Common.{◌≡◌, ◌+◌, ◌++◌, ℕ, true, List, [], map, Option, Some, inl, inr, refl, subst, length-append, arith}
 use Rattle.std.specs.Prelude.{All, Contains, IfSome}
 use Rattle.std.proofs.lemmas.List.{get_or_append_left}
-use Rattle.zic_columns.specs.Own.{Whole}
+use Rattle.zic_columns.specs.Own.{CsvRecord}
 use Rattle.zic_columns.specs.Round.{HasNoRecord, TakesPieces, records_of}
 use Rattle.zic_counted.specs.Counts.{Counts}
 use Rattle.zic_counted.specs.Written.{FailsWithin}
@@ -19,7 +19,7 @@ use Rattle.zic_zones.specs.Zones.{Agree, zone_in}
 use Rattle.zic_convert.specs.Run.{EndsByZones}
 use Rattle.zic_convert.specs.code.Halt.{stop_of}
 use Rattle.zic_convert.specs.code.Progress.{ConvertsRest, EndsAtTaking, EndsInRest, IsSoFar, Takes, output}
-use Rattle.zic_convert.specs.code.Row.{RowsOf, wholes_in, wholes_of_all}
+use Rattle.zic_convert.specs.code.Row.{RowsOf, csv_records_in, wholes_of_all}
 use Rattle.zic_convert.specs.code.Written.{EndsInRound, EndsInRows, WritesRound, Wrote, pieces_by}
 use Rattle.zic_convert.specs.declared.halt.Halt.{Halt}
 use Rattle.zic_convert.specs.declared.halt.Halt.TheVariants as halt
@@ -31,22 +31,22 @@ use Rattle.zic_convert.proofs.Staying.{IsKnownZone, round_known, rows_same}
 -- how far a conversion of bytes, where they are known, has come by these files
 abbrev pub IsFarBy : Layout → ℕ → Option (List ℕ) → Option (List ℕ) → ℕ → Option (List ℕ) → Option (List ℕ) → Option (List RowFault) → Option (List RowFault) → List File → Type 0
 IsFarBy layout most known left n held now log noted files =
-    (bytes : List ℕ) → known ≡ Some bytes → IsSoFar layout files most (wholes_in layout.delimiter bytes) left n (output held now log noted)
+    (bytes : List ℕ) → known ≡ Some bytes → IsSoFar layout files most (csv_records_in layout.delimiter bytes) left n (output held now log noted)
 
 pub far_at_start : (layout : Layout) (most : ℕ) (known held : Option (List ℕ)) (log : Option (List RowFault)) (files : List File) → IsFarBy layout most known known 0 held held log log files
-far_at_start layout most known held log files bytes e = at_start layout files most (wholes_in layout.delimiter bytes) known held log bytes e refl
+far_at_start layout most known held log files bytes e = at_start layout files most (csv_records_in layout.delimiter bytes) known held log bytes e refl
 
 module _ {W : Type 0} (contents : W → Option (List ℕ)) (once : FilesAnswerOnce) (layout : Layout) (plan : Limits) (known left : Option (List ℕ)) (n : ℕ) (held : Option (List ℕ)) (mid : Counts W)
     (log now : Option (List RowFault)) (files : List File) (sound : AreSoundFiles files) (far : IsFarBy layout plan.max_rows known left n held (contents mid.inner) log now files) where
   -- the column can't be read on
   unread_ends : EndsInRest layout plan.max_rows known stop.ReadFailed (output held (contents mid.inner) log now) files
   unread_ends = if_some known _ (λ bytes e.
-      ends_still once layout files plan.max_rows sound (wholes_in layout.delimiter bytes) left n held (contents mid.inner) log now (far bytes e) stop.ReadFailed)
+      ends_still once layout files plan.max_rows sound (csv_records_in layout.delimiter bytes) left n held (contents mid.inner) log now (far bytes e) stop.ReadFailed)
 
   -- memory was refused
   memory_ends : EndsInRest layout plan.max_rows known stop.Memory (output held (contents mid.inner) log now) files
   memory_ends = if_some known _ (λ bytes e.
-      ends_still once layout files plan.max_rows sound (wholes_in layout.delimiter bytes) left n held (contents mid.inner) log now (far bytes e) stop.Memory)
+      ends_still once layout files plan.max_rows sound (csv_records_in layout.delimiter bytes) left n held (contents mid.inner) log now (far bytes e) stop.Memory)
 
   -- a round was taken
   module _ (pieces : List (List ℕ)) (next : Option (List ℕ)) (takes : IfSome left (λ bytes. (rest : List ℕ) × (next ≡ Some rest) × TakesPieces bytes rest pieces))
@@ -58,7 +58,7 @@ module _ {W : Type 0} (contents : W → Option (List ℕ)) (once : FilesAnswerOn
     far_after_round : (count : ℕ) → WritesRound (pieces_by layout files plan pieces (n + 1)) contents mid new now last count
         → IsFarBy layout plan.max_rows known next (n + count) held (contents new.inner) log last files
     far_after_round count (rows, are, wrote) bytes e =
-        rw wrote.1 (later layout files plan.max_rows (wholes_in layout.delimiter bytes) left n held (contents mid.inner) (contents new.inner) log now last (far bytes e)
+        rw wrote.1 (later layout files plan.max_rows (csv_records_in layout.delimiter bytes) left n held (contents mid.inner) (contents new.inner) log now last (far bytes e)
         (wholes_of_all layout.delimiter pieces) rows are next wrote.0 taken wrote.2.0 wrote.3)
 
     -- or the conversion ended in it
@@ -66,24 +66,24 @@ module _ {W : Type 0} (contents : W → Option (List ℕ)) (once : FilesAnswerOn
         → EndsInRest layout plan.max_rows known why (output held (contents new.inner) log last) files
     ends_in_round why (inl memory) = rw (memory.0, memory.1, memory.2) memory_ends
     ends_in_round why (inr (rows, are, ends)) = if_some known _ (λ bytes e.
-        ends_in_rows contents once layout files plan.max_rows sound (wholes_in layout.delimiter bytes) left n held mid new log now last (far bytes e)
+        ends_in_rows contents once layout files plan.max_rows sound (csv_records_in layout.delimiter bytes) left n held mid new log now last (far bytes e)
         (wholes_of_all layout.delimiter pieces) (taken_come_next layout.delimiter left next (wholes_of_all layout.delimiter pieces) taken) rows are why ends)
 
   -- the writer failed in the end
   flush_ends : (new : Counts W) → FailsWithin contents mid new [] → EndsInRest layout plan.max_rows known stop.WriteFailed (output held (contents new.inner) log now) files
   flush_ends new fails = if_some known _ (λ bytes e.
-      ends_at_flush contents once layout files plan.max_rows sound (wholes_in layout.delimiter bytes) left n held mid new log now (far bytes e) fails)
+      ends_at_flush contents once layout files plan.max_rows sound (csv_records_in layout.delimiter bytes) left n held mid new log now (far bytes e) fails)
 
   -- no record is left, and all rows are written and flushed
   all_done : (next : Option (List ℕ)) → Takes layout.delimiter left next [] → HasNoRecord next → (new : Counts W) → Wrote contents mid new []
       → ConvertsRest layout plan.max_rows known n (output held (contents new.inner) log now) files
   all_done next none end new flushed = if_some known _ (λ bytes e.
-      let all = wholes_in layout.delimiter bytes in
+      let all = csv_records_in layout.delimiter bytes in
       let end_far = none_taken layout files plan.max_rows all left next n held (contents mid.inner) log now none (far bytes e) in
       all_written layout files plan.max_rows all next n held (contents mid.inner) (contents new.inner) log now end_far end flushed.0)
 
 -- what holds of the elements of a list holds of the first of them
-all_front : (P : Whole → Type 0) (xs ys : List Whole) → All P (xs ++ ys) → All P xs
+all_front : (P : CsvRecord → Type 0) (xs ys : List CsvRecord) → All P (xs ++ ys) → All P xs
 all_front P xs ys all = λ k d lt. subst P (get_or_append_left xs ys d k lt) (all k d (omega (arith, lt, length-append xs ys)))
 
 -- ---- a round by the files that are known, and by all that may be

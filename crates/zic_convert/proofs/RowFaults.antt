@@ -13,9 +13,8 @@ use Rattle.zic_rows.specs.Count.{second_of}
 use Rattle.zic_rows.specs.Instant.{IsRowInstant}
 use Rattle.zic_rows.specs.declared.limit.TheConstants.{FIRST_INSTANT, LAST_INSTANT}
 use Rattle.zic_zones.specs.Zones.{is_named, number_of, zone_in}
-use Rattle.zic_convert.specs.LayoutRows.{fault_by}
 use Rattle.zic_convert.specs.Rows.{is_row_instant}
-use Rattle.zic_convert.specs.code.Batch.{count_at, zone_at}
+use Rattle.zic_convert.specs.code.Batch.{count_at, fault_at, zone_at}
 use Rattle.zic_convert.specs.declared.piece.Piece.{Piece}
 
 none_before : (o : Option ℕ) → option_map (λ n. suc n) o ≡ None → o ≡ None
@@ -66,25 +65,25 @@ name_told files name n told some is =
 module _ (piece : Piece) (number : ℕ) (given : Record) (le : number ≤ piece.most) where
   module _ (admits : has_count piece.layout.now.count (length (record_at piece.bytes.now given).fields) ≡ true) where
     -- its zone has no file
-    pub zone_missing : zone_at piece given ≡ None → fault_by piece.layout.now piece.zones.now piece.most number (record_at piece.bytes.now given).fields ≡ Some kind.RowZone
+    pub zone_missing : zone_at piece given ≡ None → fault_at piece number given ≡ Some kind.RowZone
     zone_missing none = rw (le-leb number piece.most le, admits, unnamed piece.zones.now (zone_in piece.layout.now.zone (record_at piece.bytes.now given).fields) none) refl
 
     module _ (n : ℕ) (zone : zone_at piece given ≡ Some n) where
       -- its instant is no count
-      pub count_missing : count_at piece given ≡ None → fault_by piece.layout.now piece.zones.now piece.most number (record_at piece.bytes.now given).fields ≡ Some kind.RowInstant
+      pub count_missing : count_at piece given ≡ None → fault_at piece number given ≡ Some kind.RowInstant
       count_missing none =
           rw (le-leb number piece.most le, admits, named piece.zones.now (zone_in piece.layout.now.zone (record_at piece.bytes.now given).fields) n zone, none) refl
 
       module _ (c : ℤ) (count : count_at piece given ≡ Some c) where
         -- its count is out of range
         pub out_of_range : is_row_instant (Some (second_of piece.layout.now.unit c)) ≡ false
-            → fault_by piece.layout.now piece.zones.now piece.most number (record_at piece.bytes.now given).fields ≡ Some kind.RowRange
+            → fault_at piece number given ≡ Some kind.RowRange
         out_of_range out =
             rw (le-leb number piece.most le, admits, named piece.zones.now (zone_in piece.layout.now.zone (record_at piece.bytes.now given).fields) n zone, count, out) refl
 
         -- or it has no fault
         pub no_fault : is_row_instant (Some (second_of piece.layout.now.unit c)) ≡ true
-            → fault_by piece.layout.now piece.zones.now piece.most number (record_at piece.bytes.now given).fields ≡ None
+            → fault_at piece number given ≡ None
         no_fault may =
             rw (le-leb number piece.most le, admits, named piece.zones.now (zone_in piece.layout.now.zone (record_at piece.bytes.now given).fields) n zone, count, may) refl
 

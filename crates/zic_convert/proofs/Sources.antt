@@ -12,7 +12,7 @@ use Rattle.zic_base.specs.declared.run_stop.RunStop.{RunStop}
 use Rattle.zic_base.specs.declared.run_stop.RunStop.TheVariants as stop
 use Rattle.zic_columns.specs.Column.{column_records}
 use Rattle.zic_columns.specs.Laws.{ColumnRecordsAreRead}
-use Rattle.zic_columns.specs.Own.{Whole}
+use Rattle.zic_columns.specs.Own.{CsvRecord}
 use Rattle.zic_tzif.specs.Laws.{FilesAnswerOnce}
 use Rattle.zic_files.specs.File.{File}
 use Rattle.zic_files.specs.Sound.{AreSoundFiles}
@@ -22,11 +22,11 @@ use Rattle.zic_plan.specs.declared.layout.Layout.{Layout}
 use Rattle.zic_convert.specs.Column.{AreRowRecords, ConvertsTo, header_text, names_line}
 use Rattle.zic_convert.specs.Convert.{WritesAll, WritesAt, WritesPartOf}
 use Rattle.zic_convert.specs.Laws.{PlainColumnsConvertAlike}
-use Rattle.zic_convert.specs.LayoutRows.{ComeToBy}
-use Rattle.zic_convert.specs.Rows.{ComeTo}
+use Rattle.zic_convert.specs.LayoutRows.{RecordsConvertBy}
+use Rattle.zic_convert.specs.Rows.{RecordsConvertTo}
 use Rattle.zic_convert.specs.Run.{EndsAfterLines, EndsAtNames, EndsBy, EndsByZones, EndsIn, Run, WritesRows}
 use Rattle.zic_convert.specs.code.Progress.{output}
-use Rattle.zic_convert.specs.code.Row.{wholes_in}
+use Rattle.zic_convert.specs.code.Row.{csv_records_in}
 use Rattle.zic_convert.proofs.Bytes.{starts_later}
 use Rattle.zic_convert.proofs.Options.{for_some, if_some}
 use Rattle.zic_convert.proofs.Plain.{come_plainly}
@@ -41,9 +41,9 @@ module _ (alike : PlainColumnsConvertAlike) (layout : Layout) (plain : HasPlainR
   no_names : names_line layout ≡ []
   no_names = rw (plain.start, none) refl
 
-  module _ (column : List ℕ) (wholes : List Whole) (are : AreRowRecords layout column wholes) where
-    converts : (texts : List (List ℕ)) (fault : Option RowKind) → ComeToBy layout files most 1 wholes texts fault → ConvertsTo files most column texts fault
-    converts texts fault come = (alike.all files layout most column texts fault plain none).0 (record { wholes = wholes; are = are; rows = come })
+  module _ (column : List ℕ) (row_records : List CsvRecord) (are : AreRowRecords layout column row_records) where
+    converts : (texts : List (List ℕ)) (fault : Option RowKind) → RecordsConvertBy layout files most 1 row_records texts fault → ConvertsTo files most column texts fault
+    converts texts fault come = (alike.all files layout most column texts fault plain none).0 (record { row_records = row_records; are = are; rows = come })
 
     module _ (held held' : Option (List ℕ)) where
       same_text : (texts : List (List ℕ)) → Appends held held' (header_text layout column ++ concat texts) → Appends held held' (concat texts)
@@ -51,57 +51,57 @@ module _ (alike : PlainColumnsConvertAlike) (layout : Layout) (plain : HasPlainR
 
   -- all of a column was converted
   pub source_converts : (known : Option (List ℕ)) (held held' : Option (List ℕ)) (log log' : Option (List RowFault)) (n : ℕ)
-      → IfSome known (λ column. (wholes : List Whole) × AreRowRecords layout column wholes × WritesRows layout files most (header_text layout column) wholes n (output held held' log log'))
+      → IfSome known (λ column. (row_records : List CsvRecord) × AreRowRecords layout column row_records × WritesRows layout files most (header_text layout column) row_records n (output held held' log log'))
       → IfSome known (λ column. WritesAll files most column n held held')
   source_converts known held held' log log' n all = if_some known _ (λ column e.
-      let (wholes, are, w) = for_some known _ column all e in
+      let (row_records, are, w) = for_some known _ column all e in
       record {
         texts = w.0.texts;
-        converts = converts column wholes are w.0.texts None w.0.converts;
+        converts = converts column row_records are w.0.texts None w.0.converts;
         count = w.0.count;
-        wrote = same_text column wholes are held held' w.0.texts w.0.wrote;
+        wrote = same_text column row_records are held held' w.0.texts w.0.wrote;
       })
 
-  lines_part : (column : List ℕ) (wholes : List Whole) → AreRowRecords layout column wholes → (why : RunStop) {R W : Type 0} (run : Run R W)
-      → EndsAfterLines layout files most (header_text layout column) wholes why run.output → WritesPartOf [] (ConvertsTo files most column) run.output.held run.output.held'
-  lines_part column wholes are why run w = record {
+  lines_part : (column : List ℕ) (row_records : List CsvRecord) → AreRowRecords layout column row_records → (why : RunStop) {R W : Type 0} (run : Run R W)
+      → EndsAfterLines layout files most (header_text layout column) row_records why run.output → WritesPartOf [] (ConvertsTo files most column) run.output.held run.output.held'
+  lines_part column row_records are why run w = record {
     texts = w.texts;
     fault = w.fault;
-    converts = converts column wholes are w.texts w.fault w.come;
+    converts = converts column row_records are w.texts w.fault w.come;
     part = w.part;
     starts = subst (λ (l : List ℕ). StartsWith (l ++ concat w.texts) w.part) (no_header column) w.starts;
     wrote = w.wrote;
   }
 
-  ends_in : {R W : Type 0} (run : Run R W) (column : List ℕ) (wholes : List Whole) → AreRowRecords layout column wholes → (why : RunStop)
-      → EndsIn layout files most (header_text layout column) wholes why run.output → WritesAt files most column why run.output.held run.output.held'
-  ends_in run column wholes are (stop.Row row kind) w = record {
+  ends_in : {R W : Type 0} (run : Run R W) (column : List ℕ) (row_records : List CsvRecord) → AreRowRecords layout column row_records → (why : RunStop)
+      → EndsIn layout files most (header_text layout column) row_records why run.output → WritesAt files most column why run.output.held run.output.held'
+  ends_in run column row_records are (stop.Row row kind) w = record {
     texts = w.0.texts;
-    converts = converts column wholes are w.0.texts (Some kind) w.0.converts;
+    converts = converts column row_records are w.0.texts (Some kind) w.0.converts;
     number = w.0.number;
-    wrote = same_text column wholes are run.output.held run.output.held' w.0.texts w.0.wrote;
+    wrote = same_text column row_records are run.output.held run.output.held' w.0.texts w.0.wrote;
   }
-  ends_in run column wholes are (stop.Source fault) w = absurd w
-  ends_in run column wholes are stop.ReadFailed w = lines_part column wholes are stop.ReadFailed run w
-  ends_in run column wholes are stop.WriteFailed w = lines_part column wholes are stop.WriteFailed run w
-  ends_in run column wholes are stop.ColumnTooLong w = lines_part column wholes are stop.ColumnTooLong run w
-  ends_in run column wholes are stop.Memory w = lines_part column wholes are stop.Memory run w
-  ends_in run column wholes are stop.NoThread w = lines_part column wholes are stop.NoThread run w
+  ends_in run column row_records are (stop.Source fault) w = absurd w
+  ends_in run column row_records are stop.ReadFailed w = lines_part column row_records are stop.ReadFailed run w
+  ends_in run column row_records are stop.WriteFailed w = lines_part column row_records are stop.WriteFailed run w
+  ends_in run column row_records are stop.ColumnTooLong w = lines_part column row_records are stop.ColumnTooLong run w
+  ends_in run column row_records are stop.Memory w = lines_part column row_records are stop.Memory run w
+  ends_in run column row_records are stop.NoThread w = lines_part column row_records are stop.NoThread run w
 
   -- nothing was written
   module _ (once : FilesAnswerOnce) (sound : AreSoundFiles files) (read : ColumnRecordsAreRead) where
     pub no_part : (column : List ℕ) (held held' : Option (List ℕ)) (part : List ℕ) → StartsWith [] part → Appends held held' part → WritesPartOf [] (ConvertsTo files most column) held held'
     no_part column held held' part starts wrote =
         let bytes = strip_bom column in
-        let wholes = wholes_in layout.delimiter bytes in
-        let (texts, fault, come) = all_come layout files most (all_known files sound once) 1 wholes in
+        let row_records = csv_records_in layout.delimiter bytes in
+        let (texts, fault, come) = all_come layout files most (all_known files sound once) 1 row_records in
         record {
           texts = texts;
           fault = fault;
           converts = record {
             records = column_records bytes;
             are = read bytes;
-            rows = subst (λ (l : List (List (List ℕ))). ComeTo files most 1 l texts fault) (comma_fields_in layout.delimiter plain.delimiter bytes) (come_plainly layout plain files most 1 wholes texts fault come);
+            rows = subst (λ (l : List (List (List ℕ))). RecordsConvertTo files most 1 l texts fault) (comma_fields_in layout.delimiter plain.delimiter bytes) (come_plainly layout plain files most 1 row_records texts fault come);
           };
           part = part;
           starts = starts_later [] [] part (concat texts) starts;
@@ -122,7 +122,7 @@ module _ (alike : PlainColumnsConvertAlike) (layout : Layout) (plain : HasPlainR
     source_ends run why zones zones' are (inr ends) =
         let same = ends.grown ∙ are in
         let by = ends.by files (sym same, subst AreSoundFiles (sym same) sound) in
-        if_some run.column _ (λ column e. (let (wholes, of, w, names) = for_some run.column _ column by e in ends_in run column wholes of why w))
+        if_some run.column _ (λ column e. (let (row_records, of, w, names) = for_some run.column _ column by e in ends_in run column row_records of why w))
 
     -- what holds in the end by all files that may be holds by those of the source
     pub at_files : {E : Type 0} (zones zones' : List File) → zones ≡ files → (result : Result ℕ E) → IfOk result (λ _. zones' ≡ zones) → (P : ℕ → List File → Type 0)

@@ -6,7 +6,7 @@ use Rattle.std.proofs.lemmas.Slice.Eq.{bytes_eq-Decides}
 use Rattle.zic_base.proofs.Elements.{contained_passes, one_that_passes}
 use Rattle.zic_base.specs.Check.{check, first_failed}
 use Rattle.zic_columns.specs.Exchange.{exchanged}
-use Rattle.zic_columns.specs.Own.{Whole}
+use Rattle.zic_columns.specs.Own.{CsvRecord}
 use Rattle.zic_columns.specs.Round.{records_of, wholes_of}
 use Rattle.zic_columns.proofs.Exchanges.{twice}
 use Rattle.zic_columns.proofs.Wholes.{pieces_fields}
@@ -23,7 +23,7 @@ use Rattle.zic_base.specs.declared.row_fault.RowKind.TheVariants as kind
 use Rattle.zic_rows.specs.Count.{second_of}
 use Rattle.zic_zones.specs.Zones.{Agree, field_at, is_named, zone_in}
 use Rattle.zic_convert.specs.Rows.{is_row_instant}
-use Rattle.zic_convert.specs.LayoutRows.{ComeToBy, IsRowAt, IsTextBy, count_in, ending, ends_by, fault_by, faults_by, noted}
+use Rattle.zic_convert.specs.LayoutRows.{RecordsConvertBy, IsRowAt, IsTextBy, count_in, ending, ends_by, fault_by, faults_by, noted}
 use Rattle.zic_convert.specs.code.Row.{AreRowsOf, RowsOf, fields_of_all, put_back, wholes_of_all}
 use Rattle.zic_convert.proofs.Delimited.{field_same, name_as_put, outside}
 use Rattle.zic_convert.proofs.Wholes.{all_put}
@@ -37,8 +37,8 @@ both_or_none false false to from = refl
 abbrev pub IsKnownName : List File → List File → List ℕ → Type 0
 IsKnownName known files name = (file : File) → Contains files file → file.name ≡ name → Contains known file
 
-abbrev pub IsKnownZone : ZoneFrom → List File → List File → Whole → Type 0
-IsKnownZone from known files whole = IsKnownName known files (zone_in from whole.fields)
+abbrev pub IsKnownZone : ZoneFrom → List File → List File → CsvRecord → Type 0
+IsKnownZone from known files row_record = IsKnownName known files (zone_in from row_record.fields)
 
 -- some file of this name is among them
 named_by : (files : List File) (name : List ℕ) (file : File) → Contains files file → file.name ≡ name → is_named files name ≡ true
@@ -68,8 +68,8 @@ module _ (known files : List File) (still : (file : File) → Contains known fil
         ∷ [])) (named_same (zone_in layout.zone fields) only)
 
     -- and the row
-    text_same : (whole : Whole) (text : List ℕ) → IsTextBy layout known whole text → IsTextBy layout files whole text
-    text_same whole text is = record {
+    text_same : (row_record : CsvRecord) (text : List ℕ) → IsTextBy layout known row_record text → IsTextBy layout files row_record text
+    text_same row_record text is = record {
       file = is.file;
       among = still is.file is.among;
       named = is.named;
@@ -80,43 +80,43 @@ module _ (known files : List File) (still : (file : File) → Contains known fil
       is = is.is;
     }
 
-    row_same : (fault : Option RowKind) (whole : Whole) (text : List ℕ) → IsRowAt layout known fault whole text → IsRowAt layout files fault whole text
-    row_same None whole text is = text_same whole text is
-    row_same (Some kind) whole text is = is
+    row_same : (fault : Option RowKind) (row_record : CsvRecord) (text : List ℕ) → IsRowAt layout known fault row_record text → IsRowAt layout files fault row_record text
+    row_same None row_record text is = text_same row_record text is
+    row_same (Some kind) row_record text is = is
 
     -- the outcome of records whose zones are known
-    come_same : (number : ℕ) (wholes : List Whole) (texts : List (List ℕ)) (fault : Option RowKind) → All (IsKnownZone layout.zone known files) wholes
-        → ComeToBy layout known most number wholes texts fault → ComeToBy layout files most number wholes texts fault
+    come_same : (number : ℕ) (row_records : List CsvRecord) (texts : List (List ℕ)) (fault : Option RowKind) → All (IsKnownZone layout.zone known files) row_records
+        → RecordsConvertBy layout known most number row_records texts fault → RecordsConvertBy layout files most number row_records texts fault
     come_same number [] texts fault only come = come
-    come_same number (w ∷ wholes) [] fault only come =
-        let same = fault_same number w.fields (All-head (IsKnownZone layout.zone known files) w wholes only) in
+    come_same number (w ∷ row_records) [] fault only come =
+        let same = fault_same number w.fields (All-head (IsKnownZone layout.zone known files) w row_records only) in
         (come.0 ∙ ap (ending layout.at_fault) same, come.1)
-    come_same number (w ∷ wholes) (text ∷ texts) fault only come =
-        let same = fault_same number w.fields (All-head (IsKnownZone layout.zone known files) w wholes only) in (
+    come_same number (w ∷ row_records) (text ∷ texts) fault only come =
+        let same = fault_same number w.fields (All-head (IsKnownZone layout.zone known files) w row_records only) in (
           ap (ending layout.at_fault) (sym same) ∙ come.0,
           subst (λ (f : Option RowKind). IsRowAt layout files f w text) same (row_same (fault_by layout known most number w.fields) w text come.1),
-          come_same (number + 1) wholes texts fault (All-tail (IsKnownZone layout.zone known files) w wholes only) come.2,
+          come_same (number + 1) row_records texts fault (All-tail (IsKnownZone layout.zone known files) w row_records only) come.2,
         )
 
     -- and their faults
-    faults_same : (number : ℕ) (wholes : List Whole) → All (IsKnownZone layout.zone known files) wholes
-        → faults_by layout known most number wholes ≡ faults_by layout files most number wholes
+    faults_same : (number : ℕ) (row_records : List CsvRecord) → All (IsKnownZone layout.zone known files) row_records
+        → faults_by layout known most number row_records ≡ faults_by layout files most number row_records
     faults_same number [] only = refl
-    faults_same number (w ∷ wholes) only =
-        let same = fault_same number w.fields (All-head (IsKnownZone layout.zone known files) w wholes only) in
-        let rest = faults_same (number + 1) wholes (All-tail (IsKnownZone layout.zone known files) w wholes only) in
-        ap (λ (f : Option RowKind). if is_some (ending layout.at_fault f) then [] else noted number f ++ faults_by layout known most (number + 1) wholes) same
+    faults_same number (w ∷ row_records) only =
+        let same = fault_same number w.fields (All-head (IsKnownZone layout.zone known files) w row_records only) in
+        let rest = faults_same (number + 1) row_records (All-tail (IsKnownZone layout.zone known files) w row_records only) in
+        ap (λ (f : Option RowKind). if is_some (ending layout.at_fault f) then [] else noted number f ++ faults_by layout known most (number + 1) row_records) same
         ∙ ap (λ (l : List RowFault). if is_some (ends_by layout files most number w.fields) then [] else noted number (fault_by layout files most number w.fields) ++ l) rest
 
     -- the rows of records
-    pub rows_same : (first : ℕ) (wholes : List Whole) (rows : RowsOf) → All (IsKnownZone layout.zone known files) wholes
-        → AreRowsOf layout known most first wholes rows → AreRowsOf layout files most first wholes rows
-    rows_same first wholes rows only are_rows = record {
+    pub rows_same : (first : ℕ) (row_records : List CsvRecord) (rows : RowsOf) → All (IsKnownZone layout.zone known files) row_records
+        → AreRowsOf layout known most first row_records rows → AreRowsOf layout files most first row_records rows
+    rows_same first row_records rows only are_rows = record {
       texts = are_rows.texts;
-      come = come_same first wholes are_rows.texts rows.fault only are_rows.come;
+      come = come_same first row_records are_rows.texts rows.fault only are_rows.come;
       text = are_rows.text;
       count = are_rows.count;
-      faults = are_rows.faults ∙ faults_same first wholes only;
+      faults = are_rows.faults ∙ faults_same first row_records only;
     }
 
 -- ---- a round whose zones were made ready
@@ -136,12 +136,12 @@ module _ (d : ℕ) (can : is_delimiter d ≡ true) (settled : List ℕ → Type 
   zone_known (zone.Field index) fields is = rw (field_same d (outside d can) fields index) (put_known (field_at fields index) is)
   zone_known (zone.Name name) fields is = name_known _ is
 
-  wholes_known : (wholes : List Whole) → All settled (map (zone_in from) (fields_of_all wholes)) → All (IsKnownZone from known files) (map (put_back d) wholes)
+  wholes_known : (row_records : List CsvRecord) → All settled (map (zone_in from) (fields_of_all row_records)) → All (IsKnownZone from known files) (map (put_back d) row_records)
   wholes_known [] all = λ k dflt lt. absurd (omega (arith, lt))
-  wholes_known (w ∷ wholes) all =
-      All-cons (IsKnownZone from known files) (put_back d w) (map (put_back d) wholes)
-      (zone_known from w.fields (All-head settled (zone_in from w.fields) (map (zone_in from) (fields_of_all wholes)) all))
-      (wholes_known wholes (All-tail settled (zone_in from w.fields) (map (zone_in from) (fields_of_all wholes)) all))
+  wholes_known (w ∷ row_records) all =
+      All-cons (IsKnownZone from known files) (put_back d w) (map (put_back d) row_records)
+      (zone_known from w.fields (All-head settled (zone_in from w.fields) (map (zone_in from) (fields_of_all row_records)) all))
+      (wholes_known row_records (All-tail settled (zone_in from w.fields) (map (zone_in from) (fields_of_all row_records)) all))
 
   -- those of a round
   pub round_known : (pieces : List (List ℕ)) → All settled (map (zone_in from) (records_of pieces)) → All (IsKnownZone from known files) (wholes_of_all d pieces)

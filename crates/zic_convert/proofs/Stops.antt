@@ -28,8 +28,8 @@ stops_at contents old mid new log last pieces i all first kind some wrote notes 
 stops_at contents old mid new log last pieces i all first kind some wrote notes stop.WriteFailed fails =
     let front = joined (take i pieces) in
     let (more, next) = front_more pieces i in
-    let whole = next ∙ ap (λ (l : List ℕ). l ++ more) (sym (append-nil front.text)) in
-    (i, fails_after contents old mid new front.text [] more (joined pieces).text whole wrote fails, notes)
+    let row_record = next ∙ ap (λ (l : List ℕ). l ++ more) (sym (append-nil front.text)) in
+    (i, fails_after contents old mid new front.text [] more (joined pieces).text row_record wrote fails, notes)
 stops_at contents old mid new log last pieces i all first kind some wrote notes (stop.Source fault) is = absurd is
 stops_at contents old mid new log last pieces i all first kind some wrote notes stop.ReadFailed is = absurd is
 stops_at contents old mid new log last pieces i all first kind some wrote notes stop.ColumnTooLong is = absurd is

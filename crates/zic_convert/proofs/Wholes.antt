@@ -3,11 +3,11 @@ use Rattle.std.proofs.Common.{◌≡◌, ℕ, List, [], ◌∷◌, ◌++◌, len
 use Rattle.std.proofs.lemmas.List.{length-append, length-map, map-append}
 use Rattle.zic_columns.specs.Column.{column_records}
 use Rattle.zic_columns.specs.Exchange.{exchanged}
-use Rattle.zic_columns.specs.Own.{Whole, own_texts, whole_records}
+use Rattle.zic_columns.specs.Own.{CsvRecord, own_texts, csv_records}
 use Rattle.zic_columns.specs.Round.{records_of, wholes_of}
 use Rattle.zic_columns.proofs.Exchanges.{comma_exchanged}
 use Rattle.zic_columns.proofs.Wholes.{beside_none, wholes_fields}
-use Rattle.zic_convert.specs.code.Row.{fields_of_all, put_back, wholes_in, wholes_of_all}
+use Rattle.zic_convert.specs.code.Row.{fields_of_all, put_back, csv_records_in, wholes_of_all}
 
 -- commas stay as they are
 fields_kept : (fields : List (List ℕ)) → map (exchanged 44) fields ≡ fields
@@ -19,33 +19,33 @@ commas_kept [] = refl
 commas_kept (fields ∷ records) = rw (fields_kept fields, commas_kept records) refl
 
 module _ (d : ℕ) where
-  fields_put : (wholes : List Whole) → fields_of_all (map (put_back d) wholes) ≡ map (map (exchanged d)) (fields_of_all wholes)
+  fields_put : (row_records : List CsvRecord) → fields_of_all (map (put_back d) row_records) ≡ map (map (exchanged d)) (fields_of_all row_records)
   fields_put [] = refl
-  fields_put (w ∷ wholes) = ap (λ (l : List (List (List ℕ))). map (exchanged d) w.fields ∷ l) (fields_put wholes)
+  fields_put (w ∷ row_records) = ap (λ (l : List (List (List ℕ))). map (exchanged d) w.fields ∷ l) (fields_put row_records)
 
   -- they have the fields of the records, with the two put back
-  fields_in : (bytes : List ℕ) → fields_of_all (wholes_in d bytes) ≡ map (map (exchanged d)) (column_records bytes)
-  fields_in bytes = fields_put (whole_records bytes) ∙ ap (map (map (exchanged d))) (wholes_fields bytes)
+  fields_in : (bytes : List ℕ) → fields_of_all (csv_records_in d bytes) ≡ map (map (exchanged d)) (column_records bytes)
+  fields_in bytes = fields_put (csv_records bytes) ∙ ap (map (map (exchanged d))) (wholes_fields bytes)
 
   -- which are the fields of the records, where the delimiter is a comma
-  pub comma_fields_in : d ≡ 44 → (bytes : List ℕ) → fields_of_all (wholes_in d bytes) ≡ column_records bytes
+  pub comma_fields_in : d ≡ 44 → (bytes : List ℕ) → fields_of_all (csv_records_in d bytes) ≡ column_records bytes
   comma_fields_in comma bytes = fields_in bytes ∙ rw comma (commas_kept (column_records bytes))
 
   -- and there are as many
-  pub as_many_in : (bytes : List ℕ) → length (wholes_in d bytes) ≡ length (column_records bytes)
-  as_many_in bytes = sym (length-map (wholes_in d bytes) (λ (w : Whole). w.fields)) ∙ ap length (fields_in bytes) ∙ length-map (column_records bytes) (map (exchanged d))
+  pub as_many_in : (bytes : List ℕ) → length (csv_records_in d bytes) ≡ length (column_records bytes)
+  as_many_in bytes = sym (length-map (csv_records_in d bytes) (λ (w : CsvRecord). w.fields)) ∙ ap length (fields_in bytes) ∙ length-map (column_records bytes) (map (exchanged d))
 
   -- no records
-  pub none_in : (bytes : List ℕ) → column_records bytes ≡ [] → wholes_in d bytes ≡ []
+  pub none_in : (bytes : List ℕ) → column_records bytes ≡ [] → csv_records_in d bytes ≡ []
   none_in bytes none = rw (none, beside_none (own_texts bytes)) refl
 
   -- as many as the records of pieces
   pub as_many_of_all : (pieces : List (List ℕ)) → length (wholes_of_all d pieces) ≡ length (records_of pieces)
   as_many_of_all [] = refl
   as_many_of_all (piece ∷ pieces) = omega
-      (arith, length-append (wholes_in d piece) (wholes_of_all d pieces), length-append (column_records piece) (records_of pieces), as_many_in piece, as_many_of_all pieces)
+      (arith, length-append (csv_records_in d piece) (wholes_of_all d pieces), length-append (column_records piece) (records_of pieces), as_many_in piece, as_many_of_all pieces)
 
   -- those of pieces
   pub all_put : (pieces : List (List ℕ)) → wholes_of_all d pieces ≡ map (put_back d) (wholes_of pieces)
   all_put [] = refl
-  all_put (piece ∷ pieces) = ap (λ (l : List Whole). wholes_in d piece ++ l) (all_put pieces) ∙ sym (map-append (put_back d) (whole_records piece) (wholes_of pieces))
+  all_put (piece ∷ pieces) = ap (λ (l : List CsvRecord). csv_records_in d piece ++ l) (all_put pieces) ∙ sym (map-append (put_back d) (csv_records piece) (wholes_of pieces))

@@ -4,7 +4,7 @@ use Rattle.std.specs.List.{concat}
 use Rattle.csv.specs.Reading.{strip_bom}
 use Rattle.zic_columns.specs.Column.{AreColumnRecords}
 use Rattle.zic_columns.specs.Exchange.{AreDelimitedRecords, exchanged}
-use Rattle.zic_columns.specs.Own.{Whole, beside, delimited_texts, first_text}
+use Rattle.zic_columns.specs.Own.{CsvRecord, beside, delimited_texts, first_text}
 use Rattle.zic_files.specs.File.{File}
 use Rattle.zic_plan.specs.Layout.{records_before}
 use Rattle.zic_plan.specs.declared.layout.Header.{Header}
@@ -13,8 +13,8 @@ use Rattle.zic_plan.specs.declared.layout.Layout.{Layout}
 use Rattle.zic_plan.specs.declared.layout.RowStart.{RowStart}
 use Rattle.zic_plan.specs.declared.layout.RowStart.TheVariants as start
 use Rattle.zic_base.specs.declared.row_fault.RowKind.{RowKind}
-use Rattle.zic_convert.specs.Rows.{ComeTo}
-use Rattle.zic_convert.specs.LayoutRows.{ComeToBy}
+use Rattle.zic_convert.specs.Rows.{RecordsConvertTo}
+use Rattle.zic_convert.specs.LayoutRows.{RecordsConvertBy}
 
 -- The texts of a column's rows up to the first that has a fault, and that fault, or none. Rows count from 1, and there may be at most
 -- this number. The records are those of CSV with commas and double quotes, without a header row. A byte order mark at the start is none
@@ -22,33 +22,33 @@ use Rattle.zic_convert.specs.LayoutRows.{ComeToBy}
 pub record ConvertsTo (files : List File) (most : ℕ) (column : List ℕ) (texts : List (List ℕ)) (fault : Option RowKind) : Type 0 where
   pub records : List (List (List ℕ))
   pub are : AreColumnRecords (strip_bom column) records
-  pub rows : ComeTo files most 1 records texts fault
+  pub rows : RecordsConvertTo files most 1 records texts fault
 
 -- The same of a column whose first record is a header: own choice. A header makes no row, and isn't counted.
 pub record ConvertsBodyTo (files : List File) (most : ℕ) (column : List ℕ) (texts : List (List ℕ)) (fault : Option RowKind) : Type 0 where
   pub records : List (List (List ℕ))
   pub are : AreColumnRecords (strip_bom column) records
-  pub rows : ComeTo files most 1 (drop 1 records) texts fault
+  pub rows : RecordsConvertTo files most 1 (drop 1 records) texts fault
 
 -- The records of a column that make rows by a layout, each with its own bytes: those of CSV with the layout's delimiter and double quotes,
 -- but for the header, if there is one. A byte order mark at the start is none of the column, and a line without a byte makes no record.
-pub record AreRowRecords (layout : Layout) (column : List ℕ) (wholes : List Whole) : Type 0 where
+pub record AreRowRecords (layout : Layout) (column : List ℕ) (row_records : List CsvRecord) : Type 0 where
   pub records : List (List (List ℕ))
   pub are : AreDelimitedRecords layout.delimiter (strip_bom column) records
-  pub is : wholes ≡ drop (records_before layout.header) (beside (delimited_texts layout.delimiter (strip_bom column)) records)
+  pub is : row_records ≡ drop (records_before layout.header) (beside (delimited_texts layout.delimiter (strip_bom column)) records)
 
 -- The texts of a column's rows by a layout, up to the first that ends the run, and its fault, or none. Rows count from 1, and there may be
 -- at most this number.
 pub record ConvertsBy (files : List File) (layout : Layout) (most : ℕ) (column : List ℕ) (texts : List (List ℕ)) (fault : Option RowKind) : Type 0 where
-  pub wholes : List Whole
-  pub are : AreRowRecords layout column wholes
-  pub rows : ComeToBy layout files most 1 wholes texts fault
+  pub row_records : List CsvRecord
+  pub are : AreRowRecords layout column row_records
+  pub rows : RecordsConvertBy layout files most 1 row_records texts fault
 
 -- the line of names before rows that begin with a name and an instant: own choice
 abbrev pub row_names : List ℕ
 row_names = codes "zone,instant,local,offset,daylight,abbreviation" ++ 10 ∷ []
 
--- a line, where there is a header and rows begin so
+-- a line, where a header is written and rows begin so
 abbrev pub names_of : RowStart → Header → List ℕ → List ℕ
 names_of start.Fields header.First line = line
 names_of _ _ line = []
@@ -57,10 +57,11 @@ names_of _ _ line = []
 abbrev pub added_names : List ℕ
 added_names = codes ",local,offset,daylight,abbreviation"
 
--- the own bytes of the header, if there is one, by those of all records
+-- the own bytes of the header that is written, if one is, by those of all records
 abbrev pub own_header : Header → List (List ℕ) → List ℕ
 own_header header.Absent texts = []
 own_header header.First texts = first_text texts
+own_header header.Skipped texts = []
 
 -- a column's header with those names, where rows begin with their records; a record has a byte or more
 abbrev pub header_of : RowStart → ℕ → List ℕ → List ℕ
@@ -75,8 +76,8 @@ names_line layout = names_of layout.start layout.header (exchanged layout.delimi
 abbrev pub own_line : Layout → List ℕ → List ℕ
 own_line layout column = header_of layout.start layout.delimiter (own_header layout.header (delimited_texts layout.delimiter (strip_bom column)))
 
--- The header before the rows of a column that has one: own choice. It is the line of names where rows begin with a name and an instant, and
--- else the column's own header, with the names of the fields that rows add.
+-- The header that is written before the rows of a column: own choice. It is the line of names where rows begin with a name and an instant,
+-- and else the column's own header, with the names of the fields that rows add. It is nothing where the column has none, or it is skipped.
 abbrev pub header_text : Layout → List ℕ → List ℕ
 header_text layout column = names_line layout ++ own_line layout column
 

@@ -2,7 +2,7 @@
 use Rattle.std.specs.Prelude.{◌≡◌, ◌↔◌, ℕ, List, Option}
 use Rattle.zic_files.specs.File.{File}
 use Rattle.zic_files.specs.Sound.{AreSoundFiles}
-use Rattle.zic_plan.specs.Layout.{HasPlainRows}
+use Rattle.zic_plan.specs.Layout.{HasPlainRows, records_before}
 use Rattle.zic_plan.specs.declared.layout.Header.TheVariants as header
 use Rattle.zic_plan.specs.declared.layout.Layout.{Layout}
 use Rattle.zic_base.specs.declared.row_fault.RowKind.{RowKind}
@@ -21,4 +21,4 @@ pub record PlainColumnsConvertAlike : Type 0 where
   pub all : (files : List File) (layout : Layout) (most : ℕ) (column : List ℕ) (texts : List (List ℕ)) (fault : Option RowKind) → HasPlainRows layout
       → layout.header ≡ header.Absent → (ConvertsBy files layout most column texts fault ↔ ConvertsTo files most column texts fault)
   pub body : (files : List File) (layout : Layout) (most : ℕ) (column : List ℕ) (texts : List (List ℕ)) (fault : Option RowKind) → HasPlainRows layout
-      → layout.header ≡ header.First → (ConvertsBy files layout most column texts fault ↔ ConvertsBodyTo files most column texts fault)
+      → records_before layout.header ≡ 1 → (ConvertsBy files layout most column texts fault ↔ ConvertsBodyTo files most column texts fault)

@@ -7,8 +7,9 @@ use Rattle.zic_base.specs.Check.{Check, check, first_failed}
 use Rattle.zic_base.specs.State.{Shown}
 use Rattle.zic_tzif.specs.Answer.{Answers}
 use Rattle.zic_rows.specs.Count.{count_of, counted_rest_text, second_of}
+use Rattle.zic_rows.specs.DateTime.{rfc3339_count_of}
 use Rattle.zic_columns.specs.Exchange.{exchanged}
-use Rattle.zic_columns.specs.Own.{Whole}
+use Rattle.zic_columns.specs.Own.{CsvRecord}
 use Rattle.zic_files.specs.File.{File}
 use Rattle.zic_plan.specs.Layout.{has_count}
 use Rattle.zic_plan.specs.declared.layout.AtFault.{AtFault}
@@ -16,25 +17,37 @@ use Rattle.zic_plan.specs.declared.layout.AtFault.TheVariants as at
 use Rattle.zic_plan.specs.declared.layout.Layout.{Layout}
 use Rattle.zic_plan.specs.declared.layout.RowStart.{RowStart}
 use Rattle.zic_plan.specs.declared.layout.RowStart.TheVariants as start
+use Rattle.zic_plan.specs.declared.layout.TimeFrom.{TimeFrom}
+use Rattle.zic_plan.specs.declared.layout.TimeFrom.TheVariants as from
+use Rattle.zic_plan.specs.declared.layout.Unit.{Unit}
 use Rattle.zic_base.specs.declared.row_fault.RowFault.{RowFault}
 use Rattle.zic_base.specs.declared.row_fault.RowKind.{RowKind}
 use Rattle.zic_base.specs.declared.row_fault.RowKind.TheVariants as kind
 use Rattle.zic_zones.specs.Zones.{field_at, is_named, zone_in}
 use Rattle.zic_convert.specs.Rows.{is_row_instant}
 
+-- the count that a field has: in decimals, or as a date and a time of day with a UT offset
+abbrev pub count_by : TimeFrom → Unit → List ℕ → Option ℤ
+count_by from.Count u field = count_of u field
+count_by from.Rfc3339 u field = rfc3339_count_of u field
+
 -- the count that the field of the instant has
 abbrev pub count_in : Layout → List (List ℕ) → Option ℤ
-count_in layout fields = count_of layout.unit (field_at fields layout.time)
+count_in layout fields = count_by layout.from layout.unit (field_at fields layout.time)
 
--- the checks of a record as the row of a number, where there is a greatest number of rows
-abbrev pub checks_by : Layout → List File → ℕ → ℕ → List (List ℕ) → List (Check RowKind)
-checks_by layout files most number fields =
+-- the checks of a record with this count as the row of a number, where there is a greatest number of rows
+abbrev pub checks_of : Layout → List File → ℕ → ℕ → List (List ℕ) → Option ℤ → List (Check RowKind)
+checks_of layout files most number fields count =
     check (nat_le number most) kind.TooManyRows
     ∷ check (has_count layout.count (length fields)) kind.RowFields
     ∷ check (is_named files (zone_in layout.zone fields)) kind.RowZone
-    ∷ check (is_some (count_in layout fields)) kind.RowInstant
-    ∷ check (is_row_instant (option_map (second_of layout.unit) (count_in layout fields))) kind.RowRange
+    ∷ check (is_some count) kind.RowInstant
+    ∷ check (is_row_instant (option_map (second_of layout.unit) count)) kind.RowRange
     ∷ []
+
+-- the checks of a record
+abbrev pub checks_by : Layout → List File → ℕ → ℕ → List (List ℕ) → List (Check RowKind)
+checks_by layout files most number fields = checks_of layout files most number fields (count_in layout fields)
 
 -- the fault of a row: of the first check that fails, or none
 abbrev pub fault_by : Layout → List File → ℕ → ℕ → List (List ℕ) → Option RowKind
@@ -50,15 +63,15 @@ start_text layout own name count = beginning layout.start layout.delimiter own n
 
 -- The text of a record's row: what rows begin with, and the state that the file of the zone's name answers at the whole second of the
 -- record's count. The delimiter stands in the place of commas; no name of a file and no field that a row adds to a record has it.
-pub record IsTextBy (layout : Layout) (files : List File) (whole : Whole) (text : List ℕ) : Type 0 where
+pub record IsTextBy (layout : Layout) (files : List File) (row_record : CsvRecord) (text : List ℕ) : Type 0 where
   pub file : File
   pub among : Contains files file
-  pub named : file.name ≡ zone_in layout.zone whole.fields
+  pub named : file.name ≡ zone_in layout.zone row_record.fields
   pub count : ℤ
-  pub says : count_in layout whole.fields ≡ Some count
+  pub says : count_in layout row_record.fields ≡ Some count
   pub state : Shown
   pub answers : Answers file.image.content (second_of layout.unit count) (Some state)
-  pub is : text ≡ start_text layout whole.own file.name count ++ exchanged layout.delimiter (counted_rest_text layout.unit count state)
+  pub is : text ≡ start_text layout row_record.own file.name count ++ exchanged layout.delimiter (counted_rest_text layout.unit count state)
 
 abbrev pub empty_fields : ℕ → List ℕ
 empty_fields delimiter = delimiter ∷ delimiter ∷ delimiter ∷ delimiter ∷ []
@@ -66,16 +79,16 @@ empty_fields delimiter = delimiter ∷ delimiter ∷ delimiter ∷ delimiter ∷
 -- The text of a row without local time. Where rows begin with names, it is what a CSV writer with the layout's delimiter writes of six
 -- fields: the zone's name, the field of the instant as it was read, and four empty ones. Where they begin with their records, it is the
 -- record's own bytes and four empty fields.
-abbrev pub timeless_text : RowStart → Layout → Whole → List ℕ
-timeless_text start.Fields layout whole =
-    row_text (with_delimiter default_writer layout.delimiter) (zone_in layout.zone whole.fields ∷ field_at whole.fields layout.time ∷ [] ∷ [] ∷ [] ∷ [] ∷ [])
-timeless_text start.Record layout whole = whole.own ++ (empty_fields layout.delimiter ++ 10 ∷ [])
+abbrev pub timeless_text : RowStart → Layout → CsvRecord → List ℕ
+timeless_text start.Fields layout row_record =
+    row_text (with_delimiter default_writer layout.delimiter) (zone_in layout.zone row_record.fields ∷ field_at row_record.fields layout.time ∷ [] ∷ [] ∷ [] ∷ [] ∷ [])
+timeless_text start.Record layout row_record = row_record.own ++ (empty_fields layout.delimiter ++ 10 ∷ [])
 
 -- The text of a row with a fault: one without local time, or, of a record with another number of fields than the layout's, the record's
 -- own bytes alone.
-abbrev pub faulty_text : Layout → RowKind → Whole → List ℕ
-faulty_text layout kind.RowFields whole = whole.own ++ 10 ∷ []
-faulty_text layout _ whole = timeless_text layout.start layout whole
+abbrev pub faulty_text : Layout → RowKind → CsvRecord → List ℕ
+faulty_text layout kind.RowFields row_record = row_record.own ++ 10 ∷ []
+faulty_text layout _ row_record = timeless_text layout.start layout row_record
 
 -- the fault that ends a run: any, or only that of a record that is one too many
 abbrev pub ending : AtFault → Option RowKind → Option RowKind
@@ -88,21 +101,21 @@ abbrev pub ends_by : Layout → List File → ℕ → ℕ → List (List ℕ) �
 ends_by layout files most number fields = ending layout.at_fault (fault_by layout files most number fields)
 
 -- the row of a record, which has this fault or none
-abbrev pub IsRowAt : Layout → List File → Option RowKind → Whole → List ℕ → Type 0
-IsRowAt layout files None whole text = IsTextBy layout files whole text
-IsRowAt layout files (Some kind) whole text = text ≡ faulty_text layout kind whole
+abbrev pub IsRowAt : Layout → List File → Option RowKind → CsvRecord → List ℕ → Type 0
+IsRowAt layout files None row_record text = IsTextBy layout files row_record text
+IsRowAt layout files (Some kind) row_record text = text ≡ faulty_text layout kind row_record
 
 -- the row of a record, as the row of a number
-abbrev pub IsRowBy : Layout → List File → ℕ → ℕ → Whole → List ℕ → Type 0
-IsRowBy layout files most number whole text = IsRowAt layout files (fault_by layout files most number whole.fields) whole text
+abbrev pub IsRowBy : Layout → List File → ℕ → ℕ → CsvRecord → List ℕ → Type 0
+IsRowBy layout files most number row_record text = IsRowAt layout files (fault_by layout files most number row_record.fields) row_record text
 
 -- The outcome of records, the first of which is the row of this number: the texts of the rows up to the first that ends the run, and its
 -- fault, or none.
-abbrev pub ComeToBy : Layout → List File → ℕ → ℕ → List Whole → List (List ℕ) → Option RowKind → Type 0
-ComeToBy layout files most number [] texts fault = (texts ≡ []) × (fault ≡ None)
-ComeToBy layout files most number (whole ∷ wholes) [] fault = (fault ≡ ends_by layout files most number whole.fields) × IsSome fault
-ComeToBy layout files most number (whole ∷ wholes) (text ∷ texts) fault =
-    (ends_by layout files most number whole.fields ≡ None) × IsRowBy layout files most number whole text × ComeToBy layout files most (number + 1) wholes texts fault
+abbrev pub RecordsConvertBy : Layout → List File → ℕ → ℕ → List CsvRecord → List (List ℕ) → Option RowKind → Type 0
+RecordsConvertBy layout files most number [] texts fault = (texts ≡ []) × (fault ≡ None)
+RecordsConvertBy layout files most number (row_record ∷ row_records) [] fault = (fault ≡ ends_by layout files most number row_record.fields) × IsSome fault
+RecordsConvertBy layout files most number (row_record ∷ row_records) (text ∷ texts) fault =
+    (ends_by layout files most number row_record.fields ≡ None) × IsRowBy layout files most number row_record text × RecordsConvertBy layout files most (number + 1) row_records texts fault
 
 -- the fault of the row of a number, if it has one
 abbrev pub noted : ℕ → Option RowKind → List RowFault
@@ -110,8 +123,8 @@ noted number None = []
 noted number (Some kind) = record { row = number; kind = kind } ∷ []
 
 -- the faults of the rows of records, the first of which is the row of this number, up to the row that ends the run
-abbrev pub faults_by : Layout → List File → ℕ → ℕ → List Whole → List RowFault
+abbrev pub faults_by : Layout → List File → ℕ → ℕ → List CsvRecord → List RowFault
 faults_by layout files most number [] = []
-faults_by layout files most number (whole ∷ wholes) =
-    if is_some (ends_by layout files most number whole.fields) then []
-    else noted number (fault_by layout files most number whole.fields) ++ faults_by layout files most (number + 1) wholes
+faults_by layout files most number (row_record ∷ row_records) =
+    if is_some (ends_by layout files most number row_record.fields) then []
+    else noted number (fault_by layout files most number row_record.fields) ++ faults_by layout files most (number + 1) row_records

@@ -53,8 +53,8 @@ pub record IsTextOf (files : List File) (fields : List (List ℕ)) (text : List 
 
 -- The outcome of records, the first of which is the row of this number: the texts of the rows up to the first that has a fault, and that
 -- fault, or none.
-abbrev pub ComeTo : List File → ℕ → ℕ → List (List (List ℕ)) → List (List ℕ) → Option RowKind → Type 0
-ComeTo files most number [] texts fault = (texts ≡ []) × (fault ≡ None)
-ComeTo files most number (fields ∷ records) [] fault = (fault ≡ fault_of files most number fields) × IsSome fault
-ComeTo files most number (fields ∷ records) (text ∷ texts) fault =
-    (fault_of files most number fields ≡ None) × IsTextOf files fields text × ComeTo files most (number + 1) records texts fault
+abbrev pub RecordsConvertTo : List File → ℕ → ℕ → List (List (List ℕ)) → List (List ℕ) → Option RowKind → Type 0
+RecordsConvertTo files most number [] texts fault = (texts ≡ []) × (fault ≡ None)
+RecordsConvertTo files most number (fields ∷ records) [] fault = (fault ≡ fault_of files most number fields) × IsSome fault
+RecordsConvertTo files most number (fields ∷ records) (text ∷ texts) fault =
+    (fault_of files most number fields ≡ None) × IsTextOf files fields text × RecordsConvertTo files most (number + 1) records texts fault

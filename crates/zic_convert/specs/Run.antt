@@ -3,7 +3,7 @@ use Rattle.std.specs.Prelude.{◌≡◌, ◌⊎◌, ℕ, ◌-◌, List, ◌∷�
 use Rattle.std.specs.List.{concat}
 use Rattle.std.specs.Io.{StartsWith}
 use Rattle.std.specs.Io.KnownBytes.{Appends}
-use Rattle.zic_columns.specs.Own.{Whole}
+use Rattle.zic_columns.specs.Own.{CsvRecord}
 use Rattle.zic_counted.specs.Counts.{Counts}
 use Rattle.zic_files.specs.File.{File}
 use Rattle.zic_plan.specs.declared.layout.Layout.{Layout}
@@ -13,7 +13,7 @@ use Rattle.zic_base.specs.declared.run_stop.RunStop.{RunStop}
 use Rattle.zic_base.specs.declared.run_stop.RunStop.TheVariants as stop
 use Rattle.zic_convert.specs.Column.{AreRowRecords, header_text, names_line}
 use Rattle.zic_convert.specs.Convert.{WritesAllOf, WritesUpToOf}
-use Rattle.zic_convert.specs.LayoutRows.{ComeToBy, faults_by}
+use Rattle.zic_convert.specs.LayoutRows.{RecordsConvertBy, faults_by}
 
 -- what the writer held and holds, and the faults that the log had noted and has noted, where these are known
 pub record Output : Type 0 where
@@ -50,39 +50,39 @@ abbrev pub Notes : Option (List RowFault) → Option (List RowFault) → List Ro
 Notes old new faults = IfSome old (λ before. new ≡ Some (before ++ faults))
 
 -- A header and all rows of these records were written, there are n rows, and their faults were noted.
-abbrev pub WritesRows : Layout → List File → ℕ → List ℕ → List Whole → ℕ → Output → Type 0
-WritesRows layout files most header wholes n out =
-    WritesAllOf header (ComeToBy layout files most 1 wholes) n out.held out.held' × Notes out.log out.log' (faults_by layout files most 1 wholes)
+abbrev pub WritesRows : Layout → List File → ℕ → List ℕ → List CsvRecord → ℕ → Output → Type 0
+WritesRows layout files most header row_records n out =
+    WritesAllOf header (RecordsConvertBy layout files most 1 row_records) n out.held out.held' × Notes out.log out.log' (faults_by layout files most 1 row_records)
 
 -- A header and the rows before one that ends the conversion were written, and their faults were noted.
-abbrev pub EndsAtRow : Layout → List File → ℕ → List ℕ → List Whole → ℕ → RowKind → Output → Type 0
-EndsAtRow layout files most header wholes row kind out =
-    WritesUpToOf header (ComeToBy layout files most 1 wholes) row kind out.held out.held' × Notes out.log out.log' (faults_by layout files most 1 wholes)
+abbrev pub EndsAtRow : Layout → List File → ℕ → List ℕ → List CsvRecord → ℕ → RowKind → Output → Type 0
+EndsAtRow layout files most header row_records row kind out =
+    WritesUpToOf header (RecordsConvertBy layout files most 1 row_records) row kind out.held out.held' × Notes out.log out.log' (faults_by layout files most 1 row_records)
 
 -- Some lines were written, of the header and the first rows, and the faults of these rows were noted, and no others. Nothing was written
 -- after these lines, unless the writer failed: then perhaps a beginning of those that come next.
-pub record EndsAfterLines (layout : Layout) (files : List File) (most : ℕ) (header : List ℕ) (wholes : List Whole) (why : RunStop) (out : Output) : Type 0 where
+pub record EndsAfterLines (layout : Layout) (files : List File) (most : ℕ) (header : List ℕ) (row_records : List CsvRecord) (why : RunStop) (out : Output) : Type 0 where
   pub texts : List (List ℕ)
   pub fault : Option RowKind
-  pub come : ComeToBy layout files most 1 wholes texts fault
+  pub come : RecordsConvertBy layout files most 1 row_records texts fault
   pub lines : ℕ
   pub part : List ℕ
   pub starts : StartsWith (header ++ concat texts) part
   pub least : StartsWith part (concat (take lines (header ∷ texts)))
   pub exact : (part ≡ concat (take lines (header ∷ texts))) ⊎ (why ≡ stop.WriteFailed)
   pub wrote : Appends out.held out.held' part
-  pub noted : Notes out.log out.log' (faults_by layout files most 1 (take (lines - 1) wholes))
+  pub noted : Notes out.log out.log' (faults_by layout files most 1 (take (lines - 1) row_records))
 
 -- how a conversion ends early: at a row, or for another cause, but never for a fault of a source
-abbrev pub EndsIn : Layout → List File → ℕ → List ℕ → List Whole → RunStop → Output → Type 0
-EndsIn layout files most header wholes (stop.Row row kind) out = EndsAtRow layout files most header wholes row kind out
-EndsIn layout files most header wholes (stop.Source fault) out = ⊥
-EndsIn layout files most header wholes why out = EndsAfterLines layout files most header wholes why out
+abbrev pub EndsIn : Layout → List File → ℕ → List ℕ → List CsvRecord → RunStop → Output → Type 0
+EndsIn layout files most header row_records (stop.Row row kind) out = EndsAtRow layout files most header row_records row kind out
+EndsIn layout files most header row_records (stop.Source fault) out = ⊥
+EndsIn layout files most header row_records why out = EndsAfterLines layout files most header row_records why out
 
 -- by these files, all rows of the column were written, there are n, and their faults were noted
 abbrev pub ConvertsAllBy : {R W : Type 0} → Layout → ℕ → ℕ → Run R W → List File → Type 0
 ConvertsAllBy layout most n run files = IfSome run.column (λ column.
-    (wholes : List Whole) × AreRowRecords layout column wholes × WritesRows layout files most (header_text layout column) wholes n run.output)
+    (row_records : List CsvRecord) × AreRowRecords layout column row_records × WritesRows layout files most (header_text layout column) row_records n run.output)
 
 -- all of the line of names was written, if there is to be one, and perhaps more
 abbrev pub HasNames : Layout → Output → Type 0
@@ -91,7 +91,7 @@ HasNames layout out = (rest : List ℕ) × Appends out.held out.held' (names_lin
 -- by these files, the conversion of the column ended early, after the line of names
 abbrev pub EndsBy : {R W : Type 0} → Layout → ℕ → RunStop → Run R W → List File → Type 0
 EndsBy layout most why run files = IfSome run.column (λ column.
-    (wholes : List Whole) × AreRowRecords layout column wholes × EndsIn layout files most (header_text layout column) wholes why run.output × HasNames layout run.output)
+    (row_records : List CsvRecord) × AreRowRecords layout column row_records × EndsIn layout files most (header_text layout column) row_records why run.output × HasNames layout run.output)
 
 -- The line of names could not be written: nothing was read of the column, no zone was asked for, and no fault was noted.
 pub record EndsAtNames {R W Z : Type 0} (layout : Layout) (why : RunStop) (run : Run R W) (zones zones' : Z) : Type 0 where

@@ -1,26 +1,29 @@
 //! Some records of a piece, column by column.
 
-ghost use Rattle.std.specs.Prelude.{◌≡◌, ◌≤◌, All, length, map, take, IfOk, IfSome, OnOk};
+ghost use Rattle.std.specs.Prelude.{◌≡◌, ◌≤◌, All, map, take, IfOk, IfSome, OnOk};
 ghost use Rattle.zic_columns.specs.Record.{IsSplit, StandsIn, field_text};
 ghost use Rattle.zic_columns.specs.declared.splits.TheConstants.{BATCH};
 ghost use Rattle.zic_zones.specs.Zones.{number_of};
-ghost use Rattle.zic_convert.specs.code.Batch.{AreTexts, AreTimes, IsFile, IsNamed, IsTextFor, IsTimeIn};
+ghost use Rattle.zic_convert.specs.code.Batch.{AreTimes, IfTime, IsNamed, IsTimeIn};
 ghost use Rattle.zic_convert.specs.code.Batch.{wanted_by, zone_at};
 
 use crate::piece::Piece;
 use std::alloc::{AllocError, Global};
 use zic_columns::{BATCH, Field, Record, Span, push_field};
 use zic_plan::{Unit, ZoneFrom};
-use zic_rows::{RowTime, StateText, quick_time};
+use zic_rows::{RowTime, quick_time};
 use zic_zones::RowZones;
 
+/// The second of a time that says nothing. No row may have it.
+pub(crate) const NO_TIME: i64 = i64::MIN;
+
 /// Columns of some records: where their fields stand, the numbers of their zones' files, and their
-/// times. `None` of a zone says that no file has the name; of a time it says nothing.
+/// times. `None` of a zone says that no file has the name, and a time of [`NO_TIME`] says nothing.
 #[derive(Drop)]
 pub(crate) struct Batch {
     pub(crate) records: [Record; BATCH],
     pub(crate) zones: [Option<usize>; BATCH],
-    pub(crate) times: [Option<RowTime>; BATCH],
+    pub(crate) times: [RowTime; BATCH],
 }
 
 impl Batch {
@@ -37,7 +40,7 @@ impl Batch {
         Batch {
             records: [record; BATCH],
             zones: [None; BATCH],
-            times: [None; BATCH],
+            times: [no_time(Unit::Second); BATCH],
         }
     }
 
@@ -131,7 +134,7 @@ fn read_times(
     piece: &Piece<'_, '_>,
     records: &[Record; BATCH],
     count: usize,
-    times: &mut [Option<RowTime>; BATCH],
+    times: &mut [RowTime; BATCH],
 )
     requires few { count ≤ BATCH }
     requires split { All (IsSplit piece.now.bytes.now (wanted_by piece.now.layout.now))
@@ -143,55 +146,35 @@ fn read_times(
     }
 }
 
-/// Returns the time that a field of a piece has in plain decimals, where a row may have it. `None`
-/// says nothing.
+/// Returns a time that says nothing.
 #[inline(always)]
-fn read_time(piece: &[u8], field: Field, unit: Unit) -> Option<RowTime>
+fn no_time(unit: Unit) -> RowTime
+    ensures { result.second ≡ NO_TIME }
+{
+    RowTime {
+        second: NO_TIME,
+        fraction: 0,
+        unit,
+    }
+}
+
+/// Returns the time that a field of a piece has in plain decimals, where a row may have it. One of
+/// [`NO_TIME`] says nothing.
+#[inline(always)]
+fn read_time(piece: &[u8], field: Field, unit: Unit) -> RowTime
     requires { StandsIn piece.now field }
-    ensures { IfSome result (IsTimeIn unit piece.now field) }
+    ensures { IfTime result (IsTimeIn unit piece.now field) }
 {
-    match field {
-        Field::Plain(span) => quick_time(piece, span.start, span.end, unit),
-        Field::Quoted(_) => None,
-    }
-}
-
-/// Finds the texts of the states that files show at the times of the first `count` records of a batch,
-/// of those with as many fields as they must have. `None` says nothing.
-pub(crate) fn find_texts<'s>(
-    piece: &Piece<'_, 's>,
-    batch: &Batch,
-    count: usize,
-    texts: &mut [Option<&'s StateText>; BATCH],
-)
-    requires few { count ≤ BATCH }
-    requires zones { take count batch.now.zones
-        ≡ map (zone_at piece.now) (take count batch.now.records) }
-    ensures long { length texts.new ≡ BATCH }
-    ensures texts { AreTexts piece.now batch.now count texts.new }
-{
-    for i in 0..count {
-        texts[i] = text_for(piece, &batch.records[i], batch.zones[i], batch.times[i]);
-    }
-}
-
-/// Returns the text of the state that a file shows at a time, where the record has as many fields as
-/// it must have. `None` says nothing.
-#[inline(always)]
-fn text_for<'s>(
-    piece: &Piece<'_, 's>,
-    given: &Record,
-    zone: Option<usize>,
-    time: Option<RowTime>,
-) -> Option<&'s StateText>
-    requires { IsFile piece.now zone }
-    ensures { IfSome result (λ text. IsTextFor piece.now given.now zone time text.now) }
-{
-    if !piece.layout.count.admits(given.count) {
-        return None;
-    }
-    match (zone, time) {
-        (Some(file), Some(time)) => piece.zones.quick_text(file, time.second),
-        _ => None,
+    let Field::Plain(span) = field else {
+        return no_time(unit);
+    };
+    match quick_time(piece, span.start, span.end, unit) {
+        // The parts alone are copied, and not what lies between them.
+        Some(time) => RowTime {
+            second: time.second,
+            fraction: time.fraction,
+            unit,
+        },
+        None => no_time(unit),
     }
 }

@@ -11,6 +11,7 @@ use zic_columns::laws::column_records_are_read;
 use zic_columns::without_mark;
 use zic_files::Files;
 use zic_plan::{Header, Layout};
+use zic_rows::RowText;
 use zic_zones::{SourceZones, Zones};
 
 /// The rows of a column up to the first that has a fault: their text, their number, and that fault.
@@ -60,7 +61,8 @@ pub fn rows_of_column(
         first: 1,
         most: max_rows,
     };
-    let rows = rows_of_piece(alloc, &piece, room_for(column.len()))?;
+    let text = RowText::with_capacity(alloc, room_for(column.len()))?;
+    let rows = rows_of_piece(alloc, &piece, text)?;
     Ok(ColumnRows {
         text: rows.text.into_bytes(),
         count: rows.count,

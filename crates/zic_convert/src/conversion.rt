@@ -25,6 +25,7 @@ use crate::laws::plain_columns_convert_alike;
 use crate::output::{flush, write_header, write_names};
 use crate::pieces::RowPieces;
 use crate::round::convert_round;
+use crate::spare::SpareTexts;
 use std::alloc::Global;
 use std::io::{Read, Write};
 use std::sync::Wait;
@@ -102,8 +103,15 @@ fn next_round<T, G, Z: Zones, R: Read>(
     Ok(some)
 }
 
-/// Converts a round by the zones that are ready, writes its rows, and notes their faults. The first
-/// record is the row of this number. Returns the number of rows.
+/// What the rows of a round begin with: the number of the first, and texts to write them into.
+#[derive(Clone, Copy, Drop)]
+struct NextRows<'a> {
+    first: u64,
+    spare: &'a SpareTexts,
+}
+
+/// Converts a round by the zones that are ready, writes its rows, and notes their faults. Returns the
+/// number of rows.
 ///
 /// # Errors
 ///
@@ -112,22 +120,29 @@ fn convert_ready<T: Threads + Wait + Sync, G: Gate + Sync, Z: Zones, W: Write, L
     conversion: &Conversion<'_, T, G>,
     zones: &Z,
     round: Round<'_>,
-    first: u64,
+    next: &NextRows<'_>,
     writer: &mut Counted<W>,
     log: &mut L,
 ) -> Result<u64, RunStop>
-    requires first { first ≤ MAX_ROWS + 1 }
+    requires first { next.now.first ≤ MAX_ROWS + 1 }
     requires few { length round ≤ MAX_ROUND_PIECES }
     requires cut { ArePiecesOf conversion.now.plan.now.row_piece round }
     ensures ok { IfOk result (WritesRound (pieces_by conversion.now.layout.now (Z.known zones.now)
-        conversion.now.plan.now round.entry first)
+        conversion.now.plan.now round.entry next.now.first)
         W.contents writer.old writer.new (L.noted log.old) (L.noted log.new)) }
     ensures stop { IfErr result (EndsInRound (pieces_by conversion.now.layout.now
-        (Z.known zones.now) conversion.now.plan.now round.entry first)
+        (Z.known zones.now) conversion.now.plan.now round.entry next.now.first)
         W.contents writer.old writer.new (L.noted log.old) (L.noted log.new)) }
 {
     let ready = zones.ready();
-    let pieces = RowPieces::new(conversion.layout, &ready, round, first, conversion.plan);
+    let pieces = RowPieces::new(
+        conversion.layout,
+        &ready,
+        round,
+        next.first,
+        conversion.plan,
+        next.spare,
+    );
     convert_round(conversion, &pieces, writer, log)
 }
 
@@ -169,16 +184,22 @@ fn convert_rounds<
     prove!(conversion.layout.delimiter.byte() <= u8::MAX);
     // The plan limits the number of rows.
     prove!(conversion.plan.max_rows() <= u64::MAX);
+    let spare = SpareTexts::new(conversion.alloc);
     let mut count = 0;
     while next_round(conversion, zones, column)? {
         let round = column.round();
-        count += convert_ready(conversion, zones, round, count + 1, writer, log)?;
+        let next = NextRows {
+            first: count + 1,
+            spare: &spare,
+        };
+        count += convert_ready(conversion, zones, round, &next, writer, log)?;
     }
     flush(writer)?;
     Ok(count)
 }
 
-/// A column after its header, and the header's own bytes, which are none where it has no header.
+/// A column after its header, and the own bytes of the header that is written, which are none where
+/// none is.
 #[derive(Drop)]
 struct Begun<R: Read> {
     column: Column<R>,
@@ -209,6 +230,11 @@ fn begin_column<R: Read + Drop>(
         }
         Header::First => {
             let header = column.pass_record(alloc, round_len(plan))?;
+            Ok(Begun { column, header })
+        }
+        Header::Skipped => {
+            let _skipped = column.pass_record(alloc, round_len(plan))?;
+            let header = Vec::new(alloc);
             Ok(Begun { column, header })
         }
     }
@@ -322,15 +348,15 @@ fn ended<R>(
 /// of rows, without the header.
 ///
 /// The layout says which bytes stand between fields, of records and of rows; whether the first
-/// record is a header, which makes no row and isn't counted; where a row's zone and its instant come
+/// record is a header, which makes no row and isn't counted, and whether one is written; where a row's zone and its instant come
 /// from, and how many fields a record has; and what an instant counts. An instant is an optional `-`
 /// and 1 to 18 digits, and as many more as a fraction of a second has. A row shows local time of its
 /// whole second, rounded down, and with that fraction.
 ///
 /// A row begins with the name and the instant, or with the record's own bytes as they stand in the
-/// column, as the layout's `start` says. Where it begins with the name and there is a header, the line
+/// column, as the layout's `start` says. Where it begins with the name and a header is written, the line
 /// `zone,instant,local,offset,daylight,abbreviation`, with the layout's delimiter, is written before
-/// the column is read. Where it begins with the record and there is a header, that comes first, with
+/// the column is read. Where it begins with the record, the column's own header comes first, with
 /// the names `local`, `offset`, `daylight` and `abbreviation` added.
 ///
 /// As the layout's `at_fault` says, the first row with a fault ends the conversion, or rows with

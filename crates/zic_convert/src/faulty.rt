@@ -41,7 +41,11 @@ pub(crate) fn put_back(text: &mut Vec<u8>, start: usize, delimiter: u8)
 }
 
 /// Copies the text of a field, in which the delimiter and commas are put back in their places.
-fn copy_field(alloc: Global, piece: &Piece<'_, '_>, field: Field) -> Result<Vec<u8>, AllocError>
+pub(crate) fn copy_field(
+    alloc: Global,
+    piece: &Piece<'_, '_>,
+    field: Field,
+) -> Result<Vec<u8>, AllocError>
     requires { StandsIn piece.now.bytes.now field }
     ensures { IfOk result (λ copy. copy.items
         ≡ exchanged piece.now.layout.now.delimiter (field_text piece.now.bytes.now field)) }

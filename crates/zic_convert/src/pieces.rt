@@ -8,6 +8,7 @@ ghost use Rattle.zic_convert.specs.code.Pieces.{ArePieces, AreRowsOfPiece};
 
 use crate::piece::{Piece, rows_of_piece};
 use crate::row::Rows;
+use crate::spare::SpareTexts;
 use std::alloc::{AllocError, Global};
 use std::marker::Model;
 use zic_columns::Round;
@@ -36,6 +37,8 @@ pub(crate) struct RowPieces<'a, 's> {
     /// Whether a piece with a row that ends the run stops the task. If not, its rows before that
     /// row are its value.
     stops: bool,
+    /// Texts to write rows into.
+    spare: &'a SpareTexts,
 }
 
 impl<'a, 's> Model for RowPieces<'a, 's> {
@@ -66,13 +69,14 @@ impl<'a, 's> Model for RowPieces<'a, 's> {
 
 impl<'a, 's> RowPieces<'a, 's> {
     /// Returns the pieces of a round, cut as the plan says, as a task that stops at a row that ends
-    /// the run. The first record is the row of this number.
+    /// the run. The first record is the row of this number. Rows are written into spare texts.
     pub(crate) fn new(
         layout: &'a Layout,
         zones: &'a RowZones<'s>,
         round: Round<'a>,
         first: u64,
         plan: &Plan,
+        spare: &'a SpareTexts,
     ) -> RowPieces<'a, 's>
         requires first { first ≤ MAX_ROWS + 1 }
         requires few { length round ≤ MAX_ROUND_PIECES }
@@ -96,6 +100,7 @@ impl<'a, 's> RowPieces<'a, 's> {
             most: plan.max_rows(),
             size: plan.row_piece(),
             stops: true,
+            spare,
         }
     }
 
@@ -123,7 +128,13 @@ impl<'a, 's> RowPieces<'a, 's> {
             most: self.most,
             size: self.size,
             stops: false,
+            spare: self.spare,
         }
+    }
+
+    /// Keeps the texts of rows that were written, for rows to come.
+    pub(crate) fn keep_texts(&self, written: Vec<Rows>) {
+        self.spare.keep(written);
     }
 
     /// Returns the rows of the piece with this index, up to the first that ends the run.
@@ -138,7 +149,8 @@ impl<'a, 's> RowPieces<'a, 's> {
             first: self.first + i * self.size,
             most: self.most,
         };
-        rows_of_piece(alloc, &piece, room_for(piece.bytes.len()))
+        let text = self.spare.take(alloc, room_for(piece.bytes.len()))?;
+        rows_of_piece(alloc, &piece, text)
     }
 }
 

@@ -1,8 +1,10 @@
 //! The quick way to the text of a row, where all that it shows is at hand.
 
-ghost use Rattle.std.specs.Prelude.{◌≡◌, ◌++◌, ◌∷◌, ◌≤◌, IfOk, IfSome, IsTrue, List, OnOk, Some, drop, length, take, ℕ};
+ghost use Rattle.std.specs.Prelude.{◌≡◌, ◌≢◌, ◌++◌, ◌∷◌, ◌≤◌, IfOk, IfSome, IsSome, IsTrue, List, OnOk, Some, drop, length, slice_get, take, ℕ};
 ghost use Rattle.zic_columns.specs.Exchange.{exchanged};
 ghost use Rattle.zic_columns.specs.Record.{IsSplit, IsWithin, bytes_at, field_text, record_at};
+ghost use Rattle.zic_slots.specs.declared.limit.TheConstants.{UNKNOWN};
+ghost use Rattle.zic_zones.specs.States.{HasState};
 ghost use Rattle.zic_zones.specs.Zones.{zone_in};
 ghost use Rattle.zic_convert.specs.LayoutRows.{IsTextBy};
 ghost use Rattle.zic_convert.specs.code.Batch.{IsQuickRow, wanted_by};
@@ -13,14 +15,16 @@ use std::alloc::AllocError;
 use zic_columns::{Field, Record, Span};
 use zic_plan::{RowStart, ZoneFrom};
 use zic_rows::{RowText, RowTime, StateText};
+use zic_zones::{RowStates, UNKNOWN};
 
 /// What is known of a record: the number of its zone's file, or `None` where no file has the name, its
-/// time, and the text of the state that the file shows then. `None` of a time or a text says nothing.
+/// time, and the number of the state that the file shows then. A time of `NO_TIME` and `UNKNOWN` say
+/// nothing.
 #[derive(Clone, Copy, Drop)]
-pub(crate) struct Known<'s> {
+pub(crate) struct Known {
     pub(crate) zone: Option<usize>,
-    pub(crate) time: Option<RowTime>,
-    pub(crate) text: Option<&'s StateText>,
+    pub(crate) time: RowTime,
+    pub(crate) state: u16,
 }
 
 /// What a row shows: the number of its zone's file, its time, and the text of the state that the file
@@ -32,18 +36,24 @@ pub(crate) struct QuickRow<'s> {
     pub(crate) text: &'s StateText,
 }
 
-impl<'s> Known<'s> {
+impl Known {
     /// Returns what the row of the record shows, where all of it is known.
     #[inline(always)]
-    pub(crate) fn row(&self) -> Option<QuickRow<'s>>
+    pub(crate) fn row<'s>(&self, states: &RowStates<'s>) -> Option<QuickRow<'s>>
+        requires { HasState states.now.states self.now.state (λ state. IsSome self.now.zone) }
         ensures file { IfSome result (λ row. self.now.zone ≡ Some row.file) }
-        ensures time { IfSome result (λ row. self.now.time ≡ Some row.time) }
-        ensures text { IfSome result (λ row. self.now.text ≡ Some row.text) }
+        ensures time { IfSome result (λ row. self.now.time ≡ row.time) }
+        ensures says { IfSome result (λ row. self.now.state ≢ UNKNOWN) }
+        ensures text { IfSome result
+            (λ row. slice_get states.now.states self.now.state ≡ Some row.text.now) }
     {
-        match (self.zone, self.time, self.text) {
-            (Some(file), Some(time), Some(text)) => Some(QuickRow { file, time, text }),
-            _ => None,
+        if self.state == UNKNOWN {
+            return None;
         }
+        let text = states.text(self.state);
+        let file = self.zone?;
+        let time = self.time;
+        Some(QuickRow { file, time, text })
     }
 }
 

@@ -100,7 +100,11 @@ pub(crate) fn convert_round<T: Threads + Wait + Sync, W: Write, G: Gate + Sync, 
         workers,
         conversion.gate,
     ) {
-        Ok(rows) => write_round(writer, pieces, &rows, log),
+        Ok(rows) => {
+            let written = write_round(writer, pieces, &rows, log);
+            pieces.keep_texts(rows);
+            written
+        }
         Err(TaskStop::Fault(i, ())) => convert_again(conversion, &pieces.up_to(i), writer, log),
         Err(TaskStop::Memory(_)) => Err(RunStop::Memory),
         Err(TaskStop::NoThread) => unreachable!(),

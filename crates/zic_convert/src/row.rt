@@ -3,27 +3,30 @@
 ghost use Rattle.std.specs.Prelude.{◌≡◌, ◌+◌, ◌^◌, ◌<◌, ◌≤◌, ◌++◌, ℤ, Some, None, IfOk, OnOk, MatchResult};
 ghost use Rattle.std.specs.Prelude.{ℕ, List, length};
 ghost use Rattle.std.specs.Fmt.{signed_decimal};
-ghost use Rattle.zic_columns.specs.Own.{Whole};
+ghost use Rattle.zic_columns.specs.Own.{CsvRecord};
 ghost use Rattle.zic_columns.specs.Record.{IsSplit, StandsIn, bytes_at, field_text, record_at};
 ghost use Rattle.zic_rows.specs.Count.{count_of, counted_rest_text, second_of};
 ghost use Rattle.zic_zones.specs.Zones.{AnswersAt, IsShownAt, zone_in};
-ghost use Rattle.zic_convert.specs.LayoutRows.{IsTextBy, fault_by};
+ghost use Rattle.zic_plan.specs.declared.layout.TimeFrom.TheVariants as from;
+ghost use Rattle.zic_convert.specs.LayoutRows.{IsTextBy};
 ghost use Rattle.zic_convert.specs.Rows.{is_row_instant};
-ghost use Rattle.zic_convert.specs.code.Batch.{AreColumns, AreTexts, IsAsked, IsKnown, IsPen, IsQuickRow, IsRowQuery, IsSoundQuery, records_of, wanted_by, zone_at};
+ghost use Rattle.zic_convert.specs.code.Batch.{AreColumns, AreStates, IsLookup, IsKnown, IsPen, IsQuickRow, IsRowQuery, IsSoundQuery, fault_at, records_of, wanted_by, zone_at};
 ghost use Rattle.zic_convert.specs.code.Row.{AreNext, AreRowsOf, comma_start, empty_rows, put_back};
 
-use crate::asked::{Asked, asked_by};
 use crate::batch::Batch;
 use crate::faulty::{ends_run, push_faulty, put_back};
+use crate::lookup::{Lookup, look_up};
 use crate::piece::Piece;
 use crate::quick::{Known, QuickRow, push_quick};
+use crate::shown::ShownStates;
 use itoa::Buffer;
 use std::alloc::{AllocError, Global};
 use std::marker::Model;
 use zic_base::{RowFault, RowKind, State};
 use zic_columns::{Field, Record};
-use zic_plan::{Layout, RowStart, Unit};
-use zic_rows::{FIRST_INSTANT, LAST_INSTANT, RowText, RowWriter, StateText, is_plain, moment_of};
+use zic_plan::{Layout, RowStart, TimeFrom, Unit};
+use zic_rows::{FIRST_INSTANT, LAST_INSTANT, RowText, RowWriter, is_plain, moment_of};
+use zic_zones::RowStates;
 
 /// The rows of records up to the first that ends the run: their text, their number, its fault, and
 /// the faults of the rows before it.
@@ -120,13 +123,12 @@ fn query(
     piece: &Piece<'_, '_>,
     number: u64,
     given: &Record,
-    asked: &Asked,
+    lookup: &Lookup,
 ) -> Result<RowQuery, RowKind>
     requires split { IsSplit piece.now.bytes.now (wanted_by piece.now.layout.now) given.now }
-    requires asked { IsAsked piece.now given.now asked.now }
-    ensures { MatchResult result (IsSoundQuery piece.now number given.now asked.now)
-        (λ kind. fault_by piece.now.layout.now piece.now.zones.now piece.now.most number
-        (record_at piece.now.bytes.now given.now).fields ≡ Some kind) }
+    requires lookup { IsLookup piece.now given.now lookup.now }
+    ensures { MatchResult result (IsSoundQuery piece.now number given.now lookup.now)
+        (λ kind. fault_at piece.now number given.now ≡ Some kind) }
 {
     if piece.most < number {
         return Err(RowKind::TooManyRows);
@@ -134,10 +136,10 @@ fn query(
     if !piece.layout.count.admits(given.count) {
         return Err(RowKind::RowFields);
     }
-    let Some(file) = asked.file else {
+    let Some(file) = lookup.file else {
         return Err(RowKind::RowZone);
     };
-    let Some(count) = asked.count else {
+    let Some(count) = lookup.count else {
         return Err(RowKind::RowInstant);
     };
     if !is_in_range(count, piece.layout.unit) {
@@ -155,11 +157,13 @@ fn push_count(
     count: i128,
 ) -> Result<(), AllocError>
     requires stands { StandsIn piece.now.bytes.now given.now.time }
-    requires count { count_of piece.now.layout.now.unit
+    requires count { piece.now.layout.now.from ≡ from.Count → count_of piece.now.layout.now.unit
         (field_text piece.now.bytes.now given.now.time) ≡ Some count }
     ensures { OnOk result (text.new.items ≡ text.old.items ++ signed_decimal count) }
 {
-    if let (Field::Plain(span), Unit::Second) = (given.time, piece.layout.unit) {
+    let layout = piece.layout;
+    let asked = (given.time, layout.from, layout.unit);
+    if let (Field::Plain(span), TimeFrom::Count, Unit::Second) = asked {
         let field = span.of(piece.bytes);
         if is_plain(field) {
             return text.extend_from_slice(field);
@@ -186,6 +190,7 @@ fn push_start(
     match piece.layout.start {
         RowStart::Record => text.extend_from_slice(given.own.of(piece.bytes)),
         RowStart::Fields => {
+            prove!(piece.layout.delimiter.byte() <= u8::MAX);
             text.extend_from_slice(piece.zones.name(query.file))?;
             text.push(b',')?;
             push_count(text, piece, given, query.count)
@@ -223,16 +228,17 @@ fn push_row(
 }
 
 impl Rows {
-    /// Returns no rows, with room for the text of some.
-    pub(crate) fn new(alloc: Global, room: usize) -> Result<Rows, AllocError>
-        ensures { IfOk result (λ rows. rows ≡ empty_rows) }
+    /// Returns no rows, whose text is to come into a text that is given, in place of what that holds.
+    pub(crate) fn new(alloc: Global, mut text: RowText) -> Rows
+        ensures { result ≡ empty_rows }
     {
-        Ok(Rows {
-            text: RowText::with_capacity(alloc, room)?,
+        text.clear();
+        Rows {
+            text,
             count: 0,
             fault: None,
             faults: Vec::new(alloc),
-        })
+        }
     }
 
     /// Adds the row of a record, in which all that the row shows is at hand. The record has the
@@ -283,11 +289,11 @@ impl Rows {
         // No name of a file and no instant has a byte that can stand between fields.
         piece.zones.are_sound();
         prove!(piece.layout.delimiter.byte() <= u8::MAX);
-        let asked = asked_by(pen.alloc, piece, given, file)?;
+        let lookup = look_up(pen.alloc, piece, given, file)?;
         let number = piece.first + self.count;
-        match query(piece, number, given, &asked) {
+        match query(piece, number, given, &lookup) {
             Ok(query) => {
-                pen.show(piece, query.file, asked.state);
+                pen.show(piece, query.file, lookup.state);
                 pen.row.clear();
                 push_row(&mut pen.row, piece, given, query, &mut pen.writer)?;
             }
@@ -313,11 +319,12 @@ impl Rows {
         &mut self,
         piece: &Piece<'_, '_>,
         given: &Record,
-        known: &Known<'_>,
+        known: &Known,
+        states: &RowStates<'_>,
         pen: &mut RowPen,
     ) -> Result<(), AllocError>
         requires split { IsSplit piece.now.bytes.now (wanted_by piece.now.layout.now) given.now }
-        requires known { IsKnown piece.now given.now known.now }
+        requires known { IsKnown piece.now given.now states.now.states known.now }
         requires fits { piece.now.first + self.old.count + 1 < 2 ^ 64 }
         requires pen { IsPen piece.now.zones.now pen.old }
         ensures pen { IsPen piece.now.zones.now pen.new }
@@ -325,8 +332,9 @@ impl Rows {
             (piece.now.first + self.old.count) (put_back piece.now.layout.now.delimiter
             (record_at piece.now.bytes.now given.now)) self.old self.new) }
     {
-        match known.row() {
-            Some(row) if piece.first + self.count <= piece.most => {
+        let counts = matches!(piece.layout.from, TimeFrom::Count);
+        match known.row(states) {
+            Some(row) if counts && piece.first + self.count <= piece.most => {
                 self.add_quick(piece, given, &row)
             }
             _ => self.add_checked(piece, given, known.zone, pen),
@@ -339,18 +347,18 @@ impl Rows {
         &mut self,
         piece: &Piece<'_, '_>,
         batch: &Batch,
-        texts: &[Option<&StateText>],
+        shown: &ShownStates<'_>,
         count: usize,
         pen: &mut RowPen,
     ) -> Result<(), AllocError>
         requires columns { AreColumns piece.now batch.now count }
-        requires long { count ≤ length texts.now }
-        requires texts { AreTexts piece.now batch.now count texts.now }
+        requires long { count ≤ length shown.now.numbers }
+        requires states { AreStates piece.now batch.now count shown.now }
         requires goes_on { self.old.fault ≡ None }
         requires fits { piece.now.first + self.old.count + count < 2 ^ 64 }
         requires pen { IsPen piece.now.zones.now pen.old }
         ensures pen { IsPen piece.now.zones.now pen.new }
-        ensures rows { (before : List Whole) → AreRowsOf piece.now.layout.now piece.now.zones.now
+        ensures rows { (before : List CsvRecord) → AreRowsOf piece.now.layout.now piece.now.zones.now
             piece.now.most piece.now.first before self.old → OnOk result (AreRowsOf
             piece.now.layout.now piece.now.zones.now piece.now.most piece.now.first
             (before ++ records_of piece.now batch.now count) self.new) }
@@ -361,9 +369,9 @@ impl Rows {
             let known = Known {
                 zone: batch.zones[i],
                 time: batch.times[i],
-                text: texts[i],
+                state: shown.numbers[i],
             };
-            self.add(piece, &batch.records[i], &known, pen)?;
+            self.add(piece, &batch.records[i], &known, &shown.states, pen)?;
             if self.fault.is_some() {
                 return Ok(());
             }

@@ -1,8 +1,9 @@
 -- Some records of a piece, column by column: each column is told by those before it.
-use Rattle.std.specs.Borrow.{Bor}
-use Rattle.std.specs.Prelude.{◌≡◌, ◌<◌, ◌≤◌, true, ℕ, ℤ, List, Option, Some, None, IfSome, All, length, map, slice_index_or, string_bytes, take}
+use Rattle.std.specs.Prelude.{◌≡◌, ◌≢◌, ◌<◌, ◌≤◌, true, ℕ, ℤ, pos, List, Option, Some, None, IfSome, All, length, map, slice_index, slice_index_or, string_bytes, take}
+use Rattle.zic_base.specs.Check.{first_failed}
 use Rattle.zic_base.specs.State.{Shown}
-use Rattle.zic_columns.specs.Own.{Whole}
+use Rattle.zic_base.specs.declared.row_fault.RowKind.{RowKind}
+use Rattle.zic_columns.specs.Own.{CsvRecord}
 use Rattle.zic_columns.specs.Record.{IsSplit, bytes_at, record_at}
 use Rattle.zic_columns.specs.declared.splits.TheConstants.{BATCH}
 use Rattle.zic_columns.specs.declared.fields.Field.{Field}
@@ -13,23 +14,28 @@ use Rattle.zic_columns.specs.declared.fields.Wanted.{Wanted}
 use Rattle.zic_files.specs.File.{File}
 use Rattle.zic_plan.specs.Layout.{has_count}
 use Rattle.zic_plan.specs.declared.layout.Layout.{Layout}
+use Rattle.zic_plan.specs.declared.layout.TimeFrom.TheVariants as from
 use Rattle.zic_plan.specs.declared.layout.Unit.{Unit}
+use Rattle.zic_plan.specs.declared.layout.Unit.TheVariants as unit
 use Rattle.zic_plan.specs.declared.layout.ZoneFrom.{ZoneFrom}
 use Rattle.zic_plan.specs.declared.layout.ZoneFrom.TheVariants as zone
 use Rattle.zic_rows.specs.Count.{second_of}
 use Rattle.zic_rows.specs.Instant.{IsRowInstant}
 use Rattle.zic_rows.specs.PlainTime.{IsPlainTime}
 use Rattle.zic_rows.specs.declared.row_time.RowTime.{RowTime}
+use Rattle.zic_zones.specs.States.{HasState}
 use Rattle.zic_zones.specs.Zones.{AnswersAt, IsShownAt, number_of, zone_in}
-use Rattle.zic_convert.specs.LayoutRows.{count_in, fault_by}
+use Rattle.zic_convert.specs.LayoutRows.{checks_of, count_in}
 use Rattle.zic_convert.specs.code.Row.{put_back}
 use Rattle.zic_convert.specs.declared.piece.Piece.{Piece}
 use Rattle.zic_convert.specs.declared.batch.Batch.{Batch}
-use Rattle.zic_convert.specs.declared.asked.Asked.{Asked}
+use Rattle.zic_convert.specs.declared.batch.TheConstants.{NO_TIME}
+use Rattle.zic_convert.specs.declared.lookup.Lookup.{Lookup}
 use Rattle.zic_convert.specs.declared.quick.Known.{Known}
 use Rattle.zic_convert.specs.declared.quick.QuickRow.{QuickRow}
 use Rattle.zic_convert.specs.declared.row.RowPen.{RowPen}
 use Rattle.zic_convert.specs.declared.row.RowQuery.{RowQuery}
+use Rattle.zic_convert.specs.declared.shown.ShownStates.{ShownStates}
 
 -- the fields that rows need by a layout
 abbrev pub wanted_zone : ZoneFrom → Option ℕ
@@ -45,12 +51,28 @@ blank = record { own = nowhere; count = 0; zone = Plain nowhere; time = Plain no
   nowhere : Span
   nowhere = record { start = 0; end = 0 }
 
+-- a time of no second
+abbrev pub blank_time : RowTime
+blank_time = record { second = pos 0; fraction = 0; unit = unit.Second }
+
+-- where the time says something
+abbrev pub IfTime : RowTime → (RowTime → Type 0) → Type 0
+IfTime time holds = time.second ≢ NO_TIME → holds time
+
+-- a record of a piece, with the delimiter put back
+abbrev pub record_of : Piece → Record → CsvRecord
+record_of piece given = put_back piece.layout.now.delimiter (record_at piece.bytes.now given)
+
 -- the number of the file of a record's zone, and the count of its instant
 abbrev pub zone_at : Piece → Record → Option ℕ
 zone_at piece given = number_of piece.zones.now (zone_in piece.layout.now.zone (record_at piece.bytes.now given).fields)
 
 abbrev pub count_at : Piece → Record → Option ℤ
-count_at piece given = count_in piece.layout.now (record_at piece.bytes.now given).fields
+count_at piece given = count_in piece.layout.now (record_of piece given).fields
+
+-- the fault of a record of a piece, as the row of a number
+abbrev pub fault_at : Piece → ℕ → Record → Option RowKind
+fault_at piece number given = first_failed (checks_of piece.layout.now piece.zones.now piece.most number (record_at piece.bytes.now given).fields (count_at piece given))
 
 -- where all rows are in one zone, the number is that of its file
 abbrev pub IsNamed : ZoneFrom → List File → Option ℕ → Type 0
@@ -71,27 +93,26 @@ abbrev pub IsTimeIn : Unit → List ℕ → Field → RowTime → Type 0
 IsTimeIn u bytes (Plain span) time = IsPlainTime u (bytes_at bytes span) time
 IsTimeIn u bytes (Quoted span) time = ⊥
 
--- the record has as many fields as it must have, and the file shows the state at the time
-pub record IsTextFor (piece : Piece) (given : Record) (zone : Option ℕ) (time : Option RowTime) (shown : Shown) : Type 0 where
+-- the record has as many fields as it must have, and the file of its zone shows the state at its time
+pub record IsStateAt (piece : Piece) (given : Record) (zone : Option ℕ) (time : RowTime) (state : Shown) : Type 0 where
+  pub file : ℕ
+  pub zone_is : zone ≡ Some file
+  pub told : time.second ≢ NO_TIME
   pub admitted : has_count piece.layout.now.count given.count ≡ true
-  pub answers : IfSome zone (λ n. IfSome time (λ t. AnswersAt piece.zones.now n t.second shown))
+  pub answers : AnswersAt piece.zones.now file time.second state
 
 -- the times of the first records, where they say anything
-abbrev pub AreTimes : Piece → ℕ → List Record → List (Option RowTime) → Type 0
+abbrev pub AreTimes : Piece → ℕ → List Record → List RowTime → Type 0
 AreTimes piece count records times =
-    (i : ℕ) → i < count → IfSome (slice_index_or times i None) (IsTimeIn piece.layout.now.unit piece.bytes.now (slice_index_or records i blank).time)
+    (i : ℕ) → i < count → IfTime (slice_index_or times i blank_time) (IsTimeIn piece.layout.now.unit piece.bytes.now (slice_index_or records i blank).time)
 
--- and the texts of the states shown then
-abbrev pub AreTexts : Piece → Batch → ℕ → List (Option (Bor Shown)) → Type 0
-AreTexts piece batch count texts = (i : ℕ) → i < count → IfSome (slice_index_or texts i None) (λ text.
-    IsTextFor piece (slice_index_or batch.records i blank) (slice_index_or batch.zones i None) (slice_index_or batch.times i None) text.now)
-
--- a record of a piece, with the delimiter put back
-abbrev pub record_of : Piece → Record → Whole
-record_of piece given = put_back piece.layout.now.delimiter (record_at piece.bytes.now given)
+-- and the numbers of the states shown then
+abbrev pub AreStates : Piece → Batch → ℕ → ShownStates → Type 0
+AreStates piece batch count shown = (i : ℕ) → i < count → HasState shown.states.states (slice_index shown.numbers i)
+    (IsStateAt piece (slice_index_or batch.records i blank) (slice_index_or batch.zones i None) (slice_index_or batch.times i blank_time))
 
 -- the first records of a batch
-abbrev pub records_of : Piece → Batch → ℕ → List Whole
+abbrev pub records_of : Piece → Batch → ℕ → List CsvRecord
 records_of piece batch count = map (record_of piece) (take count batch.records)
 
 -- what is told of the first records of a batch
@@ -102,23 +123,24 @@ pub record AreColumns (piece : Piece) (batch : Batch) (count : ℕ) : Type 0 whe
   pub times : AreTimes piece count batch.records batch.times
 
 -- what is known of a record
-pub record IsKnown (piece : Piece) (given : Record) (known : Known) : Type 0 where
+pub record IsKnown (piece : Piece) (given : Record) (states : List Shown) (known : Known) : Type 0 where
   pub zone : known.zone ≡ zone_at piece given
-  pub time : IfSome known.time (IsTimeIn piece.layout.now.unit piece.bytes.now given.time)
-  pub text : IfSome known.text (λ text. IsTextFor piece given known.zone known.time text.now)
+  pub time : IfTime known.time (IsTimeIn piece.layout.now.unit piece.bytes.now given.time)
+  pub state : HasState states known.state (IsStateAt piece given known.zone known.time)
 
 -- the file of a record's zone, its time in plain decimals, and the state that the file shows then; the record has as many fields as it must have
 pub record IsQuickRow (piece : Piece) (given : Record) (row : QuickRow) : Type 0 where
+  pub from : piece.layout.now.from ≡ from.Count
   pub admitted : has_count piece.layout.now.count given.count ≡ true
   pub file : zone_at piece given ≡ Some row.file
   pub time : IsTimeIn piece.layout.now.unit piece.bytes.now given.time row.time
   pub answers : AnswersAt piece.zones.now row.file row.time.second row.text.now
 
 -- what a record asks for
-pub record IsAsked (piece : Piece) (given : Record) (asked : Asked) : Type 0 where
-  pub file : asked.file ≡ zone_at piece given
-  pub count : asked.count ≡ count_at piece given
-  pub state : IsStateFor piece asked.file asked.count asked.state
+pub record IsLookup (piece : Piece) (given : Record) (lookup : Lookup) : Type 0 where
+  pub file : lookup.file ≡ zone_at piece given
+  pub count : lookup.count ≡ count_at piece given
+  pub state : IsStateFor piece lookup.file lookup.count lookup.state
 
 -- the file of a record's zone, and its count, which a row may have
 pub record IsRowQuery (piece : Piece) (given : Record) (query : RowQuery) : Type 0 where
@@ -126,11 +148,11 @@ pub record IsRowQuery (piece : Piece) (given : Record) (query : RowQuery) : Type
   pub count : count_at piece given ≡ Some query.count
   pub may : IsRowInstant (second_of piece.layout.now.unit query.count)
 
--- the same of what was asked, and the row of this number has no fault
-pub record IsSoundQuery (piece : Piece) (number : ℕ) (given : Record) (asked : Asked) (query : RowQuery) : Type 0 where
-  pub sound : fault_by piece.layout.now piece.zones.now piece.most number (record_at piece.bytes.now given).fields ≡ None
+-- the same of a lookup, and the row of this number has no fault
+pub record IsSoundQuery (piece : Piece) (number : ℕ) (given : Record) (lookup : Lookup) (query : RowQuery) : Type 0 where
+  pub sound : fault_at piece number given ≡ None
   pub is : IsRowQuery piece given query
-  pub state : IsShownAt piece.zones.now query.file (second_of piece.layout.now.unit query.count) asked.state
+  pub state : IsShownAt piece.zones.now query.file (second_of piece.layout.now.unit query.count) lookup.state
 
 -- A pen shows the state of its number of its file, wherever the file shows that state.
 abbrev pub IsPen : List File → RowPen → Type 0

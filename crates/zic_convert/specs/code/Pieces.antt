@@ -6,7 +6,7 @@ use Rattle.zic_files.specs.File.{File}
 use Rattle.zic_plan.specs.declared.layout.Layout.{Layout}
 use Rattle.zic_base.specs.declared.row_fault.RowKind.{RowKind}
 use Rattle.zic_plan.specs.declared.plan.TheConstants.{MAX_OF_PIECE, MAX_ROWS}
-use Rattle.zic_convert.specs.code.Row.{AreRowsOf, RowsOf, wholes_in}
+use Rattle.zic_convert.specs.code.Row.{AreRowsOf, RowsOf, csv_records_in}
 
 -- the layout, the files, the bytes of each piece, the number of the first record as a row, how many rows there may be, how many records a
 -- piece has (the last may have fewer), and whether a piece with a row that ends the run stops the task
@@ -29,7 +29,7 @@ pub record ArePieces (p : Pieces) : Type 0 where
 
 -- the rows of a piece's records
 abbrev pub AreRowsOfPiece : Pieces → ℕ → RowsOf → Type 0
-AreRowsOfPiece p i rows = IfSome (slice_get p.pieces i) (λ piece. AreRowsOf p.layout p.files p.most (p.first + i * p.size) (wholes_in p.layout.delimiter piece) rows)
+AreRowsOfPiece p i rows = IfSome (slice_get p.pieces i) (λ piece. AreRowsOf p.layout p.files p.most (p.first + i * p.size) (csv_records_in p.layout.delimiter piece) rows)
 
 -- The outcome of a piece: its rows, up to the first that ends the run, or, where that is to stop the task, a fault.
 abbrev pub IsOutcomeOf : Pieces → ℕ → Result RowsOf (Unit {0}) → Type 0

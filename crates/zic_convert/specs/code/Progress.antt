@@ -4,7 +4,7 @@ use Rattle.std.specs.List.{concat}
 use Rattle.std.specs.Io.KnownBytes.{Appends}
 use Rattle.csv.specs.Reading.{strip_bom}
 use Rattle.zic_columns.specs.Exchange.{exchanged}
-use Rattle.zic_columns.specs.Own.{Whole, own_texts, whole_records}
+use Rattle.zic_columns.specs.Own.{CsvRecord, own_texts, csv_records}
 use Rattle.zic_columns.specs.Round.{ArePiecesOf, ColumnOf, HasNoRecord, TakesRound, unread}
 use Rattle.zic_columns.specs.declared.pieces.TheConstants.{MAX_ROUND_PIECES}
 use Rattle.zic_counted.specs.Counts.{Counts, HasFailedSince}
@@ -17,9 +17,9 @@ use Rattle.zic_base.specs.declared.run_stop.RunStop.{RunStop}
 use Rattle.zic_base.specs.declared.run_stop.RunStop.TheVariants as stop
 use Rattle.zic_files.specs.File.{File}
 use Rattle.zic_convert.specs.Column.{AreRowRecords, header_of, own_header, own_line}
-use Rattle.zic_convert.specs.LayoutRows.{ComeToBy, faults_by}
+use Rattle.zic_convert.specs.LayoutRows.{RecordsConvertBy, faults_by}
 use Rattle.zic_convert.specs.Run.{EndsIn, Notes, Output, WritesRows}
-use Rattle.zic_convert.specs.code.Row.{wholes_in}
+use Rattle.zic_convert.specs.code.Row.{csv_records_in}
 use Rattle.zic_convert.specs.declared.halt.Halt.{Halt}
 use Rattle.zic_convert.specs.declared.halt.Halt.TheVariants as halt
 
@@ -28,42 +28,42 @@ output held held' log log' = record { held = held; held' = held'; log = log; log
 
 -- Where the bytes that are left of a column are known, these records come next, and then those of the bytes that are left then. Their
 -- own bytes have the delimiter put back.
-abbrev pub Takes : ℕ → Option (List ℕ) → Option (List ℕ) → List Whole → Type 0
-Takes delimiter old new wholes = IfSome old (λ bytes. (rest : List ℕ) × (new ≡ Some rest) × (wholes_in delimiter bytes ≡ wholes ++ wholes_in delimiter rest))
+abbrev pub Takes : ℕ → Option (List ℕ) → Option (List ℕ) → List CsvRecord → Type 0
+Takes delimiter old new row_records = IfSome old (λ bytes. (rest : List ℕ) × (new ≡ Some rest) × (csv_records_in delimiter bytes ≡ row_records ++ csv_records_in delimiter rest))
 
 -- Where the bytes that are left are known, these records come next.
-abbrev pub ComeNext : ℕ → Option (List ℕ) → List Whole → Type 0
-ComeNext delimiter left wholes = IfSome left (λ bytes. (more : List Whole) × (wholes_in delimiter bytes ≡ wholes ++ more))
+abbrev pub ComeNext : ℕ → Option (List ℕ) → List CsvRecord → Type 0
+ComeNext delimiter left row_records = IfSome left (λ bytes. (more : List CsvRecord) × (csv_records_in delimiter bytes ≡ row_records ++ more))
 
 -- Of these records this number was converted and written, none of which ends the run, and the bytes that are left have the others.
-pub record IsSoFar (layout : Layout) (files : List File) (most : ℕ) (all : List Whole) (left : Option (List ℕ)) (count : ℕ) (out : Output) : Type 0 where
-  pub wholes : List Whole
+pub record IsSoFar (layout : Layout) (files : List File) (most : ℕ) (all : List CsvRecord) (left : Option (List ℕ)) (count : ℕ) (out : Output) : Type 0 where
+  pub row_records : List CsvRecord
   pub texts : List (List ℕ)
   pub rest : List ℕ
   pub bytes : left ≡ Some rest
-  pub goes_on : all ≡ wholes ++ wholes_in layout.delimiter rest
-  pub come : ComeToBy layout files most 1 wholes texts None
+  pub goes_on : all ≡ row_records ++ csv_records_in layout.delimiter rest
+  pub come : RecordsConvertBy layout files most 1 row_records texts None
   pub counted : count ≡ length texts
   pub wrote : Appends out.held out.held' (concat texts)
-  pub noted : Notes out.log out.log' (faults_by layout files most 1 wholes)
+  pub noted : Notes out.log out.log' (faults_by layout files most 1 row_records)
 
 -- by these files, all rows of the bytes that were left, where they are known, were written, there are n, and their faults were noted
 abbrev pub ConvertsRest : Layout → ℕ → Option (List ℕ) → ℕ → Output → List File → Type 0
-ConvertsRest layout most known n out files = IfSome known (λ bytes. WritesRows layout files most [] (wholes_in layout.delimiter bytes) n out)
+ConvertsRest layout most known n out files = IfSome known (λ bytes. WritesRows layout files most [] (csv_records_in layout.delimiter bytes) n out)
 
 -- the conversion of those bytes ended early
 abbrev pub EndsInRest : Layout → ℕ → Option (List ℕ) → RunStop → Output → List File → Type 0
-EndsInRest layout most known why out files = IfSome known (λ bytes. EndsIn layout files most [] (wholes_in layout.delimiter bytes) why out)
+EndsInRest layout most known why out files = IfSome known (λ bytes. EndsIn layout files most [] (csv_records_in layout.delimiter bytes) why out)
 
 -- by these files, all rows of a column were written below its own header
 abbrev pub ConvertsColumn : Layout → ℕ → Option (List ℕ) → ℕ → Output → List File → Type 0
 ConvertsColumn layout most known n out files = IfSome known (λ column.
-    (wholes : List Whole) × AreRowRecords layout column wholes × WritesRows layout files most (own_line layout column) wholes n out)
+    (row_records : List CsvRecord) × AreRowRecords layout column row_records × WritesRows layout files most (own_line layout column) row_records n out)
 
 -- the conversion of that column ended early
 abbrev pub EndsInColumn : Layout → ℕ → Option (List ℕ) → RunStop → Output → List File → Type 0
 EndsInColumn layout most known why out files = IfSome known (λ column.
-    (wholes : List Whole) × AreRowRecords layout column wholes × EndsIn layout files most (own_line layout column) wholes why out)
+    (row_records : List CsvRecord) × AreRowRecords layout column row_records × EndsIn layout files most (own_line layout column) row_records why out)
 
 -- the column's own header with names added, but for the delimiter of the column
 abbrev pub own_line_in : Layout → List ℕ → List ℕ
@@ -71,7 +71,7 @@ own_line_in layout column = header_of layout.start layout.delimiter (exchanged l
 
 -- The bytes that are left of a column have its records after those that are a header.
 abbrev pub BeginsRows : Header → List ℕ → Option (List ℕ) → Type 0
-BeginsRows header column left = (rest : List ℕ) × (left ≡ Some rest) × (whole_records rest ≡ drop (records_before header) (whole_records (strip_bom column)))
+BeginsRows header column left = (rest : List ℕ) × (left ≡ Some rest) × (csv_records rest ≡ drop (records_before header) (csv_records (strip_bom column)))
 
 -- the conversion of a column, where its bytes are known, ended before its rows began
 abbrev pub HaltsAtHead : {W : Type 0} → (W → Option (List ℕ)) → Counts W → Counts W → Layout → Option (List ℕ) → Halt → Type 0

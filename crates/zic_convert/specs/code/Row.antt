@@ -3,30 +3,30 @@ use Rattle.std.specs.Prelude.{◌≡◌, ◌+◌, ℕ, ℤ, List, [], ◌∷◌,
 use Rattle.std.specs.Fmt.{signed_decimal}
 use Rattle.std.specs.List.{concat, flat_map}
 use Rattle.zic_columns.specs.Exchange.{exchanged}
-use Rattle.zic_columns.specs.Own.{Whole, whole_records}
+use Rattle.zic_columns.specs.Own.{CsvRecord, csv_records}
 use Rattle.zic_files.specs.File.{File}
 use Rattle.zic_plan.specs.declared.layout.Layout.{Layout}
 use Rattle.zic_plan.specs.declared.layout.RowStart.{RowStart}
 use Rattle.zic_plan.specs.declared.layout.RowStart.TheVariants as start
 use Rattle.zic_base.specs.declared.row_fault.RowFault.{RowFault}
 use Rattle.zic_base.specs.declared.row_fault.RowKind.{RowKind}
-use Rattle.zic_convert.specs.LayoutRows.{ComeToBy, IsRowBy, ends_by, fault_by, faults_by, noted}
+use Rattle.zic_convert.specs.LayoutRows.{RecordsConvertBy, IsRowBy, ends_by, fault_by, faults_by, noted}
 
 -- a record, in whose own bytes and fields the comma and the delimiter are put back in their places
-abbrev pub put_back : ℕ → Whole → Whole
-put_back delimiter whole = record { own = exchanged delimiter whole.own; fields = map (exchanged delimiter) whole.fields }
+abbrev pub put_back : ℕ → CsvRecord → CsvRecord
+put_back delimiter row_record = record { own = exchanged delimiter row_record.own; fields = map (exchanged delimiter) row_record.fields }
 
 -- the records of bytes in which the comma and the delimiter stand in each other's place, with the two put back
-abbrev pub wholes_in : ℕ → List ℕ → List Whole
-wholes_in delimiter bytes = map (put_back delimiter) (whole_records bytes)
+abbrev pub csv_records_in : ℕ → List ℕ → List CsvRecord
+csv_records_in delimiter bytes = map (put_back delimiter) (csv_records bytes)
 
 -- those of pieces, one piece after another
-abbrev pub wholes_of_all : ℕ → List (List ℕ) → List Whole
-wholes_of_all delimiter pieces = flat_map (wholes_in delimiter) pieces
+abbrev pub wholes_of_all : ℕ → List (List ℕ) → List CsvRecord
+wholes_of_all delimiter pieces = flat_map (csv_records_in delimiter) pieces
 
 -- the fields of each record
-abbrev pub fields_of_all : List Whole → List (List (List ℕ))
-fields_of_all wholes = map (λ (w : Whole). w.fields) wholes
+abbrev pub fields_of_all : List CsvRecord → List (List (List ℕ))
+fields_of_all row_records = map (λ (w : CsvRecord). w.fields) row_records
 
 -- what a row begins with, before the delimiter is put back: with an instant as its field has it, or by its count
 abbrev pub field_start : RowStart → List ℕ → List ℕ → List ℕ → List ℕ
@@ -48,15 +48,15 @@ abbrev pub empty_rows : RowsOf
 empty_rows = record { text = []; count = 0; fault = None; faults = [] }
 
 -- the outcome of these records, by a layout, the first of which is the row of this number
-pub record AreRowsOf (layout : Layout) (files : List File) (most first : ℕ) (wholes : List Whole) (rows : RowsOf) : Type 0 where
+pub record AreRowsOf (layout : Layout) (files : List File) (most first : ℕ) (row_records : List CsvRecord) (rows : RowsOf) : Type 0 where
   pub texts : List (List ℕ)
-  pub come : ComeToBy layout files most first wholes texts rows.fault
+  pub come : RecordsConvertBy layout files most first row_records texts rows.fault
   pub text : rows.text ≡ concat texts
   pub count : rows.count ≡ length texts
-  pub faults : rows.faults ≡ faults_by layout files most first wholes
+  pub faults : rows.faults ≡ faults_by layout files most first row_records
 
 -- Rows, and those with the row of one record more, as the row of a number, or with the fault that ends the run there.
-abbrev pub AreNext : Layout → List File → ℕ → ℕ → Whole → RowsOf → RowsOf → Type 0
-AreNext layout files most number whole old new = MatchOption (ends_by layout files most number whole.fields)
-    ((row : List ℕ) × IsRowBy layout files most number whole row × (new ≡ record { text = old.text ++ row; count = old.count + 1; fault = old.fault; faults = old.faults ++ noted number (fault_by layout files most number whole.fields) }))
+abbrev pub AreNext : Layout → List File → ℕ → ℕ → CsvRecord → RowsOf → RowsOf → Type 0
+AreNext layout files most number row_record old new = MatchOption (ends_by layout files most number row_record.fields)
+    ((row : List ℕ) × IsRowBy layout files most number row_record row × (new ≡ record { text = old.text ++ row; count = old.count + 1; fault = old.fault; faults = old.faults ++ noted number (fault_by layout files most number row_record.fields) }))
     (λ kind. new ≡ record old { fault = Some kind })

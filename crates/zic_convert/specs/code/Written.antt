@@ -2,7 +2,7 @@
 use Rattle.std.specs.Prelude.{◌≡◌, ℕ, ◌+◌, ◌⊎◌, true, List, [], ◌++◌, take, Option, Some, None}
 use Rattle.std.specs.Io.{StartsWith}
 use Rattle.std.specs.Io.KnownBytes.{Appends}
-use Rattle.zic_columns.specs.Own.{Whole}
+use Rattle.zic_columns.specs.Own.{CsvRecord}
 use Rattle.zic_counted.specs.Counts.{Counts, HasFailedSince}
 use Rattle.zic_counted.specs.Written.{FailsWithin}
 use Rattle.zic_files.specs.File.{File}
@@ -63,10 +63,10 @@ WritesRound p contents old new log log' count =
 
 -- of the rows of these records, those of the first records were written, and their faults noted, and then the writer failed
 pub record FailsInRows {W : Type 0} (contents : W → Option (List ℕ)) (old new : Counts W) (log log' : Option (List RowFault))
-    (layout : Layout) (files : List File) (most first : ℕ) (wholes : List Whole) (rows : RowsOf) : Type 0 where
-  pub done : List Whole
-  pub more : List Whole
-  pub parts : wholes ≡ done ++ more
+    (layout : Layout) (files : List File) (most first : ℕ) (row_records : List CsvRecord) (rows : RowsOf) : Type 0 where
+  pub done : List CsvRecord
+  pub more : List CsvRecord
+  pub parts : row_records ≡ done ++ more
   pub front : RowsOf
   pub are : AreRowsOf layout files most first done front
   pub fails : FailsAfter contents old new front.text rows.text
@@ -74,10 +74,10 @@ pub record FailsInRows {W : Type 0} (contents : W → Option (List ℕ)) (old ne
 
 -- the rows of records were written up to one that ends the run, or up to where the writer failed
 abbrev pub EndsInRows : {W : Type 0} → (W → Option (List ℕ)) → Counts W → Counts W → Option (List RowFault) → Option (List RowFault)
-    → Layout → List File → ℕ → ℕ → List Whole → RowsOf → RunStop → Type 0
-EndsInRows contents old new log log' layout files most first wholes rows (stop.Row row kind) = StopsAtRow contents old new log log' first rows row kind
-EndsInRows contents old new log log' layout files most first wholes rows stop.WriteFailed = FailsInRows contents old new log log' layout files most first wholes rows
-EndsInRows contents old new log log' layout files most first wholes rows _ = ⊥
+    → Layout → List File → ℕ → ℕ → List CsvRecord → RowsOf → RunStop → Type 0
+EndsInRows contents old new log log' layout files most first row_records rows (stop.Row row kind) = StopsAtRow contents old new log log' first rows row kind
+EndsInRows contents old new log log' layout files most first row_records rows stop.WriteFailed = FailsInRows contents old new log log' layout files most first row_records rows
+EndsInRows contents old new log log' layout files most first row_records rows _ = ⊥
 
 -- the rows of a round before one that ends the run were written, or the writer failed, or memory ran out
 abbrev pub EndsInRound : {W : Type 0} → Pieces → (W → Option (List ℕ)) → Counts W → Counts W → Option (List RowFault) → Option (List RowFault) → RunStop → Type 0

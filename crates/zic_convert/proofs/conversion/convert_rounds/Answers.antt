@@ -8,8 +8,8 @@ use Rattle.zic_convert.proofs.Progress.{no_piece, round_taken}
 use Rattle.zic_convert.proofs.Rounds.{far_at_start, far_on, flush_fails, no_round, round_ends, rounds_done}
 use Rattle.zic_convert.proofs.conversion.convert_rounds.Goals as goal
 
-pub loop-column-init : goal.loop-column-init
-loop-column-init g c = record {
+pub loop-spare-init : goal.loop-spare-init
+loop-spare-init g c = record {
   within = search rules;
   failures = refl;
   grown = g.met.Z.Zones.same c.args.zones.now;
@@ -20,7 +20,7 @@ loop-column-init g c = record {
 
 pub returns-in_err-next_round-clause-halt : goal.returns-in_err-next_round-clause-halt
 returns-in_err-next_round-clause-halt g c =
-    let l = c.loop-column in
+    let l = c.loop-spare in
     let layout = c.args.conversion.now.layout.now in
     let plan = c.args.conversion.now.plan.now in
     let contents = g.W.Write.contents in
@@ -36,7 +36,7 @@ returns-in_err-next_round-clause-halt g c =
 
 pub returns-in_err-count-clause-halt : goal.returns-in_err-count-clause-halt
 returns-in_err-count-clause-halt g c =
-    let l = c.loop-column in
+    let l = c.loop-spare in
     let layout = c.args.conversion.now.layout.now in
     let plan = c.args.conversion.now.plan.now in
     let contents = g.W.Write.contents in
@@ -56,9 +56,9 @@ returns-in_err-count-clause-halt g c =
     c.files_answer_once.ensures layout plan known left l.count held l.writer log now c.args.zones.now l.zones l.invariant.grown l.invariant.far
     then grows pieces next takes.takes c.byte.ensures.sound c.in_ok-next_round.ensures.settled c.convert_ready.new.writer (g.L.FaultLog.noted c.convert_ready.new.log) c.in_err-count.field-0.0 ends)
 
-pub overflow_add-count-in-loop-column : goal.overflow_add-count-in-loop-column
-overflow_add-count-in-loop-column g c =
-    let l = c.loop-column in
+pub overflow_add-count : goal.overflow_add-count
+overflow_add-count g c =
+    let l = c.loop-spare in
     let layout = c.args.conversion.now.layout.now in
     let plan = c.args.conversion.now.plan.now in
     let contents = g.W.Write.contents in
@@ -77,9 +77,9 @@ overflow_add-count-in-loop-column g c =
     let fits : l.count + c.in_ok-count.field-0 < 18446744073709551616 = omega (arith, wrote.1, within, c.max_rows.ensures.plan.max_rows) in
     search (rules, fits)
 
-pub loop-column-smaller : goal.loop-column-smaller
-loop-column-smaller g c =
-    let l = c.loop-column in
+pub loop-spare-smaller : goal.loop-spare-smaller
+loop-spare-smaller g c =
+    let l = c.loop-spare in
     let layout = c.args.conversion.now.layout.now in
     let plan = c.args.conversion.now.plan.now in
     let contents = g.W.Write.contents in
@@ -98,9 +98,9 @@ loop-column-smaller g c =
     let filled = some_records layout.delimiter plan.row_piece pieces (takes.some.0 c.if-branch.true) (omega (arith, c.max_rows.ensures.plan.row_piece.0)) takes.cut in
     omega (arith, wrote.1, many, filled, l.invariant.within)
 
-pub loop-column-preserved : goal.loop-column-preserved
-loop-column-preserved g c =
-    let l = c.loop-column in
+pub loop-spare-preserved : goal.loop-spare-preserved
+loop-spare-preserved g c =
+    let l = c.loop-spare in
     let layout = c.args.conversion.now.layout.now in
     let plan = c.args.conversion.now.plan.now in
     let contents = g.W.Write.contents in
@@ -128,7 +128,7 @@ loop-column-preserved g c =
 
 pub returns-in_err-flush-clause-halt : goal.returns-in_err-flush-clause-halt
 returns-in_err-flush-clause-halt g c =
-    let l = c.loop-column in
+    let l = c.loop-spare in
     let layout = c.args.conversion.now.layout.now in
     let plan = c.args.conversion.now.plan.now in
     let contents = g.W.Write.contents in
@@ -148,11 +148,11 @@ returns-in_err-flush-clause-halt g c =
     then grows pieces next takes.takes c.flush.new.writer c.in_err-flush.ensures.err.1)
 
 pub returns-clause-grown : goal.returns-clause-grown
-returns-clause-grown g c = g.met.Z.Zones.then c.args.zones.now c.loop-column.zones c.next_round.new.zones c.loop-column.invariant.grown c.in_ok-next_round.ensures.grown
+returns-clause-grown g c = g.met.Z.Zones.then c.args.zones.now c.loop-spare.zones c.next_round.new.zones c.loop-spare.invariant.grown c.in_ok-next_round.ensures.grown
 
 pub returns-clause-all : goal.returns-clause-all
 returns-clause-all g c =
-    let l = c.loop-column in
+    let l = c.loop-spare in
     let layout = c.args.conversion.now.layout.now in
     let plan = c.args.conversion.now.plan.now in
     let contents = g.W.Write.contents in

@@ -37,12 +37,12 @@ returns-in_err-write_all-clause-err g c =
     let rows = c.rows-item.result in
     let front = joined (take i pieces) in
     let (more, next) = front_more pieces (i + 1) in
-    let whole = next ∙ ap (λ (l : List ℕ). l ++ more) (next_text pieces i rows (omega arith) c.rows-item.is inv.goes_on) in
+    let row_record = next ∙ ap (λ (l : List ℕ). l ++ more) (next_text pieces i rows (omega arith) c.rows-item.is inv.goes_on) in
     let failed = c.in_err-write_all.ensures.err in
     let text = c.bytes.ensures ∙ ap (λ (r : RowsOf). r.text) c.rows.view_is in
     let fails = subst (λ (l : List ℕ). FailsWithin contents c.loop-rows.writer c.write_all.new.writer l) text failed.1 in
     let p = err_from_is_err_and c.from_residual.result c.from_residual.ensures.1 in
-    rw (p.1, p.2, failed.0) (i, fails_after contents c.args.writer.now c.loop-rows.writer c.write_all.new.writer front.text rows.text more (joined pieces).text whole inv.wrote fails, inv.noted)
+    rw (p.1, p.2, failed.0) (i, fails_after contents c.args.writer.now c.loop-rows.writer c.write_all.new.writer front.text rows.text more (joined pieces).text row_record inv.wrote fails, inv.noted)
 
 pub returns-in-Some-clause-err : goal.returns-in-Some-clause-err
 returns-in-Some-clause-err g c =
@@ -78,9 +78,9 @@ returns-in_err-flush-clause-err g c =
     let front = joined (take i pieces) in
     let failed = c.in_err-flush.ensures.err in
     let (more, next) = front_more pieces i in
-    let whole = next ∙ ap (λ (l : List ℕ). l ++ more) (sym (append-nil front.text)) in
+    let row_record = next ∙ ap (λ (l : List ℕ). l ++ more) (sym (append-nil front.text)) in
     let p = err_from_is_err_and c.from_residual-in_err-flush.result c.from_residual-in_err-flush.ensures.1 in
-    rw (p.1, p.2, failed.0) (i, fails_after contents c.args.writer.now c.loop-rows.writer c.flush.new.writer front.text [] more (joined pieces).text whole inv.wrote failed.1, inv.noted)
+    rw (p.1, p.2, failed.0) (i, fails_after contents c.args.writer.now c.loop-rows.writer c.flush.new.writer front.text [] more (joined pieces).text row_record inv.wrote failed.1, inv.noted)
 
 pub returns-clause-ok : goal.returns-clause-ok
 returns-clause-ok g c =

@@ -16,9 +16,10 @@ loop-count-init c =
     let new = c.new-splitter.ensures in
     let fill = c.fill-count.ensures in
     record {
+      files = rw c.new-shown.ensures c.states.ensures;
       pen = rw c.new-pen.ensures tt;
       bound = subst (λ l. length l ≤ length piece.bytes.now + 1) new.left new.few;
-      far = far_at_first piece c.in_ok-rows.rows _ c.fill-count.result c.new-splitter.result c.fill-count.new.self c.in_ok-rows.ensures fill.long new.left new.piece (new.wanted ∙ c.wanted_by.ensures)
+      far = far_at_first piece c.new-rows.result _ c.fill-count.result c.new-splitter.result c.fill-count.new.self c.new-rows.ensures fill.long new.left new.piece (new.wanted ∙ c.wanted_by.ensures)
           fill.piece fill.wanted fill.few fill.split fill.each fill.end;
     }
 
@@ -52,6 +53,7 @@ loop-count-preserved c =
     let same = λ (records : List Record). AreRowsOf c.args.piece.now.layout.now c.args.piece.now.zones.now c.args.piece.now.most c.args.piece.now.first
     (l.invariant.far.done ++ map (record_of c.args.piece.now) (take l.count records)) c.add_all.new.self in
     record {
+      files = rw c.find.ensures.states l.invariant.files;
       pen = added.pen;
       bound = l.invariant.bound;
       far = far_after c.args.piece.now l.rows l.batch l.count l.splitter l.invariant.far c.add_all.new.self _ fill.result fill.new.self fill.ensures.long none

@@ -1,13 +1,14 @@
-use Rattle.std.proofs.Common.{◌+◌, ◌≤◌, length}
-use Rattle.zic_columns.specs.Own.{whole_records}
+use Rattle.std.proofs.Common.{◌≡◌, ◌+◌, ◌≤◌, length}
+use Rattle.zic_columns.specs.Own.{csv_records}
 use Rattle.zic_convert.specs.code.Batch.{IsPen}
 use Rattle.zic_convert.specs.code.Piece.{AreSoFar}
 use Rattle.zic_convert.proofs.piece.rows_of_piece.Given as goal
 
 abbrev pub invariant-loop-count : goal.invariant-loop-count
 invariant-loop-count l = record {
+  files : l.shown.states.files ≡ l.piece.zones.now;
   pen : IsPen l.piece.zones.now l.pen;
-  bound : length (whole_records l.piece.bytes.now) ≤ length l.piece.bytes.now + 1;
+  bound : length (csv_records l.piece.bytes.now) ≤ length l.piece.bytes.now + 1;
   far : AreSoFar l.piece l.rows l.batch l.count l.splitter;
 }
 

@@ -18,7 +18,7 @@ returns c =
     let row = c.args.row.now in
     let part = bytes_at piece.bytes.now c.in_ok-last.last in
     let rest = timed_rest_text row.time.unit row.time.second row.time.fraction row.text.now in
-    let whole : c.push_row.new.self ≡ (c.push_front.new.text ++ part) ++ rest = c.in_ok-push_row.ensures ∙ sym (append_assoc c.push_front.new.text part rest) in
+    let row_record : c.push_row.new.self ≡ (c.push_front.new.text ++ part) ++ rest = c.in_ok-push_row.ensures ∙ sym (append_assoc c.push_front.new.text part rest) in
     let (made, text, is) = quick_text_made piece given row c.requires.split c.requires.row (time_read piece given row c.requires.split c.requires.row)
-    c.args.text.now (c.push_front.new.text ++ part) c.push_row.new.self c.len-start.result c.len-start.ensures c.byte.ensures.sound c.are_sound.ensures c.in_ok-last.ensures.text whole in
+    c.args.text.now (c.push_front.new.text ++ part) c.push_row.new.self c.len-start.result c.len-start.ensures c.byte.ensures.sound c.are_sound.ensures c.in_ok-last.ensures.text row_record in
     (made, rw c.byte.ensures.byte at c.put_back.ensures ∙ text, is)

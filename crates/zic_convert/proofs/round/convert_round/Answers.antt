@@ -5,8 +5,8 @@ use Rattle.zic_convert.proofs.round.convert_round.Goals as goal
 pub run_task-requires-clause-pieces : goal.run_task-requires-clause-pieces
 run_task-requires-clause-pieces g c κs within = c.requires.few
 
-pub write_round-requires : goal.write_round-requires
-write_round-requires g c = rw c.deref.ensures.value c.in-Ok.ensures.ok
+pub write_round-written-requires : goal.write_round-written-requires
+write_round-written-requires g c = rw c.deref.ensures.value c.in-Ok.ensures.ok
 
 pub returns-in-Err-Fault-clause-ok : goal.returns-in-Err-Fault-clause-ok
 returns-in-Err-Fault-clause-ok g c =

@@ -19,12 +19,12 @@ returns-clause-text c =
     let old = c.args.text.now.items in
     let own = bytes_at piece.bytes.now given.own in
     let name = zone_in layout.zone (record_at piece.bytes.now given).fields in
-    let whole : FitsSigned w128 query.count = search rules in
+    let row_record : FitsSigned w128 query.count = search rules in
     let rest = counted_rest_text layout.unit query.count c.args.writer.now in
     let row = comma_start layout.start own name query.count ++ rest in
     let at : c.len-start.result ≡ length old = search rules in
     let begun : c.push_start.new.text.items ≡ old ++ comma_start layout.start own name query.count = c.in_ok-push_start.ensures in
-    let written = rw (to_z-of_z whole) at c.in_ok-push_counted_rest.ensures.ok in
+    let written = rw (to_z-of_z row_record) at c.in_ok-push_counted_rest.ensures.ok in
     let all : c.push_counted_rest.new.text.items ≡ old ++ row =
     written ∙ ap (λ (l : List ℕ). l ++ rest) begun ∙ append_assoc old (comma_start layout.start own name query.count) rest in
     let put = row_exchanged d c.len-start.result old row c.push_counted_rest.new.text.items at all in (

@@ -6,20 +6,20 @@ use Rattle.zic_convert.proofs.row.query.Goals as goal
 pub returns-in_default : goal.returns-in_default
 returns-in_default c =
     let admits = sym (rw c.requires.split.count at c.if-not-admits.ensures) in
-    zone_missing c.args.piece.now c.args.number c.args.given.now c.if-piece-number.false admits (sym c.requires.asked.file ∙ c.in_default.is)
+    zone_missing c.args.piece.now c.args.number c.args.given.now c.if-piece-number.false admits (sym c.requires.lookup.file ∙ c.in_default.is)
 
 pub returns-in_default-count : goal.returns-in_default-count
 returns-in_default-count c =
     let admits = sym (rw c.requires.split.count at c.if-not-admits.ensures) in
-    count_missing c.args.piece.now c.args.number c.args.given.now c.if-piece-number.false admits c.in-Some.file (sym c.requires.asked.file ∙ c.in-Some.is)
-    (sym c.requires.asked.count ∙ c.in_default-count.is)
+    count_missing c.args.piece.now c.args.number c.args.given.now c.if-piece-number.false admits c.in-Some.file (sym c.requires.lookup.file ∙ c.in-Some.is)
+    (sym c.requires.lookup.count ∙ c.in_default-count.is)
 
 pub returns-then-not-is_in_range : goal.returns-then-not-is_in_range
 returns-then-not-is_in_range c =
     let admits = sym (rw c.requires.split.count at c.if-not-admits.ensures) in
-    let whole : FitsSigned w128 c.in-Some-count.count = search rules in
-    out_of_range c.args.piece.now c.args.number c.args.given.now c.if-piece-number.false admits c.in-Some.file (sym c.requires.asked.file ∙ c.in-Some.is)
-    c.in-Some-count.count (sym c.requires.asked.count ∙ c.in-Some-count.is) (sym (rw (to_z-of_z whole) at c.if-not-is_in_range.ensures))
+    let row_record : FitsSigned w128 c.in-Some-count.count = search rules in
+    out_of_range c.args.piece.now c.args.number c.args.given.now c.if-piece-number.false admits c.in-Some.file (sym c.requires.lookup.file ∙ c.in-Some.is)
+    c.in-Some-count.count (sym c.requires.lookup.count ∙ c.in-Some-count.is) (sym (rw (to_z-of_z row_record) at c.if-not-is_in_range.ensures))
 
 pub returns : goal.returns
 returns c =
@@ -27,13 +27,13 @@ returns c =
     let given = c.args.given.now in
     let count = c.in-Some-count.count in
     let admits = sym (rw c.requires.split.count at c.if-not-admits.ensures) in
-    let whole : FitsSigned w128 count = search rules in
-    let file_is = sym c.requires.asked.file ∙ c.in-Some.is in
-    let count_is = sym c.requires.asked.count ∙ c.in-Some-count.is in
-    let in_range = sym (rw (to_z-of_z whole) at c.if-not-is_in_range.ensures) in
+    let row_record : FitsSigned w128 count = search rules in
+    let file_is = sym c.requires.lookup.file ∙ c.in-Some.is in
+    let count_is = sym c.requires.lookup.count ∙ c.in-Some-count.is in
+    let in_range = sym (rw (to_z-of_z row_record) at c.if-not-is_in_range.ensures) in
     let may = row_may _ in_range in
-    let state = rw (c.in-Some.is, c.in-Some-count.is) at c.requires.asked.state in
-    rw (to_z-of_z whole) (record {
+    let state = rw (c.in-Some.is, c.in-Some-count.is) at c.requires.lookup.state in
+    rw (to_z-of_z row_record) (record {
       sound = no_fault piece c.args.number given c.if-piece-number.false admits c.in-Some.file file_is count count_is in_range;
       is = record { file = file_is; count = count_is; may = may };
       state = state may;

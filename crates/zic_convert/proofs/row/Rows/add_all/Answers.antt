@@ -1,10 +1,8 @@
-use Rattle.std.proofs.Common.{◌≡◌, ◌∷◌, [], ◌++◌, ◌∙◌, ◌+◌, ◌≤◌, List, None, Option, ap, append_assoc, arith, drop, length, map, subst, suc, sym, take}
-use Rattle.std.specs.Borrow.{Bor}
-use Rattle.std.specs.Prelude.{IfSome, IsSome, slice_index_or}
-use Rattle.std.proofs.lemmas.List.{get_or_default, map-append, take_more}
-use Rattle.zic_columns.specs.Own.{Whole}
-use Rattle.zic_base.specs.State.{Shown}
-use Rattle.zic_convert.specs.code.Batch.{IsTextFor, blank, record_of, zone_at}
+use Rattle.std.proofs.Common.{◌≡◌, ◌∷◌, [], ◌++◌, ◌∙◌, ◌+◌, ◌≤◌, List, None, ap, append_assoc, arith, drop, length, map, subst, suc, sym, take}
+use Rattle.std.specs.Prelude.{IsSome, slice_index_or}
+use Rattle.std.proofs.lemmas.List.{map-append, take_more}
+use Rattle.zic_columns.specs.Own.{CsvRecord}
+use Rattle.zic_convert.specs.code.Batch.{blank, record_of, zone_at}
 use Rattle.zic_convert.specs.code.Row.{AreRowsOf, RowsOf}
 use Rattle.zic_convert.proofs.Columns.{one_told}
 use Rattle.zic_convert.proofs.MoreRows.{end_added, not_some, one_counted, records_at, row_added}
@@ -26,8 +24,8 @@ returns-then-is_some-clause-rows c = λ before are.
     let rest = map f (drop (suc l.i) (take c.args.count records)) in
     let one = f (slice_index_or records l.i blank) in
     let all = end_added piece.layout.now piece.zones.now piece.most piece.first first one l.self c.add.new.self (l.invariant.rows before are) l.invariant.none c.in_ok-add.ensures.next some rest in
-    subst (λ (ws : List Whole). AreRowsOf piece.layout.now piece.zones.now piece.most piece.first ws c.add.new.self)
-    (append_assoc before (map f (take l.i records)) (one ∷ rest) ∙ ap (λ (ws : List Whole). before ++ ws) (sym (records_at f records c.args.count l.i blank few c.loop-i-test.true))) all
+    subst (λ (ws : List CsvRecord). AreRowsOf piece.layout.now piece.zones.now piece.most piece.first ws c.add.new.self)
+    (append_assoc before (map f (take l.i records)) (one ∷ rest) ∙ ap (λ (ws : List CsvRecord). before ++ ws) (sym (records_at f records c.args.count l.i blank few c.loop-i-test.true))) all
 
 pub loop-i-preserved : goal.loop-i-preserved
 loop-i-preserved c =
@@ -49,8 +47,8 @@ loop-i-preserved c =
       rows = λ before are.
           let all = row_added piece.layout.now piece.zones.now piece.most piece.first (before ++ map f (take l.i records)) one l.self c.add.new.self (l.invariant.rows before are) l.invariant.none
           c.in_ok-add.ensures.next none in
-          subst (λ (ws : List Whole). AreRowsOf piece.layout.now piece.zones.now piece.most piece.first ws c.add.new.self)
-          (append_assoc before (map f (take l.i records)) (one ∷ []) ∙ ap (λ (ws : List Whole). before ++ ws) (sym parts)) all;
+          subst (λ (ws : List CsvRecord). AreRowsOf piece.layout.now piece.zones.now piece.most piece.first ws c.add.new.self)
+          (append_assoc before (map f (take l.i records)) (one ∷ []) ∙ ap (λ (ws : List CsvRecord). before ++ ws) (sym parts)) all;
     }
 
 pub add-requires-clause-known : goal.add-requires-clause-known
@@ -58,13 +56,11 @@ add-requires-clause-known c =
     let i = c.loop-i.i in
     let piece = c.args.piece.now in
     let batch = c.args.batch.now in
-    let texts = c.args.texts.now in
+    let shown = c.args.shown.now in
     let lt = c.loop-i-test.true in
     let few : c.args.count ≤ length batch.records = omega (arith, c.requires.columns.few, c.told-batch) in
-    let same = c.index-texts-i.is ∙ get_or_default texts i c.index-texts-i.result None (omega (arith, lt, c.requires.long)) in
     record {
       zone = one_told (zone_at piece) batch.records batch.zones c.args.count i blank None few lt c.requires.columns.zones;
       time = c.requires.columns.times i lt;
-      text = subst (λ (o : Option (Bor Shown)). IfSome o (λ t. IsTextFor piece (slice_index_or batch.records i blank) (slice_index_or batch.zones i None) (slice_index_or batch.times i None) t.now))
-          (sym same) (c.requires.texts i lt);
+      state = c.requires.states i lt;
     }

@@ -14,12 +14,12 @@ returns c =
     let given = c.args.given.now in
     let row = c.args.row.now in
     let q = c.self.inside in
-    let whole = record_at piece.bytes.now given in
+    let row_record = record_at piece.bytes.now given in
     let number = piece.first + q.count in
     let old : RowsOf = record { text = q.text; count = q.count; fault = q.fault; faults = q.faults.items } in
-    let same = fault_same d (outside d c.byte.ensures.sound) piece.zones.now c.are_sound.ensures layout piece.most number whole.fields in
+    let same = fault_same d (outside d c.byte.ensures.sound) piece.zones.now c.are_sound.ensures layout piece.most number row_record.fields in
     let none = faultless piece given row c.requires.split c.requires.row (time_read piece given row c.requires.split c.requires.row) number
-    (omega (arith, c.requires.may, ap (λ (r : RowsOf). r.count) c.self.view_is)) in
+    (omega (arith, c.requires.may, ap (λ (r : RowsOf). r.count) c.self.view_is)) c.byte.ensures.sound in
     let (made, text, is) = c.in_ok-push_quick.ensures in
-    rw (← c.self.view_is) (next_row layout piece.zones.now piece.most number (put_back d whole) old _ made (same ∙ none) is
+    rw (← c.self.view_is) (next_row layout piece.zones.now piece.most number (put_back d row_record) old _ made (same ∙ none) is
     (ap (λ (l : List ℕ). record { text = l; count = q.count + 1; fault = q.fault; faults = q.faults.items }) text))

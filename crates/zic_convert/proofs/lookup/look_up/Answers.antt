@@ -1,7 +1,7 @@
 use Rattle.zic_columns.specs.Record.{record_at}
 use Rattle.zic_zones.specs.Zones.{zone_in}
 use Rattle.zic_convert.proofs.Columns.{number_within}
-use Rattle.zic_convert.proofs.asked.asked_by.Goals as goal
+use Rattle.zic_convert.proofs.lookup.look_up.Goals as goal
 
 pub state_of-requires : goal.state_of-requires
 state_of-requires c =

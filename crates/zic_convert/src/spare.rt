@@ -1,0 +1,53 @@
+//! Texts of rows that were written, kept with their room for rows to come.
+
+use crate::row::Rows;
+use std::alloc::{AllocError, Global};
+use std::sync::Mutex;
+use zic_rows::RowText;
+
+/// The longest text that is kept, in bytes.
+const LONGEST_KEPT: usize = 4_194_304;
+
+/// Texts whose rows were written, for the rows of later rounds: a text that is new has its room cleared
+/// first. Several threads may take texts at a time, and none waits for another.
+#[derive(Drop)]
+pub(crate) struct SpareTexts {
+    texts: Mutex<Vec<RowText>>,
+}
+
+impl SpareTexts {
+    /// Returns no texts.
+    pub(crate) fn new(alloc: Global) -> SpareTexts {
+        SpareTexts {
+            texts: Mutex::new(Vec::new(alloc)),
+        }
+    }
+
+    /// Returns a text with room for rows, whatever it holds: one that was kept, or a new one with room
+    /// for as many bytes where none was, or another thread is at the texts just now.
+    pub(crate) fn take(&self, alloc: Global, room: usize) -> Result<RowText, AllocError> {
+        match self.kept() {
+            Some(text) => Ok(text),
+            None => RowText::with_capacity(alloc, room),
+        }
+    }
+
+    /// Returns a text that was kept, if one is at hand.
+    fn kept(&self) -> Option<RowText> {
+        let mut texts = self.texts.try_lock()?;
+        texts.pop()
+    }
+
+    /// Keeps the texts of rows that were written. A text that is too long for that, or that memory is
+    /// refused for, is given up.
+    pub(crate) fn keep(&self, written: Vec<Rows>) {
+        let Some(mut texts) = self.texts.try_lock() else {
+            return;
+        };
+        for rows in written {
+            if rows.text.len() <= LONGEST_KEPT && texts.push(rows.text).is_err() {
+                return;
+            }
+        }
+    }
+}
