@@ -1,3 +1,4 @@
 pub mod ReadingLemmas
 pub mod ZoneLemmas
 pub mod ConvertingLemmas
+pub mod LocalLines

@@ -1,10 +1,15 @@
--- The text that `show` prints.
+-- The text that `show` prints: own choice.
 use Rattle.std.specs.Prelude.{◌≡◌, ℕ, ℤ, if◌then◌else◌, codes, List, [], ◌∷◌, ◌++◌, Option, Some, None}
+use Rattle.std.specs.Fmt.{signed_decimal}
 use Rattle.zic_base.specs.Digits.{offset_text}
 use Rattle.zic_base.specs.State.{Shown}
 use Rattle.zic_tzif.specs.Content.{Content}
 use Rattle.zic_tzif.specs.Answer.{Answers}
 use Rattle.zic_tzif.specs.Reading.{IsFile}
+use Rattle.zic_local.specs.LocalTime.{Tells}
+use Rattle.zic_local.specs.declared.local_instants.Gap.{Gap}
+use Rattle.zic_local.specs.declared.local_instants.LocalInstants.{LocalInstants}
+use Rattle.zic_local.specs.declared.local_instants.LocalInstants.TheVariants as instants
 
 -- a state's offset, flag and abbreviation between spaces, and a newline
 abbrev pub state_line : Shown → List ℕ
@@ -23,3 +28,30 @@ pub record IsShowing (bytes : List ℕ) (instant : ℤ) (line : List ℕ) : Type
   pub answer : Option Shown
   pub answers : Answers content instant answer
   pub is_line : line ≡ answer_line answer
+
+-- an instant, and what a file answers there
+pub record IsInstantLine (content : Content) (instant : ℤ) (line : List ℕ) : Type 0 where
+  pub answer : Option Shown
+  pub answers : Answers content instant answer
+  pub is_line : line ≡ signed_decimal instant ++ 32 ∷ answer_line answer
+
+-- a gap: the instant of its change, and the UT offsets before and after it
+abbrev pub gap_line : Gap → List ℕ
+gap_line gap = codes "gap " ++ (signed_decimal gap.change ++ 32 ∷ (offset_text gap.before ++ 32 ∷ (offset_text gap.after ++ 10 ∷ [])))
+
+-- the lines for a local time: one for its instant, or one for the first of several and one for the last; the gap that it is in; or the word for
+-- local time that a file leaves open
+abbrev pub AreLines : Content → LocalInstants → List ℕ → Type 0
+AreLines content (instants.Gap gap) lines = lines ≡ gap_line gap
+AreLines content (instants.One t) lines = IsInstantLine content t lines
+AreLines content (instants.Fold fold) lines =
+    (first last : List ℕ) × IsInstantLine content fold.first first × IsInstantLine content fold.last last × (lines ≡ first ++ last)
+AreLines content instants.Unspecified lines = lines ≡ codes "unspecified" ++ 10 ∷ []
+
+-- the lines that `show --local` prints for the bytes of a file and a local time
+pub record IsShowingLocal (bytes : List ℕ) (local : ℤ) (lines : List ℕ) : Type 0 where
+  pub content : Content
+  pub is_file : IsFile bytes content
+  pub told : LocalInstants
+  pub tells : Tells content local told
+  pub are_lines : AreLines content told lines

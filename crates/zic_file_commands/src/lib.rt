@@ -6,7 +6,9 @@
 mod convert_command;
 mod dump_command;
 mod show_command;
+mod show_local_command;
 
 pub use convert_command::convert;
 pub use dump_command::dump;
 pub use show_command::show;
+pub use show_local_command::show_local;

@@ -51,7 +51,7 @@ fn line_of(alloc: Global, bytes: &[u8], instant: i64) -> Result<Vec<u8>, Failure
 }
 
 /// Returns the line for what a file answers.
-fn answer_line(alloc: Global, answer: &Answer<'_>) -> Result<Vec<u8>, AllocError>
+pub(crate) fn answer_line(alloc: Global, answer: &Answer<'_>) -> Result<Vec<u8>, AllocError>
     requires { unsigned_abs (told (answered answer.now)).offset ≤ FARTHEST_FILE_OFFSET }
     ensures { IfOk result (λ line. line.items ≡ answer_line (answered answer.now)) }
 {

@@ -6,9 +6,11 @@
 mod disambiguation;
 pub mod laws;
 mod local_instants;
+mod local_time;
 mod lookup;
 mod reading;
 
 pub use disambiguation::{Disambiguation, Unresolved};
 pub use local_instants::{Fold, Gap, LocalInstants};
+pub use local_time::LocalTime;
 pub use lookup::{instant, instants};
