@@ -1,7 +1,7 @@
 //! The words that the program is given.
 
 use crate::commands::commands;
-use crate::instant::parse_instant_word;
+use crate::instant::{parse_instant_word, parse_local_word};
 use crate::layout::layout;
 use crate::no_request::NoRequest;
 use clap::error::ErrorKind;
@@ -12,6 +12,7 @@ use std::{env, io};
 use zic_base::STANDARD_INPUT;
 use zic_dump::Years;
 use zic_explain::{Unexplained, entries, explanation, index, shown_word};
+use zic_local::LocalTime;
 use zic_plan::{Layout, Plan};
 
 /// What the names of Link lines are made as.
@@ -47,6 +48,8 @@ pub enum Request {
         sources: Vec<String>,
         plan: Plan,
         links: Links,
+        /// Whether the files are on the disk when the command ends.
+        sync: bool,
     },
     /// Convert a column by the files of a source, which is compiled, or of a folder.
     Convert(Conversion),
@@ -54,6 +57,11 @@ pub enum Request {
     Show {
         file: String,
         instant: i64,
+    },
+    /// Tell what a file says of a local time.
+    ShowLocal {
+        file: String,
+        local: LocalTime,
     },
     /// List the changes of a file.
     Dump {
@@ -205,6 +213,7 @@ fn build(alloc: Global, matches: &ArgMatches<'_>) -> Result<Request, NoRequest> 
         sources,
         plan,
         links,
+        sync: matches.get_flag("sync"),
     })
 }
 
@@ -249,13 +258,19 @@ fn zones_of(alloc: Global, matches: &ArgMatches<'_>) -> Result<Zones, NoRequest>
 
 fn show(alloc: Global, matches: &ArgMatches<'_>) -> Result<Request, NoRequest> {
     let file = word(alloc, matches, "FILE")?;
-    let Some(instant) = matches.get_str("INSTANT") else {
+    let Some(word) = matches.get_str("INSTANT") else {
         return Err(usage(alloc, "no INSTANT"));
     };
-    let Some(instant) = parse_instant_word(instant) else {
-        return Err(bad_instant(alloc, instant));
-    };
-    Ok(Request::Show { file, instant })
+    if matches.get_flag("local") {
+        let Some(local) = parse_local_word(word) else {
+            return Err(bad_instant(alloc, word, "not a local time as 2007-03-11T01:59:59"));
+        };
+        return Ok(Request::ShowLocal { file, local });
+    }
+    match parse_instant_word(word) {
+        Some(instant) => Ok(Request::Show { file, instant }),
+        None => Err(no_seconds(alloc, word)),
+    }
 }
 
 fn dump(alloc: Global, matches: &ArgMatches<'_>) -> Result<Request, NoRequest> {
@@ -340,15 +355,21 @@ pub fn usage(alloc: Global, text: &str) -> NoRequest {
     }
 }
 
-/// Returns the refusal of a word that is no instant.
-fn bad_instant(alloc: Global, word: &str) -> NoRequest {
+/// Returns the refusal of a word that is no number of seconds.
+fn no_seconds(alloc: Global, word: &str) -> NoRequest {
     let (first, last) = (i64::MIN, i64::MAX);
+    match format!(in alloc; "not a whole number of seconds from {first} to {last}") {
+        Ok(why) => bad_instant(alloc, word, why.as_str()),
+        Err(_) => NoRequest::Memory,
+    }
+}
+
+/// Returns the refusal of a word that is no instant, or no local time.
+fn bad_instant(alloc: Global, word: &str, why: &str) -> NoRequest {
     let Ok(word) = shown_word(alloc, word) else {
         return NoRequest::Memory;
     };
-    match format!(in alloc;
-        "invalid value '{word}' for '<INSTANT>': not a whole number of seconds from {first} to {last}"
-    ) {
+    match format!(in alloc; "invalid value '{word}' for '<INSTANT>': {why}") {
         Ok(text) => usage(alloc, text.as_str()),
         Err(_) => NoRequest::Memory,
     }

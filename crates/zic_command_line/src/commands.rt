@@ -15,6 +15,9 @@ const LINK_WORDS: [&str; 3] = ["copy", "hard", "symlink"];
 /// The words for what an instant counts.
 const UNIT_WORDS: [&str; 4] = ["s", "ms", "us", "ns"];
 
+/// The words for how the field of an instant has it.
+const TIME_WORDS: [&str; 2] = ["count", "rfc3339"];
+
 /// The greatest number that a field can have in an option.
 const MOST_FIELDS: i64 = 65_536;
 
@@ -44,6 +47,8 @@ enum Form {
     Delimiter,
     /// An option that is one of `UNIT_WORDS`, the first by default.
     Unit,
+    /// An option that is one of `TIME_WORDS`, the first by default.
+    Time,
 }
 
 /// A number in a range.
@@ -113,7 +118,7 @@ static CHECK: [Word; 4] = [
     EXPLAIN,
 ];
 
-static BUILD: [Word; 6] = [
+static BUILD: [Word; 7] = [
     Word {
         name: "DIR",
         help: "The folder for the files; it is made if need be",
@@ -129,12 +134,17 @@ static BUILD: [Word; 6] = [
         help: "What a link is: copy, hard or symlink",
         form: Form::Links,
     },
+    Word {
+        name: "sync",
+        help: "Returns once all is on the disk",
+        form: Form::Flag,
+    },
     WORKERS,
     ZONE_PIECE,
     EXPLAIN,
 ];
 
-static CONVERT: [Word; 18] = [
+static CONVERT: [Word; 20] = [
     Word {
         name: "SOURCE",
         help: "A file of Rule, Zone and Link lines",
@@ -183,6 +193,11 @@ static CONVERT: [Word; 18] = [
         form: Form::Flag,
     },
     Word {
+        name: "skip-header",
+        help: "Takes the first record for a header, and writes none",
+        form: Form::Flag,
+    },
+    Word {
         name: "zone",
         help: "The zone of all rows, in place of a field",
         form: Form::Zone,
@@ -208,6 +223,11 @@ static CONVERT: [Word; 18] = [
         form: Form::Unit,
     },
     Word {
+        name: "from",
+        help: "Form of instants: count or rfc3339",
+        form: Form::Time,
+    },
+    Word {
         name: "append",
         help: "Writes local time after each record as it stands",
         form: Form::Flag,
@@ -230,12 +250,17 @@ static CONVERT: [Word; 18] = [
     EXPLAIN,
 ];
 
-static SHOW: [Word; 3] = [
+static SHOW: [Word; 4] = [
     FILE,
     Word {
         name: "INSTANT",
         help: "Seconds from 1970-01-01T00:00:00 UT; after -- if below 0",
         form: Form::Required,
+    },
+    Word {
+        name: "local",
+        help: "Takes a local time, as 2007-03-11T01:59:59",
+        form: Form::Flag,
     },
     EXPLAIN,
 ];
@@ -290,7 +315,7 @@ static COMMANDS: [Described; 6] = [
     Described {
         name: "show",
         about: "Prints the offset, daylight flag and abbreviation at an instant",
-        after: "Example:\n  pzic show /usr/share/zoneinfo/Europe/Dublin -- -1",
+        after: "Example:\n  pzic show /usr/share/zoneinfo/Europe/Dublin -- -1\n  pzic show --local /usr/share/zoneinfo/Europe/Dublin 2026-10-25T01:30:00",
     },
     Described {
         name: "dump",
@@ -381,6 +406,7 @@ fn option<'a>(argument: Arg<'a>, form: &'a Form) -> Arg<'a> {
         Form::Number(number) => numbered(argument, number),
         Form::Links => choice(argument.value_name("KIND"), &LINK_WORDS).default_value("copy"),
         Form::Unit => choice(argument.value_name("UNIT"), &UNIT_WORDS).default_value("s"),
+        Form::Time => choice(argument.value_name("FORM"), &TIME_WORDS).default_value("count"),
         Form::Zone => argument.value_name("NAME"),
         Form::Path => argument.value_name("FILE"),
         Form::Folder => argument.value_name("DIR"),

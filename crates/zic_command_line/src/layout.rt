@@ -4,7 +4,9 @@ use crate::command_line::usage;
 use crate::no_request::NoRequest;
 use clap::ArgMatches;
 use std::alloc::Global;
-use zic_plan::{AtFault, Delimiter, FieldCount, Header, Layout, RowStart, Unit, ZoneFrom};
+use zic_plan::{
+    AtFault, Delimiter, FieldCount, Header, Layout, RowStart, TimeFrom, Unit, ZoneFrom,
+};
 
 /// Returns how a column is read.
 ///
@@ -16,11 +18,8 @@ pub(crate) fn layout(alloc: Global, matches: &ArgMatches<'_>) -> Result<Layout, 
     let time_field = matches.get_one::<u64>("time-field");
     let delimiter = delimiter(alloc, matches)?;
     let unit = unit(alloc, matches)?;
-    let header = if matches.get_flag("header") {
-        Header::First
-    } else {
-        Header::Absent
-    };
+    let from = time_from(alloc, matches)?;
+    let header = header(alloc, matches)?;
     let (zone, time) = match matches.get_str("zone") {
         Some(_) if zone_field.is_some() => {
             return Err(usage(alloc, "--zone-field has no meaning with --zone"));
@@ -45,6 +44,7 @@ pub(crate) fn layout(alloc: Global, matches: &ArgMatches<'_>) -> Result<Layout, 
     Ok(Layout {
         zone,
         time,
+        from,
         count,
         unit,
         delimiter,
@@ -57,6 +57,16 @@ pub(crate) fn layout(alloc: Global, matches: &ArgMatches<'_>) -> Result<Layout, 
 /// Returns the index of the field of this number.
 fn index(number: u64) -> usize {
     number.saturating_sub(1) as usize
+}
+
+/// Returns whether the first record is a header, and whether one is written.
+fn header(alloc: Global, matches: &ArgMatches<'_>) -> Result<Header, NoRequest> {
+    match (matches.get_flag("header"), matches.get_flag("skip-header")) {
+        (false, false) => Ok(Header::Absent),
+        (true, false) => Ok(Header::First),
+        (false, true) => Ok(Header::Skipped),
+        (true, true) => Err(usage(alloc, "--skip-header has no meaning with --header")),
+    }
 }
 
 /// Returns what a row begins with.
@@ -118,5 +128,14 @@ fn unit(alloc: Global, matches: &ArgMatches<'_>) -> Result<Unit, NoRequest> {
         Some("us") => Ok(Unit::Microsecond),
         Some("ns") => Ok(Unit::Nanosecond),
         _ => Err(usage(alloc, "--unit is s, ms, us or ns")),
+    }
+}
+
+/// Returns how the field of the instant has it.
+fn time_from(alloc: Global, matches: &ArgMatches<'_>) -> Result<TimeFrom, NoRequest> {
+    match matches.get_str("from") {
+        Some("count") => Ok(TimeFrom::Count),
+        Some("rfc3339") => Ok(TimeFrom::Rfc3339),
+        _ => Err(usage(alloc, "--from is count or rfc3339")),
     }
 }

@@ -16,7 +16,8 @@ use Rattle.zic_files.specs.declared.image.Unfit.TheVariants as unfit
 use Rattle.zic_files.specs.File.{FileImage, File}
 use Rattle.zic_files.specs.Fit.{AreFit, IsFit, IsUnfit}
 use Rattle.zic_files.specs.Sound.{AreSoundFiles}
-use Rattle.zic_files.specs.Tree.{Adds, AreOfName, GrowsBy, Reply, Gains, AreAsked, IsSettled, AreFilesOfReplies, reply_of, Learnt, IsLearntFrom, files_named}
+use Rattle.zic_base.specs.Growth.{Gains}
+use Rattle.zic_files.specs.Tree.{Adds, AreOfName, GrowsBy, Reply, AreAsked, IsSettled, AreFilesOfReplies, reply_of, Learnt, IsLearntFrom, files_named}
 use Rattle.zic_files.specs.code.Tree.{IsAtMostOne, IsImageOf, AreOfNames}
 
 -- ---- names

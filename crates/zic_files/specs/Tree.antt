@@ -1,5 +1,6 @@
 -- A tree of files from outside: what it replied, and the files that rows are made of: own choice.
-use Rattle.std.specs.Prelude.{◌≡◌, ◌≢◌, ◌⊎◌, ℕ, ⊤, true, List, [], ◌∷◌, ◌++◌, Option, Some, None, map, All, AllPairs, Any, Contains, IsSomeAnd}
+use Rattle.std.specs.Prelude.{◌≡◌, ◌≢◌, ◌⊎◌, ℕ, true, List, [], ◌∷◌, ◌++◌, Option, Some, None, map, All, AllPairs, Any, Contains, IsSomeAnd}
+pub use Rattle.zic_base.specs.Growth.{Gains}
 use Rattle.zic_words.specs.Name.{is_name}
 use Rattle.zic_files.specs.File.{File, FileImage}
 use Rattle.zic_files.specs.Fit.{IsFit, AreFit}
@@ -9,12 +10,6 @@ use Rattle.zic_files.specs.Sound.{AreSoundFiles}
 pub record Reply : Type 0 where
   pub name : List ℕ
   pub octets : Option (List ℕ)
-
--- the replies of a tree, where they are known, grew by these, in order
-abbrev pub Gains : Option (List Reply) → Option (List Reply) → List Reply → Type 0
-Gains None new replies = ⊤
-Gains (Some old) None replies = ⊥
-Gains (Some old) (Some new) replies = new ≡ old ++ replies
 
 -- A tree replied to names of zones only, and to none of them twice.
 pub record AreAsked (replies : List Reply) : Type 0 where

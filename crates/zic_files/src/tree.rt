@@ -4,7 +4,8 @@ ghost use Rattle.std.specs.Prelude.{◌≡◌, true, [], ◌∷◌, ◌++◌, Li
 ghost use Rattle.zic_words.specs.Name.{is_name};
 ghost use Rattle.zic_files.specs.Fit.{IsFit};
 ghost use Rattle.zic_files.specs.Sound.{AreSoundFiles};
-ghost use Rattle.zic_files.specs.Tree.{Adds, AreAsked, AreOfName, Gains, GrowsBy, IsLearntFrom, IsSettled, Reply, files_named};
+ghost use Rattle.zic_base.specs.Growth.{Gains};
+ghost use Rattle.zic_files.specs.Tree.{Adds, AreAsked, AreOfName, GrowsBy, IsLearntFrom, IsSettled, Reply, files_named};
 ghost use Rattle.zic_files.specs.code.Tree.{IsAtMostOne, IsImageOf};
 
 use crate::files::Files;

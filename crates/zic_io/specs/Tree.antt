@@ -1,5 +1,5 @@
 -- Files and links that are placed into a tree.
-use Rattle.std.specs.Prelude.{◌≡◌, ℕ, ⊤, List, ◌++◌, Option, Some, None}
+use Rattle.std.specs.Prelude.{ℕ, List}
 use Rattle.zic_io.specs.declared.link_kind.LinkKind.{LinkKind}
 
 -- a file in a tree: its path and its bytes
@@ -13,9 +13,3 @@ pub record Linked : Type 0 where
   pub kind : LinkKind
   pub path : List ℕ
   pub target : List ℕ
-
--- what was placed into a tree, where that is known, grew by these, in order
-abbrev pub Gains : {A : Type 0} → Option (List A) → Option (List A) → List A → Type 0
-Gains None new files = ⊤
-Gains (Some placed) None files = ⊥
-Gains (Some placed) (Some placed') files = placed' ≡ placed ++ files

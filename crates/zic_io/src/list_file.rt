@@ -101,7 +101,7 @@ fn expect_folder<F: FileSystem>(system: &F, path: &str) -> io::Result<()> {
 }
 
 /// Returns the path of the folder that has a file.
-fn folder_of(path: &str) -> &str {
+pub(crate) fn folder_of(path: &str) -> &str {
     match path.rsplit_once('/') {
         Some(("", _)) => "/",
         Some((folder, _)) => folder,

@@ -11,7 +11,7 @@ const PERIOD: u64 = 500;
 
 /// Where the line about rows is written, and how often.
 #[derive(Drop)]
-pub enum Told<E> {
+pub enum ProgressLine<E> {
     /// Nowhere.
     Never,
     /// Once, by [`Progress::finish`].
@@ -20,18 +20,18 @@ pub enum Told<E> {
     Anew(E),
 }
 
-/// A writer of rows that passes each write and flush on with its answer, and tells of the rows on
+/// A writer of rows that passes each write and flush on with its answer, and writes a line about the rows on
 /// another writer, if at all.
 ///
 /// The line has the number of rows that were written, and that of rows a second since the writer
-/// was made: `1048576 rows, 524288 rows a second`. What can't be told is left out, and is no
+/// was made: `1048576 rows, 524288 rows a second`. What cannot be written of it is left out, and is no
 /// failure of the rows. A row ends with a line feed, and has no other. A header line before the
 /// rows is no row.
 #[derive(Drop)]
 pub struct Progress<'a, W, C, E> {
     inner: W,
     clock: &'a C,
-    told: Told<E>,
+    line: ProgressLine<E>,
     start: Option<Instant>,
     /// The time since the start at which the line is written anew.
     next: Duration,
@@ -48,14 +48,19 @@ impl<'a, W, C, E> Model for Progress<'a, W, C, E> {
 }
 
 impl<'a, W, C: Clock, E: Write> Progress<'a, W, C, E> {
-    /// Returns a writer that has told of no rows. They come after a header line, or at once.
-    pub fn new(inner: W, clock: &'a C, told: Told<E>, has_header: bool) -> Progress<'a, W, C, E>
+    /// Returns a writer that has passed on no rows. `has_header` says that a header line comes before them.
+    pub fn new(
+        inner: W,
+        clock: &'a C,
+        line: ProgressLine<E>,
+        has_header: bool,
+    ) -> Progress<'a, W, C, E>
         ensures { result ≡ inner }
     {
         Progress {
             inner,
             clock,
-            told,
+            line,
             header: has_header as u64,
             start: Instant::now(clock).ok(),
             next: Duration::from_millis(PERIOD),
@@ -70,8 +75,8 @@ impl<'a, W, C: Clock, E: Write> Progress<'a, W, C, E> {
     {
         if let Some(lines) = self.lines {
             self.tell(lines, self.elapsed());
-            if let Told::Once(told) | Told::Anew(told) = &mut self.told {
-                let _ = told.write_all(b"\n");
+            if let ProgressLine::Once(out) | ProgressLine::Anew(out) = &mut self.line {
+                let _ = out.write_all(b"\n");
             }
         }
     }
@@ -81,13 +86,13 @@ impl<'a, W, C: Clock, E: Write> Progress<'a, W, C, E> {
     fn count(&mut self, written: &[u8])
         ensures { self.new ≡ self.old }
     {
-        if matches!(self.told, Told::Never) {
+        if matches!(self.line, ProgressLine::Never) {
             return;
         }
         let ends = written.iter().filter(|byte| **byte == b'\n').count() as u64;
         let lines = self.lines.unwrap_or(0).saturating_add(ends);
         self.lines = Some(lines);
-        if matches!(self.told, Told::Anew(_)) {
+        if matches!(self.line, ProgressLine::Anew(_)) {
             let elapsed = self.elapsed();
             if self.next <= elapsed {
                 self.next = elapsed.saturating_add(Duration::from_millis(PERIOD));
@@ -110,10 +115,10 @@ impl<'a, W, C: Clock, E: Write> Progress<'a, W, C, E> {
     {
         let rows = lines.saturating_sub(self.header);
         let rate = rows as u128 * 1000 / elapsed.as_millis().max(1);
-        let _ = match &mut self.told {
-            Told::Never => Ok(()),
-            Told::Once(told) => write!(told, "{rows} rows, {rate} rows a second"),
-            Told::Anew(told) => write!(told, "\r{rows} rows, {rate} rows a second\x1b[K"),
+        let _ = match &mut self.line {
+            ProgressLine::Never => Ok(()),
+            ProgressLine::Once(out) => write!(out, "{rows} rows, {rate} rows a second"),
+            ProgressLine::Anew(out) => write!(out, "\r{rows} rows, {rate} rows a second\x1b[K"),
         };
     }
 }

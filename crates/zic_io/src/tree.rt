@@ -1,13 +1,15 @@
 //! Where files are placed.
 
 ghost use Rattle.std.specs.Prelude.{◌≡◌, [], ◌∷◌, OnOk, OnErr, Err};
-ghost use Rattle.zic_io.specs.Tree.{Gains};
+ghost use Rattle.zic_base.specs.Growth.{Gains};
 
+use crate::failure::Failure;
 use crate::link_kind::LinkKind;
+use crate::list_file::folder_of;
 use crate::sources::path_in;
 use std::alloc::{AllocError, AllocFailed, Global};
 use std::collections::HashSet;
-use std::fs::{self, File, Files as FileSystem};
+use std::fs::{self, File, Files as FileSystem, OpenFile};
 use std::io::{self, ErrorKind, Read, Write};
 use std::os::unix::fs::{MetadataExt, symlink};
 
@@ -97,6 +99,15 @@ pub trait Tree {
         ensures refused { result ≡ Err Unplaced.Refused → refused self.new path.now };
 }
 
+/// When what is placed in a file system has to be on its disk.
+#[derive(Clone, Copy, Debug, PartialEq, Eq)]
+pub enum Durability {
+    /// When the system writes it.
+    Later,
+    /// The bytes of a file before it has its name, and the names in folders by the end.
+    Synced,
+}
+
 /// A tree in a file system, of whose files and links no contract tells anything.
 ///
 /// Several runs may place files in one tree at the same time: each file is that of one of them, and
@@ -109,8 +120,11 @@ pub struct Disk<'a, F> {
     system: &'a F,
     /// The number in temporary names.
     number: u64,
+    durability: Durability,
     /// The folders that were entered.
     folders: HashSet<String>,
+    /// The folders in which names are to be synced.
+    unsynced: HashSet<String>,
 }
 
 /// What is to have a path.
@@ -136,13 +150,35 @@ enum Written {
 impl<'a, F: FileSystem> Disk<'a, F> {
     /// Returns the tree of a file system. Files are first written under temporary names of this
     /// number, or of the next that is free; runs at the same time have different ones.
-    pub fn new(alloc: Global, system: &'a F, number: u64) -> Disk<'a, F> {
+    pub fn new(alloc: Global, system: &'a F, number: u64, durability: Durability) -> Disk<'a, F> {
         Disk {
             alloc,
             system,
             number,
+            durability,
             folders: HashSet::new(alloc),
+            unsynced: HashSet::new(alloc),
         }
+    }
+
+    /// Has the system write the names that folders got. After that a tree whose files are synced is
+    /// whole also if the power fails. Does nothing where nothing is to be synced.
+    ///
+    /// # Errors
+    ///
+    /// `CannotWrite` with the path of a folder that can't be synced, or memory ran out.
+    pub fn sync(&self) -> Result<(), Failure> {
+        for folder in &self.unsynced {
+            if self.sync_folder(folder.as_str()).is_err() {
+                return Err(Failure::CannotWrite(folder.clone()?));
+            }
+        }
+        Ok(())
+    }
+
+    /// Has the system write the names in a folder.
+    fn sync_folder(&self, folder: &str) -> io::Result<()> {
+        File::open(self.system, folder)?.sync_all()
     }
 
     /// Makes a folder, or removes the temporary files of earlier runs from it. Does so once.
@@ -154,9 +190,35 @@ impl<'a, F: FileSystem> Disk<'a, F> {
         let slashed = path_in(self.alloc, folder, "")?;
         match self.system.open_dir(slashed.as_str()) {
             Ok(names) => self.clear(folder, names)?,
-            Err(_) => fs::create_dir_all(self.system, folder)?,
+            Err(_) => {
+                self.note_above(folder)?;
+                fs::create_dir_all(self.system, folder)?;
+            }
         }
+        self.note(folder)?;
         self.folders.insert(String::from_str(self.alloc, folder)?)?;
+        Ok(())
+    }
+
+    /// Takes note of a folder in which names are to be synced, if any are.
+    fn note(&mut self, folder: &str) -> Result<(), AllocError> {
+        if self.durability == Durability::Synced {
+            self.unsynced.insert(String::from_str(self.alloc, folder)?)?;
+        }
+        Ok(())
+    }
+
+    /// Takes note of the folders that get the name of a folder, where this one is made with those
+    /// above it that are missing.
+    fn note_above(&mut self, folder: &str) -> Result<(), AllocError> {
+        let mut missing = folder;
+        for _ in 0..folder.len() {
+            if fs::metadata(self.system, missing).is_ok() {
+                break;
+            }
+            missing = folder_of(missing);
+            self.note(missing)?;
+        }
         Ok(())
     }
 
@@ -227,7 +289,7 @@ impl<'a, F: FileSystem> Disk<'a, F> {
             Ok(file) => file,
             Err(e) => return unmade(e),
         };
-        let placed = match write_and_close(file, bytes) {
+        let placed = match write_and_close(file, bytes, self.durability) {
             Ok(()) => fs::rename(self.system, temporary, path),
             Err(e) => Err(e),
         };
@@ -345,8 +407,17 @@ fn temporary_name(name: &[u8]) -> Option<&str> {
     }
 }
 
-/// Writes the bytes to a file, and closes it.
-fn write_and_close<W: Write + Drop>(mut file: W, bytes: &[u8]) -> io::Result<()> {
+/// Writes the bytes to a file, and closes it. Where they are to be synced, the system writes them to
+/// its disk before, and tells also what it else would tell only when the file is closed.
+fn write_and_close<W: Write + OpenFile + Drop>(
+    mut file: W,
+    bytes: &[u8],
+    durability: Durability,
+) -> io::Result<()> {
     file.write_all(bytes)?;
-    file.flush()
+    file.flush()?;
+    match durability {
+        Durability::Later => Ok(()),
+        Durability::Synced => file.sync_all(),
+    }
 }

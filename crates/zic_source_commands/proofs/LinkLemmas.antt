@@ -26,7 +26,8 @@ use Rattle.zic_io.proofs.ListLemmas.{taken, parts}
 use Rattle.zic_source_commands.proofs.TreeLemmas.{file_more, file_stop, gains_and_none, gains_both, gains_none}
 use Rattle.zic_source_commands.specs.Failing.{IsFailureOfFolder, IsUnplaced}
 use Rattle.zic_source_commands.specs.Linking.{AreBuiltLinked, IsFailureOfLinked, IsFailureOfLinks, IsFileNamed, IsLinkOf, IsUnlinked}
-use Rattle.zic_io.specs.Tree.{Gains, Linked, Placed}
+use Rattle.zic_base.specs.Growth.{Gains}
+use Rattle.zic_io.specs.Tree.{Linked, Placed}
 use Rattle.zic_source_commands.specs.Tree.{in_folder}
 use Rattle.zic_io.specs.declared.failure.Failure.{Failure}
 use Rattle.zic_io.specs.declared.link_kind.LinkedFolder.{LinkedFolder}

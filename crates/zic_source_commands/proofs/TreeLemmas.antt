@@ -6,7 +6,8 @@ use Rattle.std.proofs.lemmas.Option.{slice_get_cases}
 use Rattle.zic_files.specs.File.{File}
 use Rattle.zic_io.proofs.ListLemmas.{taken, parts}
 use Rattle.zic_source_commands.specs.Failing.{IsFailureOfFolder, IsUnplaced}
-use Rattle.zic_io.specs.Tree.{Gains, Placed}
+use Rattle.zic_base.specs.Growth.{Gains}
+use Rattle.zic_io.specs.Tree.{Placed}
 use Rattle.zic_source_commands.specs.Tree.{in_folder}
 use Rattle.zic_io.specs.declared.failure.Failure.{Failure}
 

@@ -7,7 +7,8 @@ use Rattle.zic_counted.specs.Counts.{Counts}
 use Rattle.zic_io.specs.declared.failure.Failure.{Failure}
 use Rattle.zic_io.specs.declared.failure.Failure.TheVariants as failures
 use Rattle.zic_io.specs.Failing.{IsCannotWrite, IsFailureOfOutput, run_failure}
-use Rattle.zic_io.specs.Tree.{Gains, Placed}
+use Rattle.zic_base.specs.Growth.{Gains}
+use Rattle.zic_io.specs.Tree.{Placed}
 use Rattle.zic_source_commands.specs.Tree.{in_folder}
 use Rattle.zic_source_commands.specs.Text.{IsListing}
 

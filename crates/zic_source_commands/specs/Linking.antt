@@ -16,7 +16,8 @@ use Rattle.zic_io.specs.declared.link_kind.LinkKind.TheVariants as kinds
 use Rattle.zic_io.specs.declared.link_kind.LinkedFolder.{LinkedFolder}
 use Rattle.zic_io.specs.Failing.{IsCannotWrite}
 use Rattle.zic_source_commands.specs.Failing.{IsFailureOfFolder}
-use Rattle.zic_io.specs.Tree.{Gains, Linked, Placed}
+use Rattle.zic_base.specs.Growth.{Gains}
+use Rattle.zic_io.specs.Tree.{Linked, Placed}
 use Rattle.zic_source_commands.specs.Tree.{in_folder}
 
 -- the way from the folder of a name's file up to the folder of the tree: `../` for each slash

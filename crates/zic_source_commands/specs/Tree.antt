@@ -2,7 +2,8 @@
 use Rattle.std.specs.Prelude.{◌≢◌, ℕ, List, [], ◌∷◌, ◌++◌, map, Option}
 use Rattle.zic_compile.specs.Build.{AreFilesOfTexts}
 use Rattle.zic_files.specs.File.{File}
-use Rattle.zic_io.specs.Tree.{Gains, Placed}
+use Rattle.zic_base.specs.Growth.{Gains}
+use Rattle.zic_io.specs.Tree.{Placed}
 
 -- a file of a source in a folder: its path is that of the folder, a slash and its name
 abbrev pub in_folder : List ℕ → File → Placed

@@ -4,7 +4,7 @@ ghost use Rattle.std.specs.Prelude.{◌≡◌, ◌≢◌, ◌<◌, ◌⊎◌, []
 ghost use Rattle.zic_words.specs.Name.{is_name};
 ghost use Rattle.zic_source.specs.Texts.{texts_of};
 ghost use Rattle.zic_source_commands.specs.Failing.{IsFailureOfFiles, IsFailureOfFolder, IsFailureOfTexts, IsUnplaced};
-ghost use Rattle.zic_io.specs.Tree.{Gains};
+ghost use Rattle.zic_base.specs.Growth.{Gains};
 ghost use Rattle.zic_source_commands.specs.Tree.{in_folder, AreBuilt};
 
 use crate::compiler::files_of;

@@ -10,7 +10,8 @@ ghost use Rattle.zic_compile.specs.Files.{AreFilesOf};
 ghost use Rattle.zic_files.specs.File.{File};
 ghost use Rattle.zic_source_commands.specs.Failing.{IsFailureOfFolder, IsFailureOfTexts};
 ghost use Rattle.zic_source_commands.specs.Linking.{target_of, way_up, AreBuiltLinked, IsFailureOfLinked, IsFailureOfLinks, IsFileNamed, IsLinkOf, IsUnlinked};
-ghost use Rattle.zic_io.specs.Tree.{Gains, Linked};
+ghost use Rattle.zic_base.specs.Growth.{Gains};
+ghost use Rattle.zic_io.specs.Tree.{Linked};
 ghost use Rattle.zic_source_commands.specs.Tree.{in_folder};
 
 use crate::build_command::{path_of, place_file, with_name};

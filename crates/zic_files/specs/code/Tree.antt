@@ -3,7 +3,8 @@ use Rattle.std.specs.Prelude.{◌≡◌, ◌⊎◌, ℕ, List, [], ◌∷◌, Op
 use Rattle.zic_tzif.specs.Reading.{IsFile}
 use Rattle.zic_files.specs.File.{File, FileImage}
 use Rattle.zic_files.specs.Fit.{IsFit, AreFit}
-use Rattle.zic_files.specs.Tree.{Reply, Gains}
+use Rattle.zic_base.specs.Growth.{Gains}
+use Rattle.zic_files.specs.Tree.{Reply}
 
 -- an image of the bytes of the reply, where rows can be made of them, and else none
 abbrev pub IsImageOf : Reply → Option FileImage → Type 0

@@ -1,5 +1,5 @@
 use Rattle.std.proofs.Common.{◌≢◌, ◌<◌, [], map, take}
-use Rattle.zic_io.specs.Tree.{Gains}
+use Rattle.zic_base.specs.Growth.{Gains}
 use Rattle.zic_source_commands.specs.Tree.{in_folder}
 use Rattle.zic_source_commands.proofs.build_command.place_files.Given as goal
 

@@ -1,5 +1,5 @@
 use Rattle.std.proofs.Common.{◌≢◌, ◌<◌, []}
-use Rattle.zic_io.specs.Tree.{Gains}
+use Rattle.zic_base.specs.Growth.{Gains}
 use Rattle.zic_source_commands.proofs.LinkLemmas.{AreZonesSoFar}
 use Rattle.zic_source_commands.proofs.build_linked_command.place_zones.Given as goal
 

@@ -1,7 +1,8 @@
 use Rattle.std.proofs.Common.{◌≡◌, inl, List, ℕ, [], ◌∷◌, ◌++◌, ◌∙◌, refl, sym, subst}
 use Rattle.std.specs.Prelude.{Contains, IfErr, IfOk}
 use Rattle.std.proofs.lemmas.Bool.{false≢true}
-use Rattle.zic_files.specs.Tree.{Adds, AreAsked, AreOfName, Gains, IsLearntFrom, Learnt, Reply}
+use Rattle.zic_base.specs.Growth.{Gains}
+use Rattle.zic_files.specs.Tree.{Adds, AreAsked, AreOfName, IsLearntFrom, Learnt, Reply}
 use Rattle.zic_files.proofs.Added.{if_err}
 use Rattle.zic_files.proofs.Learning.{gains_none, grown_if_ok, nothing_more, asked_nothing_more, settled_nothing_more, settled_before, settled_if_ok, none_of_name}
 use Rattle.zic_files.proofs.tree.TreeFiles.learn.Goals as goal
