@@ -1,5 +1,5 @@
 -- Where a fault stands, as it is told: own choice.
-use Rattle.std.specs.Prelude.{◌≡◌, ◌≤◌, ◌⊎◌, ℕ, List, ◌++◌, codes, All}
+use Rattle.std.specs.Prelude.{◌≡◌, ◌≤◌, ◌⊎◌, ℕ, List, ◌++◌, codes, All, Option, Some, None}
 use Rattle.std.specs.Fmt.{decimal}
 
 -- a byte that a terminal shows, and takes for no command: a tab, a line feed, or from space to `~`
@@ -25,3 +25,9 @@ line_head path line = codes "--> " ++ path ++ codes ":" ++ decimal line
 -- a place in a column: the number of the row
 abbrev pub row_head : ℕ → List ℕ
 row_head row = codes "--> standard input, row " ++ decimal row
+
+-- where a double quote opens by which a record goes on, and the line where the record ends, unless nothing closes the quote
+abbrev pub quote_line : ℕ → Option ℕ → List ℕ
+quote_line opened (Some ended) =
+    codes "A double quote opens in line " ++ (decimal opened ++ (codes ", and the record ends in line " ++ (decimal ended ++ codes ".\n")))
+quote_line opened None = codes "A double quote opens in line " ++ (decimal opened ++ codes ", and nothing closes it.\n")

@@ -15,7 +15,7 @@ mod zones;
 
 pub use entry::{Entry, entries};
 pub use explain::{Unexplained, expectation, explanation, index};
-pub use place::{line_place, row_place};
+pub use place::{QuotedLines, line_place, quote_place, row_place};
 pub use record::RecordForm;
 pub use shown::shown_word;
 pub use zones::nearest_zone;

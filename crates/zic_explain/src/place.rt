@@ -1,7 +1,7 @@
 //! Where a fault stands.
 
-ghost use Rattle.std.specs.Prelude.{OnOk, IfOk, string_bytes};
-ghost use Rattle.zic_explain.specs.Place.{line_head, row_head, GoesOnShown, IsShownText};
+ghost use Rattle.std.specs.Prelude.{◌≡◌, OnOk, IfOk, string_bytes};
+ghost use Rattle.zic_explain.specs.Place.{line_head, quote_line, row_head, GoesOnShown, IsShownText};
 ghost use Rattle.zic_explain.specs.code.Shown.{StaysShown};
 
 use crate::faulty::{Part, faulty_part};
@@ -102,6 +102,36 @@ pub fn row_place(
 {
     let rest = row_rest(alloc, kind, form, record)?;
     format!(in alloc; "--> standard input, row {row}{rest}")
+}
+
+/// The lines, from 1, of the double quotes by which a record goes on, over lines or to the end of the
+/// column: where they open, and where the record ends, unless nothing closes them.
+#[derive(Clone, Copy, Debug)]
+pub struct QuotedLines {
+    pub opened: u64,
+    pub ended: Option<u64>,
+}
+
+/// Returns a line that says where a double quote opens by which a record goes on, and in which line
+/// the record ends.
+///
+/// # Errors
+///
+/// Memory ran out.
+pub fn quote_place(alloc: Global, lines: QuotedLines) -> Result<String, AllocError>
+    ensures { IfOk result (λ told. string_bytes told ≡ quote_line lines.opened lines.ended) }
+{
+    let opened = lines.opened;
+    match lines.ended {
+        Some(ended) => {
+            format!(in alloc;
+                "A double quote opens in line {opened}, and the record ends in line {ended}.\n"
+            )
+        }
+        None => format!(in alloc;
+            "A double quote opens in line {opened}, and nothing closes it.\n"
+        ),
+    }
 }
 
 /// Returns what is told of a row after its number.

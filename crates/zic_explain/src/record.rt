@@ -3,7 +3,7 @@
 use crate::faulty::Part;
 use crate::fields::Span;
 use zic_base::RowKind;
-use zic_plan::Unit;
+use zic_plan::{TimeFrom, Unit};
 
 /// Where the records of a column have the zone and the instant of a row.
 #[derive(Clone, Copy, Debug)]
@@ -12,6 +12,8 @@ pub struct RecordForm {
     pub zone: Option<usize>,
     /// The index of the field with the instant, from 0.
     pub time: usize,
+    /// How that field has it.
+    pub from: TimeFrom,
     /// What instants count.
     pub unit: Unit,
     /// The byte between fields.
@@ -30,12 +32,13 @@ impl RecordForm {
 
     /// Returns what the field is called that a fault of this kind is about.
     pub(crate) fn label(self, kind: RowKind) -> &'static str {
-        match (kind, self.unit) {
-            (RowKind::RowZone, _) => "NAME",
-            (_, Unit::Second) => "SECONDS",
-            (_, Unit::Millisecond) => "MILLISECONDS",
-            (_, Unit::Microsecond) => "MICROSECONDS",
-            (_, Unit::Nanosecond) => "NANOSECONDS",
+        match (kind, self.from, self.unit) {
+            (RowKind::RowZone, _, _) => "NAME",
+            (_, TimeFrom::Rfc3339, _) => "INSTANT",
+            (_, TimeFrom::Count, Unit::Second) => "SECONDS",
+            (_, TimeFrom::Count, Unit::Millisecond) => "MILLISECONDS",
+            (_, TimeFrom::Count, Unit::Microsecond) => "MICROSECONDS",
+            (_, TimeFrom::Count, Unit::Nanosecond) => "NANOSECONDS",
         }
     }
 }

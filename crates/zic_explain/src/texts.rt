@@ -528,7 +528,8 @@ Right:
   $ echo 'Etc/UTC,0' | pzic convert utc.zi
 ?  Another separator, which `--delimiter` names, or more fields, of which
   `--zone-field` and `--time-field` name two. In row 1: a header with other
-  columns, which `--header` passes over.
+  columns, which `--header` passes over. Or a stray double quote: the record
+  then goes on over lines, up to the next one or the end of the column.
 @RowZone?The source has no zone or link of that name.?  The source has no zone or link of that name. With `--tree`: the tree has no
   file of that name, or one that can't be read or that `pzic show` refuses. Or
   the file has no TZ string, an offset beyond 24:00:00, or an abbreviation
@@ -552,20 +553,25 @@ Right:
 @RowInstant?The field of the instant doesn't hold an instant.?  The field of the instant doesn't hold an instant.
 ?  Seconds since 1970-01-01T00:00:00 UT: 1 to 18 digits, with `-` before them
   for earlier instants, without `+`, spaces or a fraction. With `--unit` 3, 6
-  or 9 digits more.
+  or 9 digits more. With `--from rfc3339` a date and a time with a UT offset or
+  `Z`, as `1970-01-01T00:00:00Z`, in the years 1 to 9999, with a fraction of at
+  most as many digits.
 ?
 The examples use:
   $ echo 'Zone Etc/UTC 0 - UTC' >utc.zi
 
 Wrong:
-  $ echo 'Etc/UTC,1970-01-01' | pzic convert utc.zi
+  $ echo 'Etc/UTC,1970-01-01T00:00:00Z' | pzic convert utc.zi
 
 It prints:
   row 1: RowInstant
 
 Right:
-  $ echo "Etc/UTC,$(date -u -d 1970-01-01 +%s)" | pzic convert utc.zi
-?  A date, a number with a fraction, or the two fields swapped.
+  $ echo 'Etc/UTC,1970-01-01T00:00:00Z' | pzic convert --from rfc3339 utc.zi
+?  A date, which `--from rfc3339` takes with a time and a UT offset, a number
+  with a fraction, or the two fields swapped. A leap second, `23:59:60`, is
+  none. Or a stray double quote before the instant, after which line ends are
+  text.
 @RowRange?The instant is outside the supported range.?  The instant is outside the supported range.
 ?  -62135510400 to 253402214399, which is 0001-01-02T00:00:00 to
   9999-12-30T23:59:59 UT.

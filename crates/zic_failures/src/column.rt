@@ -1,8 +1,10 @@
 //! A record of the column, which is read again where standard input is a file.
 
+use crate::quote::QuoteScan;
 use csv::{ByteRecord, Reader, ReaderBuilder};
 use std::fs::{self, Files};
-use std::io::{Read, Seek, SeekFrom};
+use std::io::{BufReader, Read, Seek, SeekFrom};
+use zic_explain::QuotedLines;
 
 /// A path that opens the file of standard input anew.
 const INPUT: &str = "/dev/stdin";
@@ -69,6 +71,22 @@ pub(crate) fn text_of<R: Files + AllocGlobal>(
         return None;
     }
     Vec::from_slice(rt.alloc(), text).ok()
+}
+
+/// Returns the lines of the double quotes by which a record in the file of standard input from this
+/// offset on goes on, over lines or to the end of the column; `None` where it doesn't, or can't be read.
+pub(crate) fn quoted_lines<R: Files + AllocGlobal>(
+    rt: &R,
+    start: u64,
+    record: &Found,
+    delimiter: u8,
+) -> Option<QuotedLines> {
+    let file = BufReader::new(rt.alloc(), file_from(rt, start)?).ok()?;
+    let mut scan = QuoteScan::new(record.from, delimiter);
+    for byte in file.take(record.to).bytes() {
+        scan.take(byte.ok()?);
+    }
+    scan.lines()
 }
 
 /// Returns the bytes of the file of standard input from this offset on, at most `most`.

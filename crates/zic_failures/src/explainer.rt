@@ -1,6 +1,6 @@
 //! Explains a failure, by the request and by what was read.
 
-use crate::column::{Found, column_start, find_record, text_of};
+use crate::column::{Found, column_start, find_record, quoted_lines, text_of};
 use crate::refused::refused_file;
 use std::alloc::{AllocError, Global};
 use std::fs::Files;
@@ -8,7 +8,8 @@ use std::slice;
 use zic_base::RowKind;
 use zic_command_line::{Request, Zones};
 use zic_explain::{
-    RecordForm, entries, expectation, line_place, nearest_zone, row_place, shown_word,
+    QuotedLines, RecordForm, entries, expectation, line_place, nearest_zone, quote_place,
+    row_place, shown_word,
 };
 use zic_io::Failure;
 use zic_plan::{Header, Layout, ZoneFrom};
@@ -127,6 +128,12 @@ impl Explainer {
             _ => None,
         };
         let mut place = row_place(alloc, kind, row, self.form, text.as_deref())?;
+        if let Some(lines) = record
+            .as_ref()
+            .and_then(|record| self.quoted_lines(rt, record))
+        {
+            place.push_str(quote_place(alloc, lines)?.as_str())?;
+        }
         if let (RowKind::RowZone, Some(record)) = (kind, &record) {
             let nearest = nearest_zone(alloc, self.text(0), self.zone_in(record))?;
             place.push_str(nearest.as_str())?;
@@ -138,6 +145,11 @@ impl Explainer {
     fn record<R: Files + AllocGlobal>(&self, rt: &R, row: u64) -> Option<Found> {
         let number = self.before.saturating_add(row);
         find_record(rt, self.start?, number, self.form.delimiter)
+    }
+
+    /// Returns the lines of the double quotes by which a record goes on, if it does.
+    fn quoted_lines<R: Files + AllocGlobal>(&self, rt: &R, record: &Found) -> Option<QuotedLines> {
+        quoted_lines(rt, self.start?, record, self.form.delimiter)
     }
 
     /// Returns the name of the zone in a record, or an empty one.
@@ -168,7 +180,7 @@ impl Explainer {
 /// Returns the number of records of the column that are no rows.
 fn records_before(request: &Request) -> u64 {
     match request {
-        Request::Convert(order) if order.layout.header == Header::First => 1,
+        Request::Convert(order) if order.layout.header != Header::Absent => 1,
         _ => 0,
     }
 }
@@ -189,6 +201,7 @@ fn form_by(layout: &Layout) -> RecordForm {
             ZoneFrom::Name(_) => None,
         },
         time: layout.time,
+        from: layout.from,
         unit: layout.unit,
         delimiter: layout.delimiter.byte(),
     }
@@ -223,7 +236,8 @@ fn named_in(request: &Request) -> &[String] {
             Zones::Tree(_) => &[],
         },
         Request::Build { sources, .. } => sources,
-        Request::Show { file, .. } | Request::Dump { file, .. } => slice::from_ref(file),
+        Request::Show { file, .. } | Request::ShowLocal { file, .. } | Request::Dump { file, .. } =>
+            slice::from_ref(file),
         Request::Explain { .. } | Request::Version { .. } => &[],
     }
 }

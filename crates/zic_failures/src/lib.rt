@@ -4,6 +4,7 @@
 
 mod column;
 mod explainer;
+mod quote;
 mod refused;
 
 pub use explainer::Explainer;
