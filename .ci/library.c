@@ -3,12 +3,25 @@
 // `--wrap=malloc` and `--wrap=realloc`, so that growths of memory can be refused.
 #include <pthread.h>
 #include <stdbool.h>
+#include <stddef.h>
 #include <stdio.h>
 #include <stdlib.h>
 #include <string.h>
 #include <time.h>
 
 #include "pzic.h"
+#include "pzic_tree.h"
+
+// Programs that were linked before keep their structs.
+_Static_assert(sizeof(pzic_handle) == 16 && offsetof(pzic_handle, kind) == 8, "handle");
+_Static_assert(sizeof(pzic_state) == 40 && offsetof(pzic_state, daylight) == 4, "state");
+_Static_assert(offsetof(pzic_state, name_length) == 8 && offsetof(pzic_state, name) == 16, "name");
+_Static_assert(sizeof(pzic_fault) == 24 && offsetof(pzic_fault, line) == 8, "fault");
+_Static_assert(offsetof(pzic_fault, kind) == 16, "kind");
+_Static_assert(sizeof(pzic_row_fault) == 16 && offsetof(pzic_row_fault, kind) == 8, "row fault");
+_Static_assert(sizeof(pzic_local_time) == 40 && offsetof(pzic_local_time, change) == 16, "local time");
+_Static_assert(offsetof(pzic_local_time, before) == 24 && offsetof(pzic_local_time, after) == 28, "gap");
+_Static_assert(offsetof(pzic_local_time, count) == 32, "count");
 
 #define CHECK(holds)                                                              \
     do {                                                                          \
@@ -87,7 +100,7 @@ static int64_t next_instant(uint64_t *seed) {
 }
 
 // Compares a zone with localtime_r at many instants.
-static void compare(const file *f, pzic_handle *zone) {
+static void compare(const file *f, const pzic_handle *zone) {
     char setting[4100];
     snprintf(setting, sizeof setting, ":%s", f->path);
     CHECK(setenv("TZ", setting, 1) == 0);
@@ -108,7 +121,7 @@ static void compare(const file *f, pzic_handle *zone) {
 
 // Goes over spans: each begins where the one before ends, and the answer differs or a transition
 // stands there.
-static void go_over_spans(pzic_handle *zone) {
+static void go_over_spans(const pzic_handle *zone) {
     int64_t first, last, next = INT64_MIN;
     int spans = 0;
     pzic_state state, other;
@@ -125,7 +138,7 @@ static void go_over_spans(pzic_handle *zone) {
 }
 
 // Compares a column with single answers. The instants are sorted, or not.
-static void compare_column(pzic_handle *zone, bool sorted) {
+static void compare_column(const pzic_handle *zone, bool sorted) {
     int64_t *instants = malloc(MANY * sizeof *instants);
     int32_t *offsets = malloc(MANY * sizeof *offsets);
     uint8_t *flags = malloc(MANY);
@@ -150,6 +163,133 @@ static void compare_column(pzic_handle *zone, bool sorted) {
     free(instants);
     free(offsets);
     free(flags);
+}
+
+// Tells the instants of a local time as a search through the spans of its 52 hours does.
+static pzic_local_time search(const pzic_handle *zone, int64_t local) {
+    enum { FARTHEST = 26 * 3600 - 1 };
+    pzic_local_time found = {0};
+    pzic_state state, before = {0};
+    int64_t first, last, at = local - FARTHEST;
+    bool has_gap = false;
+    for (bool is_first = true;; at = last + 1, is_first = false) {
+        CHECK(pzic_zone_span(zone, at, &state, &first, &last) == PZIC_OK);
+        int64_t t = local - state.offset;
+        if (!is_first && !has_gap && first + before.offset <= local && local < first + state.offset) {
+            found.change = first, found.before = before.offset, found.after = state.offset;
+            has_gap = true;
+        }
+        if (at <= t && t <= last) {
+            if (found.count++ == 0) found.first = t;
+            found.last = t;
+        }
+        if (last >= local + FARTHEST) break;
+        before = state;
+    }
+    if (found.count > 0) found.change = 0, found.before = 0, found.after = 0;
+    return found;
+}
+
+static bool are_equal(const pzic_local_time *a, const pzic_local_time *b) {
+    return a->first == b->first && a->last == b->last && a->change == b->change
+        && a->before == b->before && a->after == b->after && a->count == b->count;
+}
+
+// The instant that is meant by what is told of a local time, and its status.
+static int32_t choose(const pzic_local_time *found, int64_t local, uint32_t choice, int64_t *instant) {
+    *instant = 0;
+    if (found->count == 0 && choice == PZIC_REJECT) return PZIC_GAP;
+    if (found->count > 1 && choice == PZIC_REJECT) return PZIC_FOLD;
+    if (found->count == 0) *instant = local - (choice == PZIC_EARLIER ? found->after : found->before);
+    else *instant = choice == PZIC_LATER ? found->last : found->first;
+    return PZIC_OK;
+}
+
+// Compares the instants of local times with a search, and those of local times that have one with
+// the C library's mktime. Many lie near changes.
+static void compare_instants(const pzic_handle *zone) {
+    enum { COUNT = 4000 };
+    int64_t *locals = malloc(COUNT * sizeof *locals), *instants = malloc(COUNT * sizeof *instants);
+    uint8_t *statuses = malloc(COUNT);
+    CHECK(locals && instants && statuses);
+    uint64_t seed = 521288629;
+    for (int i = 0; i < COUNT; i++) {
+        int64_t first, last, t = next_instant(&seed);
+        pzic_state state;
+        CHECK(pzic_zone_span(zone, t, &state, &first, &last) == PZIC_OK);
+        locals[i] = i % 2 || first == INT64_MIN ? t : first + state.offset + (int64_t)(seed % 10000) - 5000;
+    }
+    for (uint32_t choice = PZIC_REJECT; choice <= PZIC_COMPATIBLE; choice++) {
+        CHECK(pzic_zone_instants_array(zone, choice, locals, COUNT, instants, COUNT, statuses, COUNT) == PZIC_OK);
+        for (int i = 0; i < COUNT; i++) {
+            pzic_local_time found, want = search(zone, locals[i]);
+            int64_t instant, one = 77;
+            CHECK(pzic_zone_instants(zone, locals[i], &found) == PZIC_OK && are_equal(&found, &want));
+            CHECK(choose(&want, locals[i], choice, &instant) == statuses[i] && instant == instants[i]);
+            CHECK(pzic_zone_instant(zone, choice, locals[i], &one) == statuses[i]);
+            CHECK(one == (statuses[i] == PZIC_OK ? instant : 77));
+            if (choice != PZIC_REJECT || found.count != 1) continue;
+            time_t shown = locals[i];
+            struct tm tm;
+            CHECK(gmtime_r(&shown, &tm) != NULL);
+            tm.tm_isdst = -1;
+            CHECK(mktime(&tm) == instants[i]);
+        }
+    }
+    instants[0] = 5, statuses[0] = 6;
+    CHECK(pzic_zone_instants_array(zone, 4, locals, 1, instants, 1, statuses, 1) == PZIC_NO_SUCH);
+    CHECK(pzic_zone_instants_array(zone, 4, locals, 1, instants, 2, statuses, 1) == PZIC_LENGTHS);
+    CHECK(pzic_zone_instants_array(zone, 0, locals, 1, instants, 1, statuses, 2) == PZIC_LENGTHS);
+    CHECK(pzic_zone_instants_array(zone, 0, NULL, 0, NULL, 0, NULL, 0) == PZIC_OK);
+    CHECK(instants[0] == 5 && statuses[0] == 6);
+    // The first and the last local times whose instants may be outside of 64 bits.
+    static const int64_t edges[] = {INT64_MIN + 93598, INT64_MIN + 93599, INT64_MAX - 93599, INT64_MAX - 93598};
+    for (int i = 0; i < 4; i++) {
+        pzic_local_time found = {.count = 9};
+        int32_t want = i == 1 || i == 2 ? PZIC_OK : PZIC_OUT_OF_RANGE;
+        CHECK(pzic_zone_instants(zone, edges[i], &found) == want && (found.count == 9) == (want != PZIC_OK));
+        CHECK(pzic_zone_instants_array(zone, 3, &edges[i], 1, instants, 1, statuses, 1) == PZIC_OK);
+        CHECK(statuses[0] == want && (instants[0] == 0) == (want != PZIC_OK));
+    }
+    free(locals);
+    free(instants);
+    free(statuses);
+}
+
+// Local times of Dublin in 2024: the clocks go forward on 31 March at 01:00, and back on 27 October at
+// 02:00 (tz database, europe).
+static void tell_gap_and_fold(const pzic_handle *dublin) {
+    pzic_local_time found;
+    int64_t instant = 0;
+    CHECK(pzic_zone_instants(dublin, 1711848600, &found) == PZIC_OK);
+    CHECK(found.count == 0 && found.change == 1711846800 && found.before == 0 && found.after == 3600);
+    CHECK(pzic_zone_instant(dublin, PZIC_REJECT, 1711848600, &instant) == PZIC_GAP && instant == 0);
+    CHECK(pzic_zone_instant(dublin, PZIC_COMPATIBLE, 1711848600, &instant) == PZIC_OK && instant == 1711848600);
+    CHECK(pzic_zone_instant(dublin, PZIC_EARLIER, 1711848600, &instant) == PZIC_OK && instant == 1711845000);
+    CHECK(pzic_zone_instants(dublin, 1729992600, &found) == PZIC_OK);
+    CHECK(found.count == 2 && found.first == 1729989000 && found.last == 1729992600);
+    CHECK(pzic_zone_instant(dublin, PZIC_REJECT, 1729992600, &instant) == PZIC_FOLD);
+    CHECK(pzic_zone_instant(dublin, PZIC_LATER, 1729992600, &instant) == PZIC_OK && instant == 1729992600);
+    CHECK(pzic_zone_instants(dublin, 1720003600, &found) == PZIC_OK);
+    CHECK(found.count == 1 && found.first == 1720000000 && found.last == 1720000000);
+}
+
+// Zones by name from a folder. No name leads out of it.
+static void open_tree(const char *tree, const char *name) {
+    static const char *const none[] = {"", "/", "..", "../x", "a/../b", "a//b", "./a", "a/.", "a/", "/etc/passwd", "Nowhere"};
+    pzic_handle zone = PZIC_HANDLE_INIT;
+    uint32_t reason = 77;
+    pzic_state state;
+    CHECK(pzic_tree_zone(tree, name, &zone, &reason) == PZIC_OK && zone.kind == 1 && reason == 77);
+    CHECK(pzic_zone_at(&zone, 0, &state) == PZIC_OK);
+    for (size_t i = 0; i < sizeof none / sizeof *none; i++) {
+        CHECK(pzic_tree_zone(tree, none[i], &zone, &reason) == PZIC_NO_SUCH && zone.kind == 0);
+        CHECK(pzic_tree_zone(tree, name, &zone, &reason) == PZIC_OK);
+    }
+    CHECK(pzic_tree_zone("/etc", "passwd", &zone, &reason) == PZIC_BAD_FILE && zone.kind == 0);
+    CHECK(reason == PZIC_REASON_MAGIC);
+    CHECK(pzic_tree_zone("/", "etc", &zone, &reason) == PZIC_NO_SUCH);
+    CHECK(pzic_tree_zone("/dev", "null", &zone, &reason) == PZIC_NO_SUCH);
 }
 
 // Each beginning of a file is refused, and so are other bytes.
@@ -195,6 +335,11 @@ static void refuse_nothing(void) {
     CHECK(state.offset == 5 && first == 6 && last == 7);
     CHECK(pzic_zone_offsets(&zone, &instant, 1, &offset, 1, &flag, 1) == PZIC_NO_HANDLE);
     CHECK(offset == 8 && flag == 9);
+    pzic_local_time found = {.count = 4};
+    int64_t meant = 6;
+    CHECK(pzic_zone_instants(&zone, 0, &found) == PZIC_NO_HANDLE && found.count == 4);
+    CHECK(pzic_zone_instants_array(&zone, 0, &instant, 1, &meant, 1, &flag, 1) == PZIC_NO_HANDLE);
+    CHECK(meant == 6 && flag == 9);
     CHECK(pzic_share(&zone, &other) == PZIC_NO_HANDLE && other.kind == 0);
     pzic_free(&zone);
     pzic_free(&zone);
@@ -238,6 +383,12 @@ static void leave_open(void) {
     uint8_t flags[2] = {7, 7};
     CHECK(pzic_zone_offsets(&zone, instants, 2, offsets, 2, flags, 2) == PZIC_OK);
     CHECK(offsets[0] == 0 && flags[0] == PZIC_OPEN && offsets[1] == 60 && flags[1] == 0);
+    pzic_local_time found;
+    CHECK(pzic_zone_instants(&zone, 5000, &found) == PZIC_UNSPECIFIED && found.count == 0);
+    CHECK(found.first == 0 && found.change == 0 && found.before == 0 && found.after == 0);
+    CHECK(pzic_zone_instants_array(&zone, PZIC_LATER, instants, 2, &first, 1, flags, 2) == PZIC_LENGTHS);
+    CHECK(pzic_zone_instant(&zone, PZIC_LATER, 5000, &first) == PZIC_UNSPECIFIED && first == 1000);
+    CHECK(pzic_zone_instant(&zone, PZIC_REJECT, 1000, &first) == PZIC_OK && first == 940);
     pzic_free(&zone);
 }
 
@@ -253,7 +404,7 @@ static int32_t compile(const char *text, pzic_handle *files, pzic_fault *fault) 
     return pzic_compile((const uint8_t *)text, length, &length, 1, files, fault);
 }
 
-static int32_t find(pzic_handle *files, const char *name, size_t *number) {
+static int32_t find(const pzic_handle *files, const char *name, size_t *number) {
     return pzic_files_find(files, (const uint8_t *)name, strlen(name), number);
 }
 
@@ -361,7 +512,7 @@ static void compile_texts(void) {
     pzic_free(&files);
 }
 
-static void expect_file(pzic_handle *files, size_t number, const char *name, size_t size) {
+static void expect_file(const pzic_handle *files, size_t number, const char *name, size_t size) {
     uint8_t room[20];
     size_t length = 0;
     CHECK(pzic_files_name(files, number, room, sizeof room, &length) == PZIC_OK);
@@ -417,11 +568,11 @@ static const char converted[] =
     "Test/York,1720000000,2024-07-03T05:46:40,-04:00:00,1,EDT\n"
     "Test/Fixed,-1,1970-01-01T00:59:59,+01:00:00,0,XYZ\n";
 
-static int32_t convert(pzic_handle *files, const char *text, pzic_handle *rows, pzic_row_fault *fault) {
+static int32_t convert(const pzic_handle *files, const char *text, pzic_handle *rows, pzic_row_fault *fault) {
     return pzic_rows(files, (const uint8_t *)text, strlen(text), rows, fault);
 }
 
-static void expect_rows(pzic_handle *rows, const char *want) {
+static void expect_rows(const pzic_handle *rows, const char *want) {
     size_t length = 0;
     uint8_t room[200];
     memset(room, 'x', sizeof room);
@@ -474,7 +625,7 @@ static void convert_columns(void) {
     pzic_free(&files);
 }
 
-static void fill(pzic_handle *handle, pzic_handle *other) {
+static void fill(const pzic_handle *handle, pzic_handle *other) {
     CHECK(pzic_share(handle, other) == PZIC_OK && other->kind == handle->kind && other->kind != 0);
 }
 
@@ -624,23 +775,28 @@ static void refuse_growths(const file *f) {
 
 typedef struct task {
     const file *f;
-    pzic_handle zone;
+    const pzic_handle *shared;
+    pzic_handle own;
 } task;
 
-// What each thread does: it uses its handle of the shared zone, reads a zone of its own, and makes
-// files and rows, so that each call is made from each thread.
+// What each thread does: it reads the one zone that all threads have, as they all do at once, makes
+// handles of the same, and reads a zone of its own, files and rows, so that each call is made from each
+// thread.
 static void *work(void *argument) {
     task *mine = argument;
-    go_over_spans(&mine->zone);
-    compare_column(&mine->zone, false);
-    compare_column(&mine->zone, true);
+    const pzic_handle *zone = mine->shared;
+    go_over_spans(zone);
+    compare_column(zone, false);
+    compare_column(zone, true);
+    compare_instants(zone);
     for (int i = 0; i < 50; i++) {
         pzic_handle again = {0}, own = {0};
         pzic_state state, same;
         read_zone(mine->f, &own);
-        CHECK(pzic_share(&mine->zone, &again) == PZIC_OK);
+        CHECK(pzic_share(zone, &again) == PZIC_OK);
         CHECK(pzic_zone_at(&again, i * INT64_C(40000000), &state) == PZIC_OK);
         CHECK(pzic_zone_at(&own, i * INT64_C(40000000), &same) == PZIC_OK && are_same(&state, &same));
+        CHECK(pzic_zone_at(zone, i * INT64_C(40000000), &same) == PZIC_OK && are_same(&state, &same));
         pzic_free(&own);
         pzic_free(&again);
     }
@@ -649,7 +805,8 @@ static void *work(void *argument) {
     empty_handles();
     compile_texts();
     name_faults();
-    pzic_free(&mine->zone);
+    go_over_spans(&mine->own);
+    pzic_free(&mine->own);
     return NULL;
 }
 
@@ -659,18 +816,36 @@ static void use_threads(const file *f) {
     task tasks[THREADS];
     read_zone(f, &zone);
     for (int i = 0; i < THREADS; i++) {
-        tasks[i] = (task){.f = f};
-        CHECK(pzic_share(&zone, &tasks[i].zone) == PZIC_OK);
+        tasks[i] = (task){.f = f, .shared = &zone};
+        CHECK(pzic_share(&zone, &tasks[i].own) == PZIC_OK);
         CHECK(pthread_create(&threads[i], NULL, work, &tasks[i]) == 0);
     }
     compare_column(&zone, false);
-    // The zone is let go in whatever thread is last. The sanitizer of threads doesn't see the
-    // library's count of handles, so for it this thread is the last.
-#ifndef __SANITIZE_THREAD__
-    pzic_free(&zone);
-#endif
     for (int i = 0; i < THREADS; i++) CHECK(pthread_join(threads[i], NULL) == 0);
     pzic_free(&zone);
+    CHECK(zone.kind == 0 && zone.at == NULL);
+}
+
+// A zone is let go in whatever thread is last.
+static void *read_and_free(void *argument) {
+    pzic_handle *own = argument;
+    go_over_spans(own);
+    pzic_free(own);
+    return NULL;
+}
+
+static void free_in_threads(const file *f) {
+    for (int round = 0; round < 20; round++) {
+        pzic_handle zone = {0}, own[THREADS] = {{0}};
+        pthread_t threads[THREADS];
+        read_zone(f, &zone);
+        for (int i = 0; i < THREADS; i++) {
+            CHECK(pzic_share(&zone, &own[i]) == PZIC_OK);
+            CHECK(pthread_create(&threads[i], NULL, read_and_free, &own[i]) == 0);
+        }
+        pzic_free(&zone);
+        for (int i = 0; i < THREADS; i++) CHECK(pthread_join(threads[i], NULL) == 0);
+    }
 }
 
 int main(int count, char **words) {
@@ -695,12 +870,16 @@ int main(int count, char **words) {
         go_over_spans(&zone);
         compare_column(&zone, false);
         compare_column(&zone, true);
+        compare_instants(&zone);
+        if (i == 2) tell_gap_and_fold(&zone);
+        open_tree(words[1], words[i]);
         pzic_free(&zone);
         if (i == 2) {
             refuse_bytes(&f);
             share(&f);
             refuse_growths(&f);
             use_threads(&f);
+            free_in_threads(&f);
         }
         free(f.bytes);
     }

@@ -1,23 +1,33 @@
 #!/usr/bin/env bash
-# Tests the library: the header alone as C99 and as C++17; the calls from C, under the sanitizers of
+# Tests the library: the headers as C99, C11 and C++17; the calls from C, under the sanitizers of
 # addresses and of undefined behaviour and under that of threads, beside the C library's own reader;
-# the Python package beside Python's zoneinfo, its objects, its types, and as pip installs it; a Rust
-# program; and the examples of docs/LIBRARY.md.
+# the extension of SQLite; the Python package beside Python's zoneinfo, its objects, its types, and as
+# pip installs it; and the examples of docs/LIBRARY.md in each language.
 set -euo pipefail
 cd "$(dirname "${BASH_SOURCE[0]}")/.."
 . .ci/release.sh
 built=$work/library tree=$work/zones
+echo '#include <sqlite3ext.h>' | cc -E - >"$work/log" 2>&1 || install libsqlite3-dev || echo 'library: no sqlite3ext.h'
 ./make-library "$built"
 build zic_main check -
 crates/zic_main/out/zic_main build "$tree" "$release"
 
-# The header alone, and its version.
+# The headers, as each standard has them, and the version.
 IFS=. read -r first second third < <(sed -n 's/^pzic //p' docs/help/version.txt)
 grep -qx "#define PZIC_VERSION $((10000 * first + 100 * second + third))" include/pzic.h
-echo '#include "pzic.h"' >"$work/alone.c"
-strict=(-Wall -Wextra -Wpedantic -Werror -I include -fsyntax-only)
-cc -std=c99 "${strict[@]}" "$work/alone.c"
-c++ -std=c++17 "${strict[@]}" -x c++ "$work/alone.c"
+strict=(-Wall -Wextra -Wconversion -pedantic -Werror -I include -fsyntax-only)
+for header in pzic.h pzic_tree.h; do
+    echo "#include \"$header\"" >"$work/alone.c"
+    for compiler in cc clang; do
+        command -v "$compiler" >"$work/log" || { echo "library: no $compiler"; continue; }
+        for standard in c99 c11; do
+            "$compiler" "-std=$standard" -D_POSIX_C_SOURCE=200809L "${strict[@]}" "$work/alone.c"
+        done
+    done
+    c++ -std=c++17 "${strict[@]}" -x c++ "$work/alone.c"
+done
+echo '#include "pzic.hpp"' >"$work/alone.cpp"
+c++ -std=c++17 "${strict[@]}" "$work/alone.cpp"
 
 # The calls from C. The twenty zones are such that their rules differ.
 zones=(Europe/Dublin America/New_York Africa/Casablanca Asia/Gaza America/Nuuk Australia/Lord_Howe
@@ -25,17 +35,24 @@ zones=(Europe/Dublin America/New_York Africa/Casablanca Asia/Gaza America/Nuuk A
     Africa/Cairo America/Santiago Pacific/Auckland Asia/Tokyo Africa/Monrovia Europe/Lisbon
     America/Scoresbysund Asia/Manila)
 wrap=(-Wl,--wrap=malloc -Wl,--wrap=realloc)
-for sanitizers in address,undefined thread; do
-    cc -std=gnu11 -O1 -g -Wall -Wextra -Werror "-fsanitize=$sanitizers" -fno-sanitize-recover=all \
-        -I include .ci/library.c "$built/lib/libpzic.a" "${wrap[@]}" -lpthread -o "$work/calls"
+for tools in 'cc address,undefined' 'cc thread' 'clang thread'; do
+    read -r compiler sanitizers <<<"$tools"
+    command -v "$compiler" >"$work/log" || { echo "library: no $compiler"; continue; }
+    "$compiler" -std=gnu11 -O1 -g -Wall -Wextra -Wconversion -Werror "-fsanitize=$sanitizers" \
+        -fno-sanitize-recover=all -I include .ci/library.c "$built/lib/libpzic.a" "${wrap[@]}" -lpthread -o "$work/calls"
     got=$("$work/calls" "$tree" "${zones[@]}")
-    [ "$got" = "${#zones[@]} zones" ] || { echo "library: $sanitizers: got '$got'" >&2; exit 1; }
-    echo "library: C, $sanitizers: $got"
+    [ "$got" = "${#zones[@]} zones" ] || { echo "library: $tools: got '$got'" >&2; exit 1; }
+    echo "library: C, $tools: $got"
 done
 
-# The shared library has the calls, and no other name.
+# The stack that each call uses.
+cc -std=gnu11 -O1 -Wall -Wextra -Wconversion -Werror -I include .ci/library_stack.c "$built/lib/libpzic.a" -lpthread \
+    -o "$work/stack"
+"$work/stack" "$tree/America/New_York" | sed 's/^/library: /'
+
+# The shared library has the calls that the header declares, and no other name.
 nm -D --defined-only "$built/lib/libpzic.so" | awk '{ print $3 }' | sort >"$work/names"
-grep -o 'pzic_[a-z_]*[a-z](' include/pzic.h | tr -d '(' | sort -u >"$work/declared"
+sed -n 's/^\(int32_t\|uint32_t\|void\) \(pzic_[a-z_]*\)(.*/\2/p' include/pzic.h | sort >"$work/declared"
 diff "$work/declared" "$work/names"
 
 # Python. Debian's own may have numpy and pandas.
@@ -47,6 +64,34 @@ if [ -x /usr/bin/python3 ]; then
 fi
 "$python" witness/library.py "$tree"
 "$python" witness/python_objects.py "$tree"
+
+# The extension of SQLite, from Python, and from its own program under valgrind.
+extension=$built/lib/pzic_sqlite.so
+if [ ! -e "$extension" ]; then
+    echo 'library: no extension of SQLite'
+else
+    "$python" witness/sqlite_local.py "$tree" "$extension"
+    command -v sqlite3 >"$work/log" || install sqlite3 2>"$work/log" || true
+    command -v valgrind >"$work/log" || install valgrind 2>"$work/log" || true
+    if command -v sqlite3 >"$work/log" && command -v valgrind >"$work/log"; then
+        cat >"$work/asked.sql" <<END
+.load ${extension%.so}
+SELECT pzic_open('$tree') = '$tree';
+SELECT pzic_local('Europe/Dublin', 1720000000), pzic_offset('Asia/Tokyo', 0), pzic_abbreviation('Etc/UTC', 5);
+SELECT pzic_instant('Europe/Dublin', '2024-10-27 01:30', 'later'), pzic_local(NULL, 1);
+SELECT pzic_local('Nowhere', 0);
+SELECT sum(pzic_offset('America/New_York', value * 100000)) FROM (
+    WITH RECURSIVE n(value) AS (SELECT 0 UNION ALL SELECT value + 1 FROM n LIMIT 20000) SELECT value FROM n);
+END
+        valgrind -q --leak-check=full --errors-for-leak-kinds=definite --error-exitcode=9 \
+            sqlite3 :memory: <"$work/asked.sql" >"$work/answered" 2>"$work/log" && status=0 || status=$?
+        grep -q 'no such zone' "$work/log" && [ "$status" -ne 9 ] || { cat "$work/log" >&2; exit 1; }
+        head -n 3 "$work/answered" | diff - <(printf '1\n2024-07-03 10:46:40|32400|UTC\n1729992600|\n')
+        echo 'library: the extension of SQLite, under valgrind'
+    else
+        echo 'library: no sqlite3 or no valgrind'
+    fi
+fi
 
 # CPython's tests of zoneinfo. Debian has them in a package of their own.
 tests='from test.test_zoneinfo import test_zoneinfo'

@@ -6,7 +6,7 @@ import ctypes
 import pzic
 from pzic import _library as c
 
-zone_at = c.declare(c.short, "pzic_zone_at", ctypes.POINTER(c.Handle), ctypes.c_int64, ctypes.POINTER(c.CState))
+zone_at = c.declare(c.short, "pzic_raw_zone_at", ctypes.POINTER(c.Handle), ctypes.c_int64, ctypes.POINTER(c.CState))
 
 
 def line_at(zone, t, state):

@@ -1,12 +1,13 @@
 """Runs the examples of the library's page: `examples.py PAGE WORK LIBRARY TREE`.
 
-Each block of C, Python or Rust is compiled and run, and must print what the page shows after it. Those with pandas are
-left out where it is missing.
+Each block of C, C++, Go, Python, Rust or SQL is compiled and run, and must print what the page shows after it. Those in a
+language that isn't there are left out by name, and so are those with pandas where it is missing.
 """
 
 import importlib.util
 import os
 import re
+import shutil
 import subprocess
 import sys
 
@@ -16,8 +17,15 @@ with open(page, encoding="utf-8") as file:
 dublin = os.path.join(tree, "Europe/Dublin")
 
 
-def run(*words):
-    return subprocess.run(words, check=True, capture_output=True, text=True).stdout
+#: What each language is run by.
+TOOLS = {"c": "cc", "cpp": "g++", "go": "go", "python": sys.executable, "rust": "rustc", "sqlite": "sqlite3"}
+
+
+def run(*words, text=None, folder=None):
+    done = subprocess.run(words, capture_output=True, text=True, input=text, cwd=folder)
+    if done.returncode:
+        sys.exit(f"{page}: {' '.join(words)}: status {done.returncode}\n{done.stderr}")
+    return done.stdout
 
 
 def write(name, text):
@@ -31,25 +39,44 @@ def text_after(i):
     return next(text for language, text in blocks[i + 1 :] if language == "text")
 
 
+def flags():
+    return run("pkg-config", "--cflags", "--libs", "pzic").split()
+
+
 def run_block(language, text):
     program = os.path.join(work, "example")
+    words = [tree if "pzic_tree" in text else dublin]
+    strict = ["-Wall", "-Wextra", "-Werror", "-Wconversion", "-pedantic", "-o", program]
     if language == "c":
-        flags = run("pkg-config", "--cflags", "--libs", "pzic").split()
-        run("cc", "-Wall", "-Wextra", "-Werror", "-o", program, write("zone.c", text), *flags)
-        return run(program, dublin)
-    if language == "python":
+        run("cc", *strict, write("zone.c", text), *flags())
+    elif language == "cpp":
+        run("g++", "-std=c++17", *strict, write("zone.cpp", text), *flags())
+    elif language == "go":
+        run("go", "build", "-o", program, write("zone.go", text))
+    elif language == "rust":
+        source = write("zone.rs", text)
+        run("rustc", "--edition", "2021", source, "-o", program, "-L", f"{library}/lib", "-l", "static=pzic")
+    elif language == "python":
         return run(sys.executable, write("zone.py", text), tree)
-    source = write("zone.rs", text)
-    run("rustc", "--edition", "2021", source, "-o", program, "-L", f"{library}/lib", "-l", "static=pzic")
-    return run(program, dublin)
+    else:
+        return run("sqlite3", text=text, folder=f"{library}/lib")
+    return run(program, *words)
+
+
+def is_missing(language, text):
+    if language == "sqlite" and not os.path.exists(f"{library}/lib/pzic_sqlite.so"):
+        return True
+    return not shutil.which(TOOLS[language]) or ("import pandas" in text and not importlib.util.find_spec("pandas"))
 
 
 for i, (language, text) in enumerate(blocks):
-    if "import pandas" in text and not importlib.util.find_spec("pandas"):
-        print("library: no pandas: an example is left out")
-    elif language in ("c", "python", "rust"):
-        got = run_block(language, text)
-        want = "3600 IST\n" if language == "rust" else text_after(i)
-        if got != want:
-            sys.exit(f"{page}: {language}: got {got!r}, and not {want!r}")
-        print(f"library: the example for {language}")
+    if language not in TOOLS:
+        continue
+    if is_missing(language, text):
+        print(f"library: an example for {language} is left out: something that it needs isn't there")
+        continue
+    got = run_block(language, text)
+    want = "3600 IST\n" if language == "rust" else text_after(i)
+    if got != want:
+        sys.exit(f"{page}: {language}: got {got!r}, and not {want!r}")
+    print(f"library: the example for {language}")

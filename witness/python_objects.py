@@ -343,6 +343,73 @@ def convert_by_pandas(zone, numpy, pandas):
     check(pandas.Timestamp(INSTANT, unit="s", tz=python).utcoffset() == HOUR, "to_zoneinfo")
 
 
+# ------------------------------------------------------------------ local times
+
+TWICE, NEVER = datetime(2024, 10, 27, 1, 30), datetime(2024, 3, 31, 1, 30)
+
+
+def seconds(shown):
+    return (shown - datetime(1970, 1, 1)) // timedelta(seconds=1)
+
+
+def tell_local_times(tree):
+    dublin = tree["Europe/Dublin"]
+    check(dublin.instants(TWICE) == (2, 1729989000, 1729992600, None), "fold", dublin.instants(TWICE))
+    check(dublin.instants(NEVER) == (0, None, None, (1711846800, 0, 3600)), "gap", dublin.instants(NEVER))
+    check(dublin.instants(seconds(TWICE)) == dublin.instants(TWICE), "seconds")
+    check(dublin.instant(TWICE) == dublin.instant(TWICE, "earlier") == 1729989000, "earlier")
+    check(dublin.instant(TWICE, ambiguous="later") == 1729992600, "later")
+    check(dublin.instant(NEVER) == dublin.instant(NEVER, "later") == 1711848600, "after a gap")
+    check(dublin.instant(NEVER, "earlier") == 1711845000, "before a gap")
+    for shown, reason in (TWICE, "Fold"), (NEVER, "Gap"):
+        error = refuses(pzic.NoInstant, dublin.instant, shown, "reject")
+        check(error.reason == reason and error.local == seconds(shown), "reject", error)
+        check(all(made.args == error.args for made in copies_of(error)), "copies of an error")
+    refuses(ValueError, dublin.instant, TWICE, "first")
+    refuses(ValueError, dublin.instants, TWICE.replace(tzinfo=UTC))
+    refuses(OverflowError, dublin.instants, pzic.MIN_INSTANT)
+    refuses(OverflowError, dublin.instants, 2**63)
+    refuses(TypeError, dublin.instants, 0.5)
+    unknown = pzic.Zone(open_until())
+    check(unknown.instants(5000) == (0, None, None, None), "unspecified", unknown.instants(5000))
+    check(refuses(pzic.NoInstant, unknown.instant, 5000).reason == "Unspecified", "unspecified")
+    locals = array.array("q", map(seconds, (TWICE, NEVER, datetime(2024, 7, 3, 10, 46, 40))))
+    instants, statuses = dublin.instant_array(locals, "reject")
+    check(list(instants) == [0, 0, INSTANT], "array", instants)
+    check(list(statuses) == [pzic.FOLD, pzic.GAP, 0], "array", statuses)
+    check(list(dublin.instant_array(locals)[0]) == [1729989000, 1711848600, INSTANT], "array")
+    check(list(dublin.instant_array(array.array("q", [pzic.MAX_INSTANT]))[1]) == [pzic.OUT_OF_RANGE], "range")
+    refuses(ValueError, dublin.instant_array, locals, "first")
+    refuses(ValueError, dublin.instant_array, locals, "reject", locals)
+    compare_instants(tree)
+
+
+def open_until():
+    """Return a file whose local time is open from 1000 on, after a minute east of UT."""
+    head = b"TZif2" + bytes(15)
+    block = (1000).to_bytes(8, "big") + b"\1" + (60).to_bytes(4, "big") + b"\0\0" + (120).to_bytes(4, "big") + b"\1\4"
+    counts = b"".join(n.to_bytes(4, "big") for n in (0, 0, 0, 1, 2, 8))
+    return head + bytes(24) + head + counts + block + b"ABC\0DEF\0\n\n"
+
+
+def compare_instants(tree):
+    """Compare the instants of local times near changes with zoneinfo's."""
+    chance = random.Random(5)
+    for name in chance.sample(sorted(zoneinfo.available_timezones() & set(tree)), 60):
+        zone, python = tree[name], zoneinfo.ZoneInfo(name)
+        for _ in range(20):
+            span = zone.span(chance.randrange(-2208988800, 4102444800))
+            begin = max(span.first, -2208988800)
+            shown = datetime(1970, 1, 1) + timedelta(seconds=begin + chance.randrange(-7200, 50000))
+            instants = [seconds(shown - shown.replace(tzinfo=python, fold=fold).utcoffset()) for fold in (0, 1)]
+            found = zone.instants(shown)
+            if found.gap is None:
+                check([found.first, found.last] == instants, "zoneinfo", name, shown, found, instants)
+            else:
+                got = [zone.instant(shown, "later"), zone.instant(shown, "earlier")]
+                check(got == instants, "zoneinfo's gap", name, shown, got, instants)
+
+
 def use_pandas(tree):
     try:
         import numpy
@@ -350,6 +417,11 @@ def use_pandas(tree):
     except ImportError as missing:
         return str(missing)
     convert_by_pandas(tree["Europe/Dublin"], numpy, pandas)
+    locals = pandas.Series([TWICE, pandas.NaT, NEVER])
+    instants, statuses = tree["Europe/Dublin"].instant_array(locals, "reject")
+    check(numpy.isnat(instants).all() and statuses.tolist() == [pzic.FOLD, pzic.UNSPECIFIED, pzic.GAP], "NaT", instants)
+    instants, statuses = tree["Europe/Dublin"].instant_array(locals, "later")
+    check(instants[[0, 2]].astype("int64").tolist() == [1729992600, 1711848600], "datetime64", instants)
     compare_columns(tree, numpy, pandas)
     return "numpy and pandas"
 
@@ -370,6 +442,7 @@ def main():
     compare_arithmetic(tree)
     look_at_statuses(tree["Europe/Dublin"])
     refuse_arrays(tree["Europe/Dublin"])
+    tell_local_times(tree)
     print(f"library: Python's objects, {use_pandas(tree)}")
 
 

@@ -14,26 +14,41 @@ The library is looked for under the path that the variable ``PZIC_LIBRARY`` name
 package, and then where the system has its libraries.
 """
 
-from pzic._array import DAYLIGHT, OPEN, Columns
-from pzic._errors import BadFile, BadName, BadRow, BadSource, NoSuchZone
+from pzic._array import (
+    DAYLIGHT,
+    FOLD,
+    GAP,
+    OPEN,
+    OUT_OF_RANGE,
+    UNSPECIFIED,
+    Columns,
+)
+from pzic._errors import BadFile, BadName, BadRow, BadSource, NoInstant, NoSuchZone
 from pzic._library import MAX_INSTANT, MIN_INSTANT
 from pzic._timezone import TimeZone
 from pzic._tree import Compiled, Tree
-from pzic._zone import Span, State, Zone
+from pzic._zone import Gap, Instants, Span, State, Zone
 
 __version__ = "0.1.0"
 
 __all__ = [
     "DAYLIGHT",
+    "FOLD",
+    "GAP",
     "MAX_INSTANT",
     "MIN_INSTANT",
     "OPEN",
+    "OUT_OF_RANGE",
+    "UNSPECIFIED",
     "BadFile",
     "BadName",
     "BadRow",
     "BadSource",
     "Columns",
     "Compiled",
+    "Gap",
+    "Instants",
+    "NoInstant",
     "NoSuchZone",
     "Span",
     "State",

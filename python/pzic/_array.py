@@ -19,6 +19,13 @@ DAYLIGHT = 1
 #: The flag of an instant at which the file leaves local time open, or that is missing.
 OPEN = 2
 
+#: Why no instant is meant by a local time: it is in a gap or in a fold, the file leaves local time open,
+#: or the local time is within 26 hours of an end of 64 bits.
+GAP = c.GAP
+FOLD = c.FOLD
+UNSPECIFIED = c.UNSPECIFIED
+OUT_OF_RANGE = c.OUT_OF_RANGE
+
 #: How the buffer protocol marks the byte order of this machine.
 _MARKS = ("", "@", "=", "<" if byteorder == "little" else ">")
 
@@ -44,28 +51,62 @@ Columns.__module__ = "pzic"
 def convert_array(owned: Owned, instants: Any, offsets: Any, flags: Any) -> Tuple[Any, Any]:
     """Convert instants by a zone, as :meth:`Zone.convert_array` tells."""
     values, missing = _plain(instants)
-    source = _view(values, "ql", 8)
-    count = len(source)
+    count = len(_view(values, "ql", 8))
     if offsets is None:
         offsets = _room(values, "int32", count)
     if flags is None:
         flags = _room(values, "uint8", count)
-    views = [source, _view(offsets, "il", 4), _view(flags, "B", 1)]
-    for view in views[1:]:
-        if view.readonly:
-            raise TypeError("the buffer can't be written to")
-        if len(view) != count:
-            raise ValueError("the arrays differ in length")
+    views = _views(values, _view(offsets, "il", 4), _view(flags, "B", 1))
     places = _places(views)
     c.zone_offsets(owned.lend(), places[0], count, places[1], count, places[2], count)
     if missing is not None:
-        _write_missing(missing, views)
+        _write_missing(missing, views, OPEN)
     return offsets, flags
+
+
+def instant_array(
+    owned: Owned, choice: int, locals: Any, instants: Any, statuses: Any
+) -> Tuple[Any, Any]:
+    """Tell the instants of local times by a zone, as :meth:`Zone.instant_array` tells."""
+    values, missing = _plain(locals)
+    count = len(_view(values, "ql", 8))
+    are_times = values is not locals and instants is None and _kind(locals) == "M"
+    if instants is None:
+        instants = _room(values, "int64", count)
+    if statuses is None:
+        statuses = _room(values, "uint8", count)
+    views = _views(values, _view(instants, "ql", 8), _view(statuses, "B", 1))
+    places = _places(views)
+    c.zone_instants_array(
+        owned.lend(), choice, places[0], count, places[1], count, places[2], count
+    )
+    if missing is not None:
+        _write_missing(missing, views, UNSPECIFIED)
+    if are_times:
+        instants = instants.view("datetime64[s]")
+        instants[statuses != 0] = "NaT"
+    return instants, statuses
+
+
+def _views(values: Any, *rooms: memoryview) -> List[memoryview]:
+    """Return views of values, and of as much room for each answer to them."""
+    source = _view(values, "ql", 8)
+    for room in rooms:
+        if room.readonly:
+            raise TypeError("the buffer can't be written to")
+        if len(room) != len(source):
+            raise ValueError("the arrays differ in length")
+    return [source, *rooms]
+
+
+def _kind(values: Any) -> Any:
+    """Return the kind of what has numpy's types."""
+    return getattr(getattr(values, "dtype", None), "kind", None)
 
 
 def _plain(instants: Any) -> Tuple[Any, Any]:
     """Return instants as integers, and where they are missing, if any is."""
-    kind = getattr(getattr(instants, "dtype", None), "kind", None)
+    kind = _kind(instants)
     if kind is None:
         return instants, None
     import numpy
@@ -88,15 +129,17 @@ def _room(values: Any, kind: str, count: int) -> Any:
         import numpy
 
         return numpy.empty(count, kind)
-    return array.array("i", bytes(4 * count)) if kind == "int32" else bytearray(count)
+    if kind == "uint8":
+        return bytearray(count)
+    return array.array("i", bytes(4 * count)) if kind == "int32" else array.array("q", bytes(8 * count))
 
 
-def _write_missing(missing: Any, views: List[memoryview]) -> None:
-    """Write what is told of instants that are missing."""
+def _write_missing(missing: Any, views: List[memoryview], mark: int) -> None:
+    """Write what is told of times that are missing."""
     import numpy
 
     numpy.asarray(views[1])[missing] = 0
-    numpy.asarray(views[2])[missing] = OPEN
+    numpy.asarray(views[2])[missing] = mark
 
 
 def _view(values: Any, codes: str, size: int) -> memoryview:

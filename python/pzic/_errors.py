@@ -37,6 +37,22 @@ class BadName(NoSuchZone, ValueError):
     __module__ = "pzic"
 
 
+class NoInstant(ValueError):
+    """No instant is meant by the local time ``local``, in seconds from 1970-01-01T00:00:00 on the zone's
+    clocks. ``reason`` is ``"Gap"`` or ``"Fold"``, where that was refused, or ``"Unspecified"`` where
+    the file leaves local time open."""
+
+    __module__ = "pzic"
+
+    def __init__(self, local: int, reason: str) -> None:
+        super().__init__(local, reason)
+        self.local = local
+        self.reason = reason
+
+    def __str__(self) -> str:
+        return f"no instant of the local time {self.local}: {self.reason}"
+
+
 class BadSource(ValueError):
     """Texts that are no source. ``text`` and ``line`` are the numbers of the text and of its line
     where the first fault is, both from 1, and ``kind`` the name of the fault's kind."""

@@ -26,8 +26,8 @@ class Owned:
     def lend(self) -> c.Handle:
         """Return a handle for reading calls of one thread, while the caller holds this object.
 
-        A reading call empties its handle, reads and fills it again, and leaves what it reads as it
-        was. So calls with handles of their own may read the same at once.
+        A reading call writes to its handle, and leaves it and what it reads as they were. So calls with
+        handles of their own may read the same at once.
         """
         return c.Handle(self._at, self._kind)
 

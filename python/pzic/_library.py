@@ -1,4 +1,4 @@
-"""The calls of the library, as ``pzic.h`` declares them."""
+"""The calls of the library, as the end of ``pzic.h`` declares them: what the library exports."""
 
 from __future__ import annotations
 
@@ -11,6 +11,10 @@ MIN_INSTANT = -(2**63)
 MAX_INSTANT = 2**63 - 1
 
 OK, UNSPECIFIED, NO_MEMORY, BAD_FILE, NO_HANDLE, LENGTHS, BAD_SOURCE, NO_SUCH, BAD_ROW = range(9)
+OUT_OF_RANGE, GAP, FOLD = range(9, 12)
+
+#: The numbers of what to take for a local time in a gap or in a fold.
+CHOICES = {"reject": 0, "earlier": 1, "later": 2, "compatible": 3}
 
 #: The shared library whose calls are these.
 _NAME = "libpzic.so.0"
@@ -30,6 +34,19 @@ class CState(ctypes.Structure):
         ("daylight", ctypes.c_uint32),
         ("name_length", ctypes.c_size_t),
         ("name", ctypes.c_char * 17),
+    )
+
+
+class CLocalTime(ctypes.Structure):
+    """``pzic_local_time``: what a zone tells of a local time."""
+
+    _fields_ = (
+        ("first", ctypes.c_int64),
+        ("last", ctypes.c_int64),
+        ("change", ctypes.c_int64),
+        ("before", ctypes.c_int32),
+        ("after", ctypes.c_int32),
+        ("count", ctypes.c_uint32),
     )
 
 
@@ -89,23 +106,29 @@ _TEXT = (ctypes.c_char_p, _SIZE)
 _ROOM = (ctypes.c_char_p, _SIZE, _COUNT)
 _ARRAY = (ctypes.c_void_p, _SIZE)
 
-zone_read = declare(short, "pzic_zone_read", *_TEXT, _HANDLE, ctypes.POINTER(ctypes.c_uint32))
+zone_read = declare(short, "pzic_raw_zone_read", *_TEXT, _HANDLE, ctypes.POINTER(ctypes.c_uint32))
 zone_span = declare(
-    short, "pzic_zone_span", _HANDLE, ctypes.c_int64, ctypes.POINTER(CState), _INSTANT, _INSTANT
+    short, "pzic_raw_zone_span", _HANDLE, ctypes.c_int64, ctypes.POINTER(CState), _INSTANT, _INSTANT
 )
-zone_offsets = declare(long, "pzic_zone_offsets", _HANDLE, *_ARRAY, *_ARRAY, *_ARRAY)
+zone_offsets = declare(long, "pzic_raw_zone_offsets", _HANDLE, *_ARRAY, *_ARRAY, *_ARRAY)
+zone_instants = declare(
+    short, "pzic_raw_zone_instants", _HANDLE, ctypes.c_int64, ctypes.POINTER(CLocalTime)
+)
+zone_instants_array = declare(
+    long, "pzic_raw_zone_instants_array", _HANDLE, ctypes.c_uint32, *_ARRAY, *_ARRAY, *_ARRAY
+)
 compile_texts = declare(
-    long, "pzic_compile", *_TEXT, _COUNT, _SIZE, _HANDLE, ctypes.POINTER(CFault)
+    long, "pzic_raw_compile", *_TEXT, _COUNT, _SIZE, _HANDLE, ctypes.POINTER(CFault)
 )
-files_len = declare(short, "pzic_files_len", _HANDLE, _COUNT)
-files_find = declare(short, "pzic_files_find", _HANDLE, *_TEXT, _COUNT)
-files_name = declare(short, "pzic_files_name", _HANDLE, _SIZE, *_ROOM)
-files_bytes = declare(short, "pzic_files_bytes", _HANDLE, _SIZE, *_ROOM)
-rows = declare(long, "pzic_rows", _HANDLE, *_TEXT, _HANDLE, ctypes.POINTER(CRowFault))
-rows_text = declare(long, "pzic_rows_text", _HANDLE, *_ROOM)
-name_of_fault = declare(short, "pzic_name_of_fault", ctypes.c_uint32, *_ROOM)
-name_of_reason = declare(short, "pzic_name_of_reason", ctypes.c_uint32, *_ROOM)
-release = short.pzic_free
+files_len = declare(short, "pzic_raw_files_len", _HANDLE, _COUNT)
+files_find = declare(short, "pzic_raw_files_find", _HANDLE, *_TEXT, _COUNT)
+files_name = declare(short, "pzic_raw_files_name", _HANDLE, _SIZE, *_ROOM)
+files_bytes = declare(short, "pzic_raw_files_bytes", _HANDLE, _SIZE, *_ROOM)
+rows = declare(long, "pzic_raw_rows", _HANDLE, *_TEXT, _HANDLE, ctypes.POINTER(CRowFault))
+rows_text = declare(long, "pzic_raw_rows_text", _HANDLE, *_ROOM)
+name_of_fault = declare(short, "pzic_raw_name_of_fault", ctypes.c_uint32, *_ROOM)
+name_of_reason = declare(short, "pzic_raw_name_of_reason", ctypes.c_uint32, *_ROOM)
+release = short.pzic_raw_free
 release.argtypes = (_HANDLE,)
 release.restype = None
 

@@ -82,23 +82,22 @@ class _YearShown(Dict[int, List[Tuple[datetime, _Told]]]):
 
     def __init__(self, zone: TimeZone, fold: int) -> None:
         self._zone = zone
-        self._edge = min if fold else max
+        self._fold = fold
 
     def __missing__(self, year: int) -> List[Tuple[datetime, _Told]]:
         begin, end = _bounds(year)
-        # The last stretch whose start is past tells a time, so one that starts no later than those
-        # before it hides them.
-        starts: List[Tuple[int, _Stretch]] = []
+        # The library tells the instants of a local time. What it tells is of one kind between the local
+        # times that clocks show right before and right after changes.
+        starts = {begin}
         for stretch in self._zone._stretches(begin - _FARTHEST, end + _FARTHEST):
-            start = stretch.first + self._edge(stretch.before, stretch.offset)
-            while starts and start <= starts[-1][0]:
-                starts.pop()
-            starts.append((start, stretch))
-        lasts = [start - 1 for start, _ in starts[1:]] + [end]
+            for offset in (stretch.before, stretch.offset):
+                if begin < stretch.first + offset <= end:
+                    starts.add(stretch.first + offset)
+        ordered = sorted(starts)
+        lasts = [start - 1 for start in ordered[1:]] + [end]
         self[year] = made = [
-            (_end_of(min(last, end), self._zone), self._zone._told(stretch))
-            for (start, stretch), last in zip(starts, lasts)
-            if start <= end and begin <= last
+            (_end_of(last, self._zone), self._zone._told_of(start, self._fold))
+            for start, last in zip(ordered, lasts)
         ]
         return made
 
@@ -123,9 +122,9 @@ _all_lock = threading.RLock()
 class TimeZone(tzinfo):
     """A zone for :mod:`datetime`, with the fold of PEP 495.
 
-    From an instant to local time the answers are the file's. For a local time it looks at the
-    changes nearby: a time that comes twice is the first one with ``fold=0`` and
-    the second with ``fold=1``; a time that is left out is told by the offset before with
+    From an instant to local time the answers are the file's. For a local time they are those of
+    :meth:`Zone.instants`: a time that comes twice is the first one with ``fold=0`` and
+    the last with ``fold=1``; a time that is left out is told by the offset before with
     ``fold=0``, and by the one after with ``fold=1``. Where the file leaves local time open, it is
     UT, under the abbreviation ``-00``. The answers of each year are kept.
 
@@ -235,7 +234,7 @@ class TimeZone(tzinfo):
             if span.state != first.state or span.state is None:
                 return _NOTHING
             if span.last == MAX_INSTANT:
-                return self._told(_Stretch(span.state, MIN_INSTANT, MAX_INSTANT, 0, 0))
+                return self._told(span.state, MIN_INSTANT, MAX_INSTANT)
             span = self._zone.span(span.last + 1)
         return _NOTHING
 
@@ -258,11 +257,24 @@ class TimeZone(tzinfo):
         state = self._zone.at(first - 1)
         return state.offset if state else 0
 
-    def _told(self, stretch: _Stretch) -> _Told:
-        state = stretch.state
+    def _told_of(self, local: int, fold: int) -> _Told:
+        """Return what is told of a local time: of its first instant or its last, or of the side of the
+        gap that it is in. PEP 495 says which."""
+        found = self._zone.instants(local)
+        if found.gap is not None:
+            instant: Optional[int] = found.gap.change if fold else found.gap.change - 1
+        else:
+            instant = found.last if fold else found.first
+        if instant is None:
+            return self._told(None, MIN_INSTANT, MAX_INSTANT)
+        span = self._zone.span(instant)
+        return self._told(span.state, span.first, span.last)
+
+    def _told(self, state: Optional[State], first: int, last: int) -> _Told:
+        """Return what is told at the instants from the first to the last, with one state."""
         if state is None:
             return _Told(_ZERO, _ZERO, _UNKNOWN)
-        saved = self._saved(state, stretch.first, stretch.last) if state.daylight else _ZERO
+        saved = self._saved(state, first, last) if state.daylight else _ZERO
         return _Told(timedelta(seconds=state.offset), saved, state.name)
 
     def _saved(self, state: State, first: int, last: int) -> timedelta:

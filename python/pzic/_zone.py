@@ -7,11 +7,11 @@ import datetime
 import io
 import sys
 from operator import index
-from typing import Any, Callable, Dict, NamedTuple, Optional, Tuple
+from typing import Any, Callable, Dict, NamedTuple, Optional, Tuple, Union
 
 from pzic import _library as c
-from pzic._array import convert_array
-from pzic._errors import BadFile
+from pzic._array import convert_array, instant_array
+from pzic._errors import BadFile, NoInstant
 from pzic._handle import Owned, bytes_of
 from pzic._timezone import TimeZone
 
@@ -20,6 +20,10 @@ from pzic._timezone import TimeZone
 _SLOT_BITS = 22
 #: The most spans that are kept.
 _MOST_SPANS = 4096
+
+
+_EPOCH = datetime.datetime(1970, 1, 1)
+_SECOND = datetime.timedelta(seconds=1)
 
 
 class State(NamedTuple):
@@ -42,9 +46,36 @@ class Span(NamedTuple):
     last: int
 
 
-#: Pickles name these by the package, so that its modules may change.
-State.__module__ = Span.__module__ = "pzic"
+class Gap(NamedTuple):
+    """A change at which clocks pass over local times."""
 
+    #: The instant of the change.
+    change: int
+    #: The UT offset before it, in seconds, positive east.
+    before: int
+    #: The UT offset from it on.
+    after: int
+
+
+class Instants(NamedTuple):
+    """The instants at which clocks show a local time."""
+
+    #: How many there are: 0, 1, or 2 and more in a fold.
+    number: int
+    #: The first and the last, or ``None`` where there is none.
+    first: Optional[int]
+    last: Optional[int]
+    #: The first change that passes over the local time, where no instant is one of it. ``None`` then
+    #: too where the file leaves local time open.
+    gap: Optional[Gap]
+
+
+#: Pickles name these by the package, so that its modules may change.
+State.__module__ = Span.__module__ = Gap.__module__ = Instants.__module__ = "pzic"
+
+
+#: A local time: a naive datetime, or seconds from 1970-01-01T00:00:00 on the zone's clocks.
+Local = Union[int, datetime.datetime]
 
 #: A function that makes a zone, and its words.
 _Source = Tuple[Callable[..., "Zone"], Tuple[Any, ...]]
@@ -137,6 +168,59 @@ class Zone:
         self._spans[instant >> _SLOT_BITS] = span
         return span
 
+    def instants(self, local: Local) -> Instants:
+        """Return the instants at which the zone's clocks show a local time, or the gap that it is in.
+
+        ``local`` is a naive :class:`~datetime.datetime`, or seconds from 1970-01-01T00:00:00 on these
+        clocks. Raises :class:`OverflowError` within 26 hours of an end of 64 bits.
+        """
+        second = _local_second(local)
+        found = c.CLocalTime()
+        if c.zone_instants(self._owned.lend(), second, found) == c.OUT_OF_RANGE:
+            raise OverflowError("an instant has 64 bits with a sign")
+        if found.count:
+            return Instants(found.count, found.first, found.last, None)
+        # No change of the offset is from 0 to 0.
+        gap = Gap(found.change, found.before, found.after)
+        return Instants(0, None, None, gap if found.before != found.after else None)
+
+    def instant(self, local: Local, ambiguous: str = "compatible") -> int:
+        """Return the instant that is meant by a local time.
+
+        ``ambiguous`` says what to take in a gap or in a fold, as ``disambiguation`` of ECMAScript's
+        Temporal does. ``"earlier"`` and ``"later"`` are the first and the last instant of a fold; in a gap
+        the local time is read by the UT offset after it, and by the one before it.
+        ``"compatible"`` is the first of a fold, and ``"later"`` in a gap. ``"reject"`` raises
+        :class:`NoInstant` for both. So does each of them where the file leaves local time open.
+        """
+        choice = _choice(ambiguous)
+        second = _local_second(local)
+        found = self.instants(second)
+        if found.number > 1 and choice == "reject":
+            raise NoInstant(second, "Fold")
+        if found.gap is not None:
+            if choice == "reject":
+                raise NoInstant(second, "Gap")
+            return second - (found.gap.after if choice == "earlier" else found.gap.before)
+        instant = found.last if choice == "later" else found.first
+        if instant is None:
+            raise NoInstant(second, "Unspecified")
+        return instant
+
+    def instant_array(
+        self, locals: Any, ambiguous: str = "compatible", instants: Any = None, statuses: Any = None
+    ) -> Tuple[Any, Any]:
+        """Return the instant that is meant by each of many local times, in any order, and its status.
+
+        ``locals`` are seconds on the zone's clocks or ``datetime64``, as :meth:`convert_array` takes
+        instants. Instants have items of 8 bytes with a sign, and are ``datetime64[s]`` for
+        ``datetime64``; statuses are single bytes: 0, or :data:`GAP`, :data:`FOLD`,
+        :data:`UNSPECIFIED` or :data:`OUT_OF_RANGE`, where the instant is 0, or ``NaT``. A missing local
+        time is :data:`UNSPECIFIED`. ``ambiguous`` is that of :meth:`instant`.
+        """
+        choice = c.CHOICES[_choice(ambiguous)]
+        return instant_array(self._owned, choice, locals, instants, statuses)
+
     def convert_array(
         self, instants: Any, offsets: Any = None, flags: Any = None
     ) -> Tuple[Any, Any]:
@@ -168,6 +252,25 @@ class Zone:
 
             return ZoneInfo.from_file(io.BytesIO(self._data), key=key or self._key)
         raise ImportError("zoneinfo comes with Python 3.9")
+
+
+def _choice(ambiguous: str) -> str:
+    """Return what to take in a gap or in a fold, if it is one of the words for it."""
+    if ambiguous not in c.CHOICES:
+        raise ValueError(f"ambiguous is one of {', '.join(sorted(c.CHOICES))}")
+    return ambiguous
+
+
+def _local_second(local: Local) -> int:
+    """Return a local time in seconds."""
+    if isinstance(local, datetime.datetime):
+        if local.tzinfo is not None:
+            raise ValueError("a local time has no tzinfo")
+        return (local - _EPOCH) // _SECOND
+    second = index(local)
+    if not c.MIN_INSTANT <= second <= c.MAX_INSTANT:
+        raise OverflowError("a local time has 64 bits with a sign")
+    return second
 
 
 def zone_named(data: bytes, key: str, source: Optional[_Source] = None) -> Zone:

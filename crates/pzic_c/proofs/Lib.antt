@@ -1,4 +1,5 @@
 pub mod AsBox
 pub mod Columns
+pub mod Nearness
 pub mod Refusals
 pub mod Texts

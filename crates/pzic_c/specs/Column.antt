@@ -25,12 +25,12 @@ abbrev pub AreAsLong : List ℤ → List ℤ → List ℕ → Type 0
 AreAsLong instants offsets flags = (length offsets ≡ length instants) × (length flags ≡ length instants)
 
 -- each offset and each flag tells what the file answers at the instant of its place
-pub record AreTold (content : Content) (instants : List ℤ) (offsets : List ℤ) (flags : List ℕ) : Type 0 where
+pub record AreAnswersAt (content : Content) (instants : List ℤ) (offsets : List ℤ) (flags : List ℕ) : Type 0 where
   pub offsets_told : AllZip (IsOffsetAt content) instants offsets
   pub flags_told : AllZip (AreFlagsAt content) instants flags
 
 -- The column is told; or its arrays differ in length, and stay as they were.
-abbrev pub IsColumnTold : Content → List ℤ → ℤ → List ℤ → List ℕ → List ℤ → List ℕ → Type 0
-IsColumnTold content instants status offsets_before flags_before offsets flags =
-    ((status ≡ OK) × AreTold content instants offsets flags)
+abbrev pub AreOffsetsGiven : Content → List ℤ → ℤ → List ℤ → List ℕ → List ℤ → List ℕ → Type 0
+AreOffsetsGiven content instants status offsets_before flags_before offsets flags =
+    ((status ≡ OK) × AreAnswersAt content instants offsets flags)
     ⊎ ((status ≡ LENGTHS) × (AreAsLong instants offsets flags → ⊥) × (offsets ≡ offsets_before) × (flags ≡ flags_before))

@@ -2,7 +2,7 @@
 use Rattle.std.specs.Prelude.{◌≡◌, ◌≢◌, ℕ, ℤ, ◌<◌, ◌≤◌, ◌⊎◌, List, length, slice_get, All, IsSomeAnd, Option, Some, None}
 use Rattle.zic_files.specs.File.{File}
 use Rattle.pzic_c.specs.Handle.{content_at, content_of}
-use Rattle.pzic_c.specs.Text.{IsTextTold}
+use Rattle.pzic_c.specs.Text.{IsTextCopied}
 use Rattle.pzic_c.specs.declared.held.Held.{Held}
 use Rattle.pzic_c.specs.declared.status.TheConstants.{OK, NO_MEMORY, NO_SUCH}
 
@@ -13,12 +13,12 @@ IsFound files name status before number =
     ⊎ ((status ≡ NO_SUCH) × (number ≡ before) × All (λ file. file.name ≢ name) files)
 
 -- A part of the file of the number is told: its length, and as much of it as there is room for; or no file has the number, and nothing is written.
-abbrev pub IsPartTold : (File → List ℕ) → List File → ℕ → ℤ → List ℕ → List ℕ → ℕ → ℕ → Type 0
-IsPartTold part files number status before after count_before count =
-    IsSomeAnd (slice_get files number) (λ file. IsTextTold (part file) status before after count)
+abbrev pub IsPartCopied : (File → List ℕ) → List File → ℕ → ℤ → List ℕ → List ℕ → ℕ → ℕ → Type 0
+IsPartCopied part files number status before after count_before count =
+    IsSomeAnd (slice_get files number) (λ file. IsTextCopied (part file) status before after count)
     ⊎ ((status ≡ NO_SUCH) × (length files ≤ number) × (after ≡ before) × (count ≡ count_before))
 
 -- The handle holds the zone of the file of the number; or no file has the number, or memory ran out, and it holds nothing.
-abbrev pub IsZoneTold : List File → ℕ → ℤ → Option Held → Type 0
-IsZoneTold files number status (Some held) = (status ≡ OK) × (number < length files) × (content_of held ≡ content_at files number)
-IsZoneTold files number status None = ((status ≡ NO_SUCH) × (length files ≤ number)) ⊎ (status ≡ NO_MEMORY)
+abbrev pub IsZoneGiven : List File → ℕ → ℤ → Option Held → Type 0
+IsZoneGiven files number status (Some held) = (status ≡ OK) × (number < length files) × (content_of held ≡ content_at files number)
+IsZoneGiven files number status None = ((status ≡ NO_SUCH) × (length files ≤ number)) ⊎ (status ≡ NO_MEMORY)

@@ -29,7 +29,7 @@ content_at files i = option_map (λ file. file.image.content) (slice_get files i
 
 -- the content of the zone's file, where something holds a zone
 abbrev pub content_of : Held → Option Content
-content_of (held.Zone zone) = Some zone.value
+content_of (held.Zone single) = Some single.zone.value
 content_of (held.Member member) = content_at member.files.value member.number
 content_of (held.Files files) = None
 content_of (held.Text text) = None
@@ -71,11 +71,6 @@ text_held None = None
 
 abbrev pub text_in : Handle → Option (List ℕ)
 text_in h = text_held (held_in h)
-
--- It is a handle and holds what the other did.
-pub record Keeps (before after : Handle) : Type 0 where
-  pub handle : IsHandle after
-  pub same : held_in after ≡ held_in before
 
 -- They hold the same zone, the same files or the same text.
 pub record AreAlike (x y : Held) : Type 0 where

@@ -2,6 +2,7 @@ pub mod code
 pub mod Column
 pub mod Files
 pub mod Handle
+pub mod Local
 pub mod Names
 pub mod Owned
 pub mod Rows

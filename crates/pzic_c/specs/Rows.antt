@@ -11,16 +11,16 @@ use Rattle.pzic_c.specs.declared.rows.RowFault.{RowFault}
 use Rattle.pzic_c.specs.declared.status.TheConstants.{OK, NO_MEMORY, BAD_ROW}
 
 -- The status and the fault tell whether the row after so many has a fault: its number and its kind. If it has none, the fault stays as it was.
-abbrev pub IsRowTold : Option RowKind → ℕ → ℤ → RowFault → RowFault → Type 0
-IsRowTold None count status before told = (status ≡ OK) × (told ≡ before)
-IsRowTold (Some kind) count status before told = (status ≡ BAD_ROW) × (told.row ≡ count + 1) × (told.kind ≡ row_kind_number kind)
+abbrev pub IsRowFaultGiven : Option RowKind → ℕ → ℤ → RowFault → RowFault → Type 0
+IsRowFaultGiven None count status before told = (status ≡ OK) × (told ≡ before)
+IsRowFaultGiven (Some kind) count status before told = (status ≡ BAD_ROW) × (told.row ≡ count + 1) × (told.kind ≡ row_kind_number kind)
 
 -- The text is that of the column's rows up to the first that has a fault, which is told.
 abbrev pub IsTextOfRows : List File → List ℕ → ℤ → RowFault → RowFault → List ℕ → Type 0
 IsTextOfRows files column status before told text =
-    (count : ℕ) × (fault : Option RowKind) × AreRowsOfColumn files MAX_ROWS column text count fault × IsRowTold fault count status before told
+    (count : ℕ) × (fault : Option RowKind) × AreRowsOfColumn files MAX_ROWS column text count fault × IsRowFaultGiven fault count status before told
 
 -- The handle holds the text of the column's rows up to the first that has a fault; or memory ran out, and it holds nothing.
-abbrev pub AreRowsTold : List File → List ℕ → ℤ → RowFault → RowFault → Option Held → Type 0
-AreRowsTold files column status before told (Some held) = IsSomeAnd (text_of held) (IsTextOfRows files column status before told)
-AreRowsTold files column status before told None = (status ≡ NO_MEMORY) × (told ≡ before)
+abbrev pub AreRowsGiven : List File → List ℕ → ℤ → RowFault → RowFault → Option Held → Type 0
+AreRowsGiven files column status before told (Some held) = IsSomeAnd (text_of held) (IsTextOfRows files column status before told)
+AreRowsGiven files column status before told None = (status ≡ NO_MEMORY) × (told ≡ before)

@@ -15,17 +15,17 @@ texts_in [] bytes = []
 texts_in (n ∷ lengths) bytes = take n bytes ∷ texts_in lengths (drop n bytes)
 
 -- The status and the fault tell why texts have no files: a fault's text, line and kind, or that memory ran out, and then the fault stays as it was.
-abbrev pub IsFaultTold : Option Fault → ℤ → SourceFault → SourceFault → Type 0
-IsFaultTold (Some fault) status before told =
+abbrev pub IsFaultGiven : Option Fault → ℤ → SourceFault → SourceFault → Type 0
+IsFaultGiven (Some fault) status before told =
     (status ≡ BAD_SOURCE) × (told.text ≡ fault.place.text) × (told.line ≡ fault.place.line) × (told.kind ≡ kind_number fault.kind)
-IsFaultTold None status before told = (status ≡ NO_MEMORY) × (told ≡ before)
+IsFaultGiven None status before told = (status ≡ NO_MEMORY) × (told ≡ before)
 
 -- The texts were compiled, and the handle holds their files; or they weren't, the handle holds nothing, and the first fault is told, or that memory ran
 -- out, which may come at any time.
 abbrev pub IsCompiled : List (List ℕ) → ℤ → SourceFault → SourceFault → Option Held → Type 0
 IsCompiled texts status before told (Some held) = (status ≡ OK) × (told ≡ before) × IsSomeAnd (files_of held) (AreFilesOfTexts texts)
 IsCompiled texts status before told None =
-    (fault : Option Fault) × IfSome fault (IsFaultOfTexts texts) × IsFaultTold fault status before told
+    (fault : Option Fault) × IfSome fault (IsFaultOfTexts texts) × IsFaultGiven fault status before told
 
 -- The texts of these lengths were compiled, or not; or the lengths aren't those of texts that lie one after another here, and the handle holds nothing.
 abbrev pub AreCompiled : List ℕ → List ℕ → ℤ → SourceFault → SourceFault → Option Held → Type 0

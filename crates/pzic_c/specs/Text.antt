@@ -7,7 +7,7 @@ abbrev pub overwritten : List ℕ → List ℕ → List ℕ
 overwritten room items = take (length room) items ++ drop (length items) room
 
 -- A text is told: its length, and as much of it as there is room for.
-pub record IsTextTold (text : List ℕ) (status : ℤ) (before after : List ℕ) (count : ℕ) : Type 0 where
+pub record IsTextCopied (text : List ℕ) (status : ℤ) (before after : List ℕ) (count : ℕ) : Type 0 where
   pub status_is : status ≡ OK
   pub length_is : count ≡ length text
   pub copied : after ≡ overwritten before text

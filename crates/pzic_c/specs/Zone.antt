@@ -20,32 +20,32 @@ status_of (Some shown) = OK
 status_of None = UNSPECIFIED
 
 -- The status and the state tell the answer.
-pub record IsTold (answer : Option Shown) (status : ℤ) (state : State) : Type 0 where
+pub record IsAnswer (answer : Option Shown) (status : ℤ) (state : State) : Type 0 where
   pub status_is : status ≡ status_of answer
   pub state_is : IsStateOf (state_of answer) state
 
 -- They tell what the file of this content answers at an instant.
-abbrev pub IsToldAt : Content → ℤ → ℤ → State → Type 0
-IsToldAt content t status state = (answer : Option Shown) × Answers content t answer × IsTold answer status state
+abbrev pub IsAnswerAt : Content → ℤ → ℤ → State → Type 0
+IsAnswerAt content t status state = (answer : Option Shown) × Answers content t answer × IsAnswer answer status state
 
 -- They tell what the file answers at all of these instants, of which t is one. Between them it may change only where it has a transition or its
 -- footer an edge.
-pub record IsToldRound (content : Content) (t : ℤ) (instants : Instants) (status : ℤ) (state : State) : Type 0 where
+pub record IsAnswerAround (content : Content) (t : ℤ) (instants : Instants) (status : ℤ) (state : State) : Type 0 where
   pub asked : Includes instants t
   pub between : AreBetween (MayChangeAt content) instants
-  pub told : (answer : Option Shown) × AnswersThroughout content instants answer × IsTold answer status state
+  pub told : (answer : Option Shown) × AnswersThroughout content instants answer × IsAnswer answer status state
 
 -- The status and the number tell why bytes weren't read: the reason's number, or that memory ran out, and then the number stays as it was.
-abbrev pub IsRefusalTold : Option Reason → ℤ → ℕ → ℕ → Type 0
-IsRefusalTold (Some r) status before number = (status ≡ BAD_FILE) × (number ≡ reason_number r)
-IsRefusalTold None status before number = (status ≡ NO_MEMORY) × (number ≡ before)
+abbrev pub IsReasonGiven : Option Reason → ℤ → ℕ → ℕ → Type 0
+IsReasonGiven (Some r) status before number = (status ≡ BAD_FILE) × (number ≡ reason_number r)
+IsReasonGiven None status before number = (status ≡ NO_MEMORY) × (number ≡ before)
 
 -- The bytes were read, and the handle holds the zone of what they say; or they weren't, it holds nothing, and the reason that is told is that of the
 -- first check that they fail, or memory ran out at what may take it.
 abbrev pub IsRead : List ℕ → ℤ → ℕ → ℕ → Option Held → Type 0
 IsRead octets status before number (Some held) = (status ≡ OK) × (number ≡ before) × IsSomeAnd (content_of held) (IsFile octets)
 IsRead octets status before number None =
-    (refusal : Option Reason) × MatchOption refusal (ReadNeedsMemory octets) (IsFault octets) × IsRefusalTold refusal status before number
+    (refusal : Option Reason) × MatchOption refusal (ReadNeedsMemory octets) (IsFault octets) × IsReasonGiven refusal status before number
 
 -- the instants from the first to the last
 abbrev pub instants : ℤ → ℤ → Instants

@@ -6,7 +6,7 @@ ghost use Rattle.zic_base.specs.Fault.{fault_of};
 ghost use Rattle.zic_base.specs.Memory.{IfRefusal};
 ghost use Rattle.zic_compile.specs.Build.{AreFilesOfTexts, IsFaultOfTexts};
 ghost use Rattle.zic_source.specs.Texts.{texts_of};
-ghost use Rattle.pzic_c.specs.Source.{AreCompiled, IsFaultTold, texts_in};
+ghost use Rattle.pzic_c.specs.Source.{AreCompiled, IsFaultGiven, texts_in};
 ghost use Rattle.pzic_c.specs.Handle.{IsHandle, held_in};
 
 use crate::handle::Handle;
@@ -72,7 +72,7 @@ fn files_of_texts(alloc: Global, texts: &[u8], lengths: &[usize]) -> Result<File
 
 /// Tells why texts have no files.
 fn refuse_source(stop: Stop, told: &mut SourceFault) -> i32
-    ensures { IsFaultTold (fault_of stop) result told.old told.new }
+    ensures { IsFaultGiven (fault_of stop) result told.old told.new }
 {
     match stop {
         Stop::Fault(fault) => {
@@ -89,7 +89,7 @@ fn refuse_source(stop: Stop, told: &mut SourceFault) -> i32
 
 /// Compiles the texts of these lengths, which lie one after another.
 #[unsafe(no_mangle)]
-pub extern "C" fn pzic_compile(
+pub extern "C" fn pzic_raw_compile(
     alloc: Global,
     texts: &[u8],
     lengths: &[usize],

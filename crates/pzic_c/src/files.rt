@@ -1,8 +1,8 @@
 //! The calls on the files of a source.
 
 ghost use Rattle.std.specs.Prelude.{◌≡◌, None, length, MatchOption};
-ghost use Rattle.pzic_c.specs.Files.{IsFound, IsPartTold, IsZoneTold};
-ghost use Rattle.pzic_c.specs.Handle.{IsHandle, Keeps, files_in, held_in};
+ghost use Rattle.pzic_c.specs.Files.{IsFound, IsPartCopied, IsZoneGiven};
+ghost use Rattle.pzic_c.specs.Handle.{IsHandle, files_in, held_in};
 ghost use Rattle.pzic_c.specs.declared.status.TheConstants.{NO_HANDLE, OK};
 
 use crate::copying::copy;
@@ -24,9 +24,9 @@ fn tell_len(files: &Files, count: &mut usize) -> i32
 
 /// Tells how many files a handle holds.
 #[unsafe(no_mangle)]
-pub extern "C" fn pzic_files_len(alloc: Global, files: &mut Handle, count: &mut usize) -> i32
+pub extern "C" fn pzic_raw_files_len(alloc: Global, files: &mut Handle, count: &mut usize) -> i32
     requires { IsHandle files.old }
-    ensures kept { Keeps files.old files.new }
+    ensures kept { files.new ≡ files.old }
     ensures told { MatchOption (files_in files.old)
         ((result ≡ NO_HANDLE) × (count.new ≡ count.old))
         (λ all. (result ≡ OK) × (count.new ≡ length all)) }
@@ -55,14 +55,14 @@ fn find(files: &Files, name: &[u8], number: &mut usize) -> i32
 
 /// Finds the file of a name.
 #[unsafe(no_mangle)]
-pub extern "C" fn pzic_files_find(
+pub extern "C" fn pzic_raw_files_find(
     alloc: Global,
     files: &mut Handle,
     name: &[u8],
     number: &mut usize,
 ) -> i32
     requires { IsHandle files.old }
-    ensures kept { Keeps files.old files.new }
+    ensures kept { files.new ≡ files.old }
     ensures found { MatchOption (files_in files.old)
         ((result ≡ NO_HANDLE) × (number.new ≡ number.old))
         (λ all. IsFound all name.now result number.old number.new) }
@@ -78,7 +78,7 @@ pub extern "C" fn pzic_files_find(
 
 /// Tells the name of a file.
 fn copy_name(files: &Files, number: usize, room: &mut [u8], count: &mut usize) -> i32
-    ensures { IsPartTold (λ file. file.name) files.now number result room.old room.new count.old
+    ensures { IsPartCopied (λ file. file.name) files.now number result room.old room.new count.old
         count.new }
 {
     if number >= files.len() {
@@ -90,7 +90,7 @@ fn copy_name(files: &Files, number: usize, room: &mut [u8], count: &mut usize) -
 
 /// Tells the bytes of a file.
 fn copy_bytes(files: &Files, number: usize, room: &mut [u8], count: &mut usize) -> i32
-    ensures { IsPartTold (λ file. file.image.octets) files.now number result room.old room.new
+    ensures { IsPartCopied (λ file. file.image.octets) files.now number result room.old room.new
         count.old count.new }
 {
     if number >= files.len() {
@@ -102,7 +102,7 @@ fn copy_bytes(files: &Files, number: usize, room: &mut [u8], count: &mut usize) 
 
 /// Copies the name of a file, as much as there is room for.
 #[unsafe(no_mangle)]
-pub extern "C" fn pzic_files_name(
+pub extern "C" fn pzic_raw_files_name(
     alloc: Global,
     files: &mut Handle,
     number: usize,
@@ -110,10 +110,10 @@ pub extern "C" fn pzic_files_name(
     count: &mut usize,
 ) -> i32
     requires { IsHandle files.old }
-    ensures kept { Keeps files.old files.new }
+    ensures kept { files.new ≡ files.old }
     ensures told { MatchOption (files_in files.old)
         ((result ≡ NO_HANDLE) × (room.new ≡ room.old) × (count.new ≡ count.old))
-        (λ all. IsPartTold (λ file. file.name) all number result room.old room.new count.old
+        (λ all. IsPartCopied (λ file. file.name) all number result room.old room.new count.old
         count.new) }
 {
     files.ask(
@@ -127,7 +127,7 @@ pub extern "C" fn pzic_files_name(
 
 /// Copies the bytes of a file, as many as there is room for.
 #[unsafe(no_mangle)]
-pub extern "C" fn pzic_files_bytes(
+pub extern "C" fn pzic_raw_files_bytes(
     alloc: Global,
     files: &mut Handle,
     number: usize,
@@ -135,10 +135,10 @@ pub extern "C" fn pzic_files_bytes(
     count: &mut usize,
 ) -> i32
     requires { IsHandle files.old }
-    ensures kept { Keeps files.old files.new }
+    ensures kept { files.new ≡ files.old }
     ensures told { MatchOption (files_in files.old)
         ((result ≡ NO_HANDLE) × (room.new ≡ room.old) × (count.new ≡ count.old))
-        (λ all. IsPartTold (λ file. file.image.octets) all number result room.old room.new
+        (λ all. IsPartCopied (λ file. file.image.octets) all number result room.old room.new
         count.old count.new) }
 {
     files.ask(
@@ -155,7 +155,7 @@ fn put_zone(alloc: Global, files: &Arc<Files>, number: usize, zone: &mut Handle)
     requires handle { IsHandle zone.old }
     requires empty { held_in zone.old ≡ None }
     ensures handle { IsHandle zone.new }
-    ensures told { IsZoneTold files.now.value number result (held_in zone.new) }
+    ensures told { IsZoneGiven files.now.value number result (held_in zone.new) }
 {
     if number >= files.len() {
         return NO_SUCH;
@@ -171,7 +171,7 @@ fn put_zone(alloc: Global, files: &Arc<Files>, number: usize, zone: &mut Handle)
 
 /// Has a handle hold the zone of a file. The files stay while it does.
 #[unsafe(no_mangle)]
-pub extern "C" fn pzic_zone_of(
+pub extern "C" fn pzic_raw_zone_of(
     alloc: Global,
     files: &mut Handle,
     number: usize,
@@ -179,11 +179,11 @@ pub extern "C" fn pzic_zone_of(
 ) -> i32
     requires files { IsHandle files.old }
     requires zone { IsHandle zone.old }
-    ensures kept { Keeps files.old files.new }
+    ensures kept { files.new ≡ files.old }
     ensures handle { IsHandle zone.new }
     ensures zone { MatchOption (files_in files.old)
         ((result ≡ NO_HANDLE) × (held_in zone.new ≡ None))
-        (λ all. IsZoneTold all number result (held_in zone.new)) }
+        (λ all. IsZoneGiven all number result (held_in zone.new)) }
 {
     drop(zone.take(alloc));
     files.ask(

@@ -3,7 +3,7 @@
 ghost use Rattle.std.specs.Prelude.{◌≡◌, Some, None, MatchOption, option_map};
 ghost use Rattle.std.specs.Box.{box_value};
 ghost use Rattle.std.specs.Fn.{CalledAt};
-ghost use Rattle.pzic_c.specs.Handle.{IsHandle, Keeps, held_in};
+ghost use Rattle.pzic_c.specs.Handle.{IsHandle, held_in};
 ghost use Rattle.pzic_c.specs.declared.status.TheConstants.{NO_HANDLE};
 
 use crate::held::Held;
@@ -47,20 +47,21 @@ impl Handle {
     }
 
     /// Calls `answer` with what the handle holds, and returns its status, or `NO_HANDLE` if the handle
-    /// holds nothing.
+    /// holds nothing. The handle stays as it is, its pointer too.
     pub(crate) fn ask<F: FnMut(&Held) -> i32>(&mut self, alloc: Global, answer: &mut F) -> i32
         requires handle { IsHandle self.old }
         requires callable { (held : _) → F.pre answer.old held }
-        ensures kept { Keeps self.old self.new }
+        ensures kept { self.new ≡ self.old }
         ensures answered { MatchOption (held_in self.old)
             ((result ≡ NO_HANDLE) × (answer.new ≡ answer.old))
             (λ held. CalledAt F.FnMut answer.old held result answer.new) }
     {
-        let Some(held) = self.take(alloc) else {
+        if self.kind == NOTHING {
             return NO_HANDLE;
-        };
-        let status = answer(held.as_ref());
-        self.put(held);
+        }
+        let parts = replace(&mut self.owned, Owned::none(alloc)).into_parts();
+        let status = answer(parts.held());
+        self.owned = Owned::of_parts(parts);
         status
     }
 

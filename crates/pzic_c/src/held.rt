@@ -1,10 +1,11 @@
 //! What handles hold.
 
-ghost use Rattle.std.specs.Prelude.{◌≡◌, ◌<◌, length, Some, None, IfOk, MatchOption};
+ghost use Rattle.std.specs.Prelude.{◌≡◌, ◌<◌, length, Some, None, IfOk, IfSome, MatchOption};
 ghost use Rattle.std.specs.Option.{option_copied};
+ghost use Rattle.pzic_c.specs.code.Near.{IsNear};
 ghost use Rattle.pzic_c.specs.Handle.{AreAlike, content_at, content_of, files_of, text_of};
 
-use crate::member::Member;
+use crate::member::{Member, Single};
 use std::alloc::{AllocError, Global};
 use std::sync::Arc;
 use zic_files::Files;
@@ -13,7 +14,7 @@ use zic_tzif::Zone;
 /// What a handle holds. Handles of one zone, of the same files or of one text share it.
 #[derive(Drop)]
 pub(crate) enum Held {
-    Zone(Arc<Zone>),
+    Zone(Single),
     Member(Member),
     Files(Arc<Files>),
     Text(Arc<Vec<u8>>),
@@ -22,10 +23,11 @@ pub(crate) enum Held {
 impl Held {
     /// Returns the zone, if it is one.
     pub(crate) fn zone(&self) -> Option<&Zone>
-        ensures { option_copied result ≡ content_of self.now }
+        ensures zone { option_copied result ≡ content_of self.now }
+        ensures near { IfSome result (λ zone. IsNear zone.now) }
     {
         match self {
-            Held::Zone(zone) => Some(zone),
+            Held::Zone(single) => Some(single.zone()),
             Held::Member(member) => Some(member.zone()),
             Held::Files(_) | Held::Text(_) => None,
         }
@@ -58,7 +60,7 @@ impl Held {
         ensures { IfOk result (λ twin. AreAlike twin.value self.now) }
     {
         let twin = match self {
-            Held::Zone(zone) => Held::Zone(Arc::try_clone(zone)?),
+            Held::Zone(single) => Held::Zone(single.again()?),
             Held::Member(member) => Held::Member(member.again()?),
             Held::Files(files) => Held::Files(Arc::try_clone(files)?),
             Held::Text(text) => Held::Text(Arc::try_clone(text)?),
@@ -69,10 +71,11 @@ impl Held {
 
 /// Returns what a handle of a zone holds.
 pub(crate) fn hold_zone(alloc: Global, zone: Zone) -> Result<Box<Held>, AllocError>
+    requires { IsNear zone }
     ensures { IfOk result (λ held. content_of held.value ≡ Some zone) }
 {
     let zone = Arc::new(alloc, zone)?;
-    Ok(Box::new(alloc, Held::Zone(zone))?)
+    Ok(Box::new(alloc, Held::Zone(Single { zone }))?)
 }
 
 /// Returns what a handle of files holds.

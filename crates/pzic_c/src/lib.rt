@@ -8,6 +8,8 @@ mod copying;
 mod files;
 mod handle;
 mod held;
+mod local;
+mod local_column;
 mod member;
 mod names;
 mod owned;

@@ -4,8 +4,8 @@ ghost use Rattle.std.specs.Prelude.{◌≡◌, MatchOption};
 ghost use Rattle.zic_base.specs.FaultName.{IsFaultName};
 ghost use Rattle.zic_tzif.specs.Reason.{IsReasonName};
 ghost use Rattle.pzic_c.specs.declared.status.TheConstants.{NO_SUCH};
-ghost use Rattle.pzic_c.specs.Names.{IsNameTold};
-ghost use Rattle.pzic_c.specs.Text.{IsTextTold};
+ghost use Rattle.pzic_c.specs.Names.{IsNameCopied};
+ghost use Rattle.pzic_c.specs.Text.{IsTextCopied};
 
 use crate::copying::copy;
 use crate::status::{NO_SUCH, OK};
@@ -16,7 +16,7 @@ use zic_tzif::name_of_reason;
 fn tell(name: Option<&str>, room: &mut [u8], count: &mut usize) -> i32
     ensures { MatchOption name.entry
         ((result ≡ NO_SUCH) × (room.new ≡ room.old) × (count.new ≡ count.old))
-        (λ text. IsTextTold text.now result room.old room.new count.new) }
+        (λ text. IsTextCopied text.now result room.old room.new count.new) }
 {
     match name {
         Some(name) => {
@@ -29,8 +29,8 @@ fn tell(name: Option<&str>, room: &mut [u8], count: &mut usize) -> i32
 
 /// Copies the name of a fault's kind, as much as there is room for.
 #[unsafe(no_mangle)]
-pub extern "C" fn pzic_name_of_fault(kind: u32, room: &mut [u8], count: &mut usize) -> i32
-    ensures { IsNameTold (IsFaultName kind) result
+pub extern "C" fn pzic_raw_name_of_fault(kind: u32, room: &mut [u8], count: &mut usize) -> i32
+    ensures { IsNameCopied (IsFaultName kind) result
         room.old room.new count.old count.new }
 {
     tell(name_of_fault(kind), room, count)
@@ -38,8 +38,8 @@ pub extern "C" fn pzic_name_of_fault(kind: u32, room: &mut [u8], count: &mut usi
 
 /// Copies the name of a reason, as much as there is room for.
 #[unsafe(no_mangle)]
-pub extern "C" fn pzic_name_of_reason(reason: u32, room: &mut [u8], count: &mut usize) -> i32
-    ensures { IsNameTold (IsReasonName reason) result
+pub extern "C" fn pzic_raw_name_of_reason(reason: u32, room: &mut [u8], count: &mut usize) -> i32
+    ensures { IsNameCopied (IsReasonName reason) result
         room.old room.new count.old count.new }
 {
     tell(name_of_reason(reason), room, count)

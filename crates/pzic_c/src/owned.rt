@@ -38,7 +38,7 @@ impl Owned {
 
     /// Returns a pointer to what was in a box.
     pub(crate) fn of_parts(parts: Parts<Held, Global>) -> Owned
-        ensures { result.value ≡ Some parts.value }
+        ensures { result ≡ record { at = parts.ptr; alloc = parts.alloc; value = Some parts.value } }
     {
         let Parts { ptr, alloc } = parts;
         Owned {
@@ -50,7 +50,7 @@ impl Owned {
     /// Returns the parts of a box of what is owned.
     pub(crate) fn into_parts(self) -> Parts<Held, Global>
         requires { IsHolding self.value }
-        ensures { self.value ≡ Some result.value }
+        ensures { self ≡ record { at = result.ptr; alloc = result.alloc; value = Some result.value } }
     {
         let Owned { at, alloc } = self;
         Parts {

@@ -1,6 +1,7 @@
 //! Boxes with their fields in sight.
 
 ghost use Rattle.std.specs.Prelude.{◌≡◌};
+ghost use Rattle.std.specs.Borrow.{lent_at};
 ghost use Rattle.std.specs.Box.Ownership.{box_owns};
 
 use std::alloc::Allocator;
@@ -15,6 +16,8 @@ pub(crate) struct Parts<T, A: Allocator> {
 
 impl<T, A: Allocator> Model for Parts<T, A> {
     ghost also_owns = { λ p. box_owns (A.dealloc_token p.alloc) T.row p.ptr p.value };
+
+    ghost also_shares = { λ p _ κ. lent_at T.row p.ptr p.value κ };
 }
 
 impl<T, A: Allocator> Parts<T, A> {
@@ -26,6 +29,13 @@ impl<T, A: Allocator> Parts<T, A> {
     {
         let (ptr, alloc) = Box::into_raw_with_allocator(b);
         Parts { ptr, alloc }
+    }
+
+    /// Returns what the box held.
+    pub(crate) fn held(&self) -> &T
+        ensures { result.now ≡ self.now.value }
+    {
+        unsafe { &*self.ptr }
     }
 
     /// Returns the box of these parts.

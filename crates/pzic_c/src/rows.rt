@@ -1,9 +1,9 @@
 //! The calls on the rows of columns.
 
 ghost use Rattle.std.specs.Prelude.{◌≡◌, ◌+◌, ◌^◌, ◌<◌, None, MatchOption};
-ghost use Rattle.pzic_c.specs.Handle.{IsHandle, Keeps, files_in, held_in, text_in};
-ghost use Rattle.pzic_c.specs.Rows.{AreRowsTold, IsRowTold};
-ghost use Rattle.pzic_c.specs.Text.{IsTextTold};
+ghost use Rattle.pzic_c.specs.Handle.{IsHandle, files_in, held_in, text_in};
+ghost use Rattle.pzic_c.specs.Rows.{AreRowsGiven, IsRowFaultGiven};
+ghost use Rattle.pzic_c.specs.Text.{IsTextCopied};
 ghost use Rattle.pzic_c.specs.declared.status.TheConstants.{NO_HANDLE};
 
 use crate::copying::copy;
@@ -29,7 +29,7 @@ pub struct RowFault {
 /// Tells the fault of the row after `count` rows, if it has one.
 fn tell_fault(fault: Option<RowKind>, count: u64, told: &mut RowFault) -> i32
     requires { count + 1 < 2 ^ 64 }
-    ensures { IsRowTold fault count result told.old told.new }
+    ensures { IsRowFaultGiven fault count result told.old told.new }
 {
     let Some(kind) = fault else {
         return OK;
@@ -52,7 +52,7 @@ fn put_rows(
     requires handle { IsHandle rows.old }
     requires empty { held_in rows.old ≡ None }
     ensures handle { IsHandle rows.new }
-    ensures told { AreRowsTold files.now column.now result fault.old fault.new
+    ensures told { AreRowsGiven files.now column.now result fault.old fault.new
         (held_in rows.new) }
 {
     let Ok(made) = rows_of_column(alloc, files, MAX_ROWS, column) else {
@@ -69,7 +69,7 @@ fn put_rows(
 
 /// Converts a column.
 #[unsafe(no_mangle)]
-pub extern "C" fn pzic_rows(
+pub extern "C" fn pzic_raw_rows(
     alloc: Global,
     files: &mut Handle,
     column: &[u8],
@@ -78,11 +78,11 @@ pub extern "C" fn pzic_rows(
 ) -> i32
     requires files { IsHandle files.old }
     requires rows { IsHandle rows.old }
-    ensures kept { Keeps files.old files.new }
+    ensures kept { files.new ≡ files.old }
     ensures handle { IsHandle rows.new }
     ensures told { MatchOption (files_in files.old)
         ((result ≡ NO_HANDLE) × (fault.new ≡ fault.old) × (held_in rows.new ≡ None))
-        (λ all. AreRowsTold all column.now result fault.old fault.new (held_in rows.new)) }
+        (λ all. AreRowsGiven all column.now result fault.old fault.new (held_in rows.new)) }
 {
     drop(rows.take(alloc));
     files.ask(
@@ -96,17 +96,17 @@ pub extern "C" fn pzic_rows(
 
 /// Copies the text of rows, as much as there is room for.
 #[unsafe(no_mangle)]
-pub extern "C" fn pzic_rows_text(
+pub extern "C" fn pzic_raw_rows_text(
     alloc: Global,
     rows: &mut Handle,
     room: &mut [u8],
     count: &mut usize,
 ) -> i32
     requires { IsHandle rows.old }
-    ensures kept { Keeps rows.old rows.new }
+    ensures kept { rows.new ≡ rows.old }
     ensures told { MatchOption (text_in rows.old)
         ((result ≡ NO_HANDLE) × (room.new ≡ room.old) × (count.new ≡ count.old))
-        (λ text. IsTextTold text result room.old room.new count.new) }
+        (λ text. IsTextCopied text result room.old room.new count.new) }
 {
     rows.ask(
         alloc,

@@ -1,7 +1,7 @@
 //! Letting go and sharing what handles hold.
 
 ghost use Rattle.std.specs.Prelude.{◌≡◌, None};
-ghost use Rattle.pzic_c.specs.Handle.{IsHandle, IsShared, Keeps, held_in};
+ghost use Rattle.pzic_c.specs.Handle.{IsHandle, IsShared, held_in};
 
 use crate::handle::Handle;
 use crate::held::Held;
@@ -10,10 +10,10 @@ use std::alloc::Global;
 
 /// Has another handle hold the same too. It is let go with the last of its handles.
 #[unsafe(no_mangle)]
-pub extern "C" fn pzic_share(alloc: Global, handle: &mut Handle, other: &mut Handle) -> i32
+pub extern "C" fn pzic_raw_share(alloc: Global, handle: &mut Handle, other: &mut Handle) -> i32
     requires handle { IsHandle handle.old }
     requires other { IsHandle other.old }
-    ensures kept { Keeps handle.old handle.new }
+    ensures kept { handle.new ≡ handle.old }
     ensures other { IsHandle other.new }
     ensures shared { IsShared (held_in handle.old) result (held_in other.new) }
 {
@@ -32,7 +32,7 @@ pub extern "C" fn pzic_share(alloc: Global, handle: &mut Handle, other: &mut Han
 
 /// Lets go what a handle holds, which then holds nothing.
 #[unsafe(no_mangle)]
-pub extern "C" fn pzic_free(alloc: Global, handle: &mut Handle)
+pub extern "C" fn pzic_raw_free(alloc: Global, handle: &mut Handle)
     requires { IsHandle handle.old }
     ensures handle { IsHandle handle.new }
     ensures empty { held_in handle.new ≡ None }

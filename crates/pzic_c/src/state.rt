@@ -4,7 +4,7 @@ ghost use Rattle.std.specs.Prelude.{◌≡◌, take};
 ghost use Rattle.zic_base.specs.State.{shown};
 ghost use Rattle.zic_tzif.specs.Answer.{answered};
 ghost use Rattle.pzic_c.specs.State.{IsStateOf, padded};
-ghost use Rattle.pzic_c.specs.Zone.{IsTold};
+ghost use Rattle.pzic_c.specs.Zone.{IsAnswer};
 
 use crate::status::{OK, UNSPECIFIED};
 use zic_base::State as Shown;
@@ -42,7 +42,7 @@ impl State {
 
     /// Turns to what a file answers. Returns the status that tells it.
     pub(crate) fn tell(&mut self, answer: Answer<'_>) -> i32
-        ensures { IsTold (answered answer.entry) result self.new }
+        ensures { IsAnswer (answered answer.entry) result self.new }
     {
         match answer {
             Answer::Known(state) => {

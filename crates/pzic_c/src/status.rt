@@ -14,7 +14,13 @@ pub const NO_HANDLE: i32 = 4;
 pub const LENGTHS: i32 = 5;
 /// The text is no source, or a zone of it has a fault.
 pub const BAD_SOURCE: i32 = 6;
-/// No file has the name or the number, or no kind or reason has the number.
+/// No file has the name or the number, or no kind, reason or disambiguation has the number.
 pub const NO_SUCH: i32 = 7;
 /// A row has a fault.
 pub const BAD_ROW: i32 = 8;
+/// The local time is so near an end of 64 bits that its instants may be outside.
+pub const OUT_OF_RANGE: i32 = 9;
+/// The local time is in a gap.
+pub const GAP: i32 = 10;
+/// The local time is in a fold.
+pub const FOLD: i32 = 11;

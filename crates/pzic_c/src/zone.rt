@@ -1,9 +1,9 @@
 //! The calls on zones.
 
 ghost use Rattle.std.specs.Prelude.{◌≡◌, MatchOption};
-ghost use Rattle.pzic_c.specs.Handle.{IsHandle, Keeps, held_in, zone_in};
-ghost use Rattle.pzic_c.specs.Zone.{IsRead, IsRefusalTold, IsToldAt, IsToldRound, instants};
-ghost use Rattle.pzic_c.specs.Column.{IsColumnTold};
+ghost use Rattle.pzic_c.specs.Handle.{IsHandle, held_in, zone_in};
+ghost use Rattle.pzic_c.specs.Zone.{IsRead, IsReasonGiven, IsAnswerAt, IsAnswerAround, instants};
+ghost use Rattle.pzic_c.specs.Column.{AreOffsetsGiven};
 ghost use Rattle.zic_tzif.specs.Reading.{reason_of};
 ghost use Rattle.pzic_c.specs.declared.status.TheConstants.{NO_HANDLE};
 
@@ -13,11 +13,12 @@ use crate::held::{Held, hold_zone};
 use crate::state::State;
 use crate::status::{BAD_FILE, LENGTHS, NO_HANDLE, NO_MEMORY, OK};
 use std::alloc::Global;
+use zic_local::laws::instants_are_near;
 use zic_tzif::{ReadStop, Zone, read};
 
 /// Tells why bytes weren't read.
 fn refuse_bytes(stop: ReadStop, reason: &mut u32) -> i32
-    ensures { IsRefusalTold (reason_of stop) result reason.old reason.new }
+    ensures { IsReasonGiven (reason_of stop) result reason.old reason.new }
 {
     match stop {
         ReadStop::Bad(why) => {
@@ -30,14 +31,14 @@ fn refuse_bytes(stop: ReadStop, reason: &mut u32) -> i32
 
 /// Tells local time at an instant.
 fn tell_at(zone: &Zone, instant: i64, state: &mut State) -> i32
-    ensures { IsToldAt zone.now instant result state.new }
+    ensures { IsAnswerAt zone.now instant result state.new }
 {
     state.tell(zone.at(instant))
 }
 
 /// Tells local time at an instant, and the first and the last of the instants round it.
 fn tell_round(zone: &Zone, instant: i64, state: &mut State, first: &mut i64, last: &mut i64) -> i32
-    ensures { IsToldRound zone.now instant (instants first.new last.new) result state.new }
+    ensures { IsAnswerAround zone.now instant (instants first.new last.new) result state.new }
 {
     let span = zone.span(instant);
     *first = span.instants.first;
@@ -47,7 +48,7 @@ fn tell_round(zone: &Zone, instant: i64, state: &mut State, first: &mut i64, las
 
 /// Tells local time at each of many instants, where the arrays are as long.
 fn tell_column(zone: &Zone, instants: &[i64], offsets: &mut [i32], flags: &mut [u8]) -> i32
-    ensures { IsColumnTold zone.now instants.now result offsets.old flags.old offsets.new
+    ensures { AreOffsetsGiven zone.now instants.now result offsets.old flags.old offsets.new
         flags.new }
 {
     if offsets.len() != instants.len() || flags.len() != instants.len() {
@@ -59,7 +60,7 @@ fn tell_column(zone: &Zone, instants: &[i64], offsets: &mut [i32], flags: &mut [
 
 /// Reads a zone from the bytes of a TZif file.
 #[unsafe(no_mangle)]
-pub extern "C" fn pzic_zone_read(
+pub extern "C" fn pzic_raw_zone_read(
     alloc: Global,
     octets: &[u8],
     zone: &mut Handle,
@@ -69,6 +70,7 @@ pub extern "C" fn pzic_zone_read(
     ensures handle { IsHandle zone.new }
     ensures read { IsRead octets.now result reason.old reason.new (held_in zone.new) }
 {
+    instants_are_near();
     drop(zone.take(alloc));
     let made = match read(alloc, octets) {
         Ok(made) => made,
@@ -85,17 +87,17 @@ pub extern "C" fn pzic_zone_read(
 
 /// Tells local time at an instant.
 #[unsafe(no_mangle)]
-pub extern "C" fn pzic_zone_at(
+pub extern "C" fn pzic_raw_zone_at(
     alloc: Global,
     zone: &mut Handle,
     instant: i64,
     state: &mut State,
 ) -> i32
     requires { IsHandle zone.old }
-    ensures kept { Keeps zone.old zone.new }
+    ensures kept { zone.new ≡ zone.old }
     ensures told { MatchOption (zone_in zone.old)
         ((result ≡ NO_HANDLE) × (state.new ≡ state.old))
-        (λ content. IsToldAt content instant result state.new) }
+        (λ content. IsAnswerAt content instant result state.new) }
 {
     zone.ask(
         alloc,
@@ -108,7 +110,7 @@ pub extern "C" fn pzic_zone_at(
 
 /// Tells local time at an instant, and the instants round it at which it is the same.
 #[unsafe(no_mangle)]
-pub extern "C" fn pzic_zone_span(
+pub extern "C" fn pzic_raw_zone_span(
     alloc: Global,
     zone: &mut Handle,
     instant: i64,
@@ -117,11 +119,11 @@ pub extern "C" fn pzic_zone_span(
     last: &mut i64,
 ) -> i32
     requires { IsHandle zone.old }
-    ensures kept { Keeps zone.old zone.new }
+    ensures kept { zone.new ≡ zone.old }
     ensures told { MatchOption (zone_in zone.old)
         ((result ≡ NO_HANDLE) × (state.new ≡ state.old) × (first.new ≡ first.old)
         × (last.new ≡ last.old))
-        (λ content. IsToldRound content instant (instants first.new last.new) result state.new) }
+        (λ content. IsAnswerAround content instant (instants first.new last.new) result state.new) }
 {
     zone.ask(
         alloc,
@@ -134,7 +136,7 @@ pub extern "C" fn pzic_zone_span(
 
 /// Tells local time at each of many instants, in any order.
 #[unsafe(no_mangle)]
-pub extern "C" fn pzic_zone_offsets(
+pub extern "C" fn pzic_raw_zone_offsets(
     alloc: Global,
     zone: &mut Handle,
     instants: &[i64],
@@ -142,10 +144,10 @@ pub extern "C" fn pzic_zone_offsets(
     flags: &mut [u8],
 ) -> i32
     requires { IsHandle zone.old }
-    ensures kept { Keeps zone.old zone.new }
+    ensures kept { zone.new ≡ zone.old }
     ensures told { MatchOption (zone_in zone.old)
         ((result ≡ NO_HANDLE) × (offsets.new ≡ offsets.old) × (flags.new ≡ flags.old))
-        (λ content. IsColumnTold content instants.now result offsets.old flags.old offsets.new
+        (λ content. AreOffsetsGiven content instants.now result offsets.old flags.old offsets.new
         flags.new) }
 {
     zone.ask(

@@ -1,12 +1,10 @@
--- A column of which the first cells are written.
+-- Two columns of which the first cells are written.
 use Rattle.std.specs.Prelude.{◌≡◌, ℕ, ℤ, List, length, take}
 use Rattle.std.specs.List.{AllZip}
-use Rattle.zic_tzif.specs.Content.{Content}
-use Rattle.pzic_c.specs.Column.{IsOffsetAt, AreFlagsAt}
 
--- the first offsets and flags, so many, tell what the file answers at the instants of their places
-pub record IsWritten (content : Content) (instants offsets : List ℤ) (flags : List ℕ) (count : ℕ) : Type 0 where
-  pub offsets_long : length offsets ≡ length instants
-  pub flags_long : length flags ≡ length instants
-  pub offsets_written : AllZip (IsOffsetAt content) (take count instants) (take count offsets)
-  pub flags_written : AllZip (AreFlagsAt content) (take count instants) (take count flags)
+-- the first cells of both, so many, are those of the keys of their places
+pub record IsWritten (P : ℤ → ℤ → Type 0) (Q : ℤ → ℕ → Type 0) (keys numbers : List ℤ) (marks : List ℕ) (count : ℕ) : Type 0 where
+  pub numbers_long : length numbers ≡ length keys
+  pub marks_long : length marks ≡ length keys
+  pub numbers_written : AllZip P (take count keys) (take count numbers)
+  pub marks_written : AllZip Q (take count keys) (take count marks)

@@ -1,4 +1,5 @@
 use Rattle.std.proofs.Common.{rules, FitsSigned, w32, w64, get_or, pos, to_z-of_z}
+use Rattle.pzic_c.specs.Column.{IsOffsetAt, AreFlagsAt}
 use Rattle.pzic_c.proofs.Columns.{written-next}
 use Rattle.pzic_c.proofs.column.write_with.Goals as goal
 
@@ -9,4 +10,5 @@ loop-i-preserved c =
     let fits : FitsSigned w32 next.result.offset = search rules in
     let timely : FitsSigned w64 (get_or c.args.instants.now l.i (pos 0)) = search rules in
     let asked = simp to_z-of_z at next.ensures.asked in
-    (next.ensures.all, next.ensures.kept, rw (to_z-of_z fits) (written-next _ _ _ _ l.i (pos 0) next.result (search rules) (next.ensures.kept _ asked) l.invariant.2))
+    let told = next.ensures.kept _ asked in
+    (next.ensures.all, next.ensures.kept, rw (to_z-of_z fits) (written-next (IsOffsetAt c.args.zone.now) (AreFlagsAt c.args.zone.now) _ _ _ l.i (pos 0) next.result.offset next.result.flags (search rules) told.offset told.flags l.invariant.2))

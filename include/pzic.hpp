@@ -1,0 +1,172 @@
+// pzic.hpp: local time by the files of the time zone database, for C++17: the calls of pzic.h with
+// handles that free what they hold. Nothing throws. pzic.h tells what each call answers.
+#ifndef PZIC_HPP
+#define PZIC_HPP
+
+#include <cstdint>
+#include <optional>
+#include <string>
+#include <string_view>
+#include <utility>
+#include <vector>
+
+#include "pzic.h"
+
+namespace pzic {
+
+// A handle with one owner, which frees what it holds. It can be moved. A const one may be read by any
+// number of threads at once.
+class handle {
+public:
+    handle() noexcept = default;
+    handle(handle &&other) noexcept : raw_(std::exchange(other.raw_, pzic_handle{})) {}
+    handle &operator=(handle &&other) noexcept {
+        std::swap(raw_, other.raw_);
+        return *this;
+    }
+    handle(const handle &) = delete;
+    handle &operator=(const handle &) = delete;
+    ~handle() { pzic_free(&raw_); }
+
+    explicit operator bool() const noexcept { return raw_.kind != 0; }
+    const pzic_handle *get() const noexcept { return &raw_; }
+    pzic_handle *get() noexcept { return &raw_; }
+
+private:
+    pzic_handle raw_ = PZIC_HANDLE_INIT;
+};
+
+// Local time at an instant.
+struct state {
+    std::int32_t offset;
+    bool daylight;
+    // The first 16 bytes of the abbreviation.
+    std::string name;
+};
+
+// Local time, and the instants from the first to the last at which it is the same.
+struct span {
+    // Nothing where the file leaves local time open.
+    std::optional<pzic::state> state;
+    std::int64_t first, last;
+};
+
+// What to take for a local time in a gap or in a fold.
+enum class disambiguation : std::uint32_t {
+    reject = PZIC_REJECT,
+    earlier = PZIC_EARLIER,
+    later = PZIC_LATER,
+    compatible = PZIC_COMPATIBLE
+};
+
+// A zone. Each that one of the functions returns holds a zone.
+class zone {
+public:
+    // Reads the bytes of a TZif file. Returns nothing where they are none, or memory is refused.
+    static std::optional<zone> read(const std::uint8_t *bytes, std::size_t length) noexcept {
+        zone made;
+        std::uint32_t reason;
+        if (pzic_zone_read(bytes, length, made.handle_.get(), &reason) != PZIC_OK) return std::nullopt;
+        return made;
+    }
+
+    // Returns one more owner of the same, or nothing where memory is refused.
+    std::optional<zone> share() const noexcept {
+        zone made;
+        if (pzic_share(handle_.get(), made.handle_.get()) != PZIC_OK) return std::nullopt;
+        return made;
+    }
+
+    // Returns local time at an instant, or nothing where the file leaves it open.
+    std::optional<pzic::state> at(std::int64_t instant) const {
+        pzic_state told;
+        if (pzic_zone_at(handle_.get(), instant, &told) != PZIC_OK) return std::nullopt;
+        return pzic::state{told.offset, told.daylight != 0, told.name};
+    }
+
+    // Returns local time at an instant, and the instants round it at which it is the same.
+    pzic::span span(std::int64_t instant) const {
+        pzic_state told;
+        pzic::span made{std::nullopt, 0, -1};
+        if (pzic_zone_span(handle_.get(), instant, &told, &made.first, &made.last) == PZIC_OK)
+            made.state = pzic::state{told.offset, told.daylight != 0, told.name};
+        return made;
+    }
+
+    // Returns the UT offsets at instants; 0 where the file leaves local time open.
+    std::vector<std::int32_t> offsets(const std::vector<std::int64_t> &instants) const {
+        std::vector<std::int32_t> made(instants.size());
+        std::vector<std::uint8_t> flags(instants.size());
+        pzic_zone_offsets(handle_.get(), instants.data(), instants.size(), made.data(), made.size(),
+                          flags.data(), flags.size());
+        return made;
+    }
+
+    // Returns the instants at which clocks show a local time, or the gap that it is in; nothing where
+    // the file leaves local time open, or within 26 hours of an end of 64 bits.
+    std::optional<pzic_local_time> instants(std::int64_t local) const noexcept {
+        pzic_local_time found;
+        if (pzic_zone_instants(handle_.get(), local, &found) != PZIC_OK) return std::nullopt;
+        return found;
+    }
+
+    // Returns the instant that is meant by a local time, or nothing.
+    std::optional<std::int64_t> instant(
+        std::int64_t local, disambiguation choice = disambiguation::compatible) const noexcept {
+        std::int64_t found;
+        if (pzic_zone_instant(handle_.get(), static_cast<std::uint32_t>(choice), local, &found) != PZIC_OK)
+            return std::nullopt;
+        return found;
+    }
+
+    const pzic_handle *get() const noexcept { return handle_.get(); }
+
+private:
+    friend class files;
+    zone() noexcept = default;
+    handle handle_;
+};
+
+// The files of a source.
+class files {
+public:
+    // Compiles a text of Rule, Zone, continuation and Link lines. Returns nothing where it has a fault,
+    // which is told, or memory is refused.
+    static std::optional<files> compile(std::string_view text, pzic_fault *fault = nullptr) noexcept {
+        files made;
+        pzic_fault own;
+        std::size_t length = text.size();
+        if (pzic_compile(reinterpret_cast<const std::uint8_t *>(text.data()), length, &length, 1,
+                         made.handle_.get(), fault ? fault : &own) != PZIC_OK)
+            return std::nullopt;
+        return made;
+    }
+
+    // Returns the number of files.
+    std::size_t size() const noexcept {
+        std::size_t count = 0;
+        pzic_files_len(handle_.get(), &count);
+        return count;
+    }
+
+    // Returns the zone of a name, or nothing where no file has it or memory is refused.
+    std::optional<pzic::zone> zone(std::string_view name) const noexcept {
+        pzic::zone made;
+        std::size_t number;
+        if (pzic_files_find(handle_.get(), reinterpret_cast<const std::uint8_t *>(name.data()),
+                            name.size(), &number) != PZIC_OK)
+            return std::nullopt;
+        if (pzic_zone_of(handle_.get(), number, made.handle_.get()) != PZIC_OK) return std::nullopt;
+        return made;
+    }
+
+    const pzic_handle *get() const noexcept { return handle_.get(); }
+
+private:
+    files() noexcept = default;
+    handle handle_;
+};
+
+}  // namespace pzic
+
+#endif

@@ -1,0 +1,104 @@
+/*
+ * pzic_tree.h: zones by name from a folder of TZif files, such as /usr/share/zoneinfo. Needs POSIX.
+ */
+#ifndef PZIC_TREE_H
+#define PZIC_TREE_H
+
+#include <errno.h>
+#include <fcntl.h>
+#include <limits.h>
+#include <stdio.h>
+#include <stdlib.h>
+#include <string.h>
+#include <sys/stat.h>
+#include <unistd.h>
+
+#include "pzic.h"
+
+#ifdef __cplusplus
+extern "C" {
+#endif
+
+/* The most bytes of a file of a zone. */
+enum { PZIC_MOST_BYTES = 1048576 };
+
+/*
+ * Reads the zone of a name from a folder of TZif files. What the handle held before is freed first.
+ * Both texts end with a NUL. The name's parts stand between slashes; none of them is empty, `.` or
+ * `..`, so no name leads out of the folder but by a symbolic link in it. A pipe is not waited for.
+ *
+ * PZIC_OK          the handle holds the zone
+ * PZIC_NO_SUCH     no file of the folder has the name, or none can have it; the handle holds nothing
+ * PZIC_UNREADABLE  the file can't be read, and errno tells why; the handle holds nothing
+ * PZIC_BAD_FILE    it is no TZif file of version 2 or 3, and *reason is the number of the first check
+ *                  that it fails; the handle holds nothing
+ * PZIC_NO_MEMORY   the handle holds nothing
+ *
+ * *reason is written by PZIC_BAD_FILE alone.
+ */
+static inline int32_t pzic_tree_zone(const char *folder, const char *name, pzic_handle *zone,
+                                     uint32_t *reason);
+
+/* Whether a file of a tree may have this name. */
+static inline int pzic_is_name_(const char *name) {
+    size_t length;
+    for (;;) {
+        length = strcspn(name, "/");
+        if (length == 0 || (length == 1 && name[0] == '.')) return 0;
+        if (length == 2 && name[0] == '.' && name[1] == '.') return 0;
+        if (name[length] == '\0') return 1;
+        name += length + 1;
+    }
+}
+
+/* Reads a regular file, at most one byte more than a zone has. */
+static inline int32_t pzic_load_(const char *path, uint8_t *bytes, size_t *length) {
+    struct stat about;
+    ssize_t got = 1;
+    int file = open(path, O_RDONLY | O_NONBLOCK | O_CLOEXEC);
+    *length = 0;
+    if (file < 0)
+        return errno == ENOENT || errno == ENOTDIR || errno == ENAMETOOLONG || errno == ELOOP ||
+                       errno == ENXIO
+                   ? PZIC_NO_SUCH
+                   : PZIC_UNREADABLE;
+    if (fstat(file, &about) == 0 && !S_ISREG(about.st_mode)) {
+        close(file);
+        return PZIC_NO_SUCH;
+    }
+    while (got > 0 && *length <= PZIC_MOST_BYTES) {
+        got = read(file, bytes + *length, PZIC_MOST_BYTES + 1 - *length);
+        if (got < 0 && errno == EINTR) {
+            got = 1;
+            continue;
+        }
+        if (got > 0) *length += (size_t)got;
+    }
+    close(file);
+    return got < 0 ? PZIC_UNREADABLE : PZIC_OK;
+}
+
+static inline int32_t pzic_tree_zone(const char *folder, const char *name, pzic_handle *zone,
+                                     uint32_t *reason) {
+    char path[PATH_MAX];
+    uint8_t *bytes;
+    size_t length;
+    int32_t status;
+    int count;
+    pzic_free(zone);
+    if (!pzic_is_name_(name)) return PZIC_NO_SUCH;
+    count = snprintf(path, sizeof path, "%s/%s", folder, name);
+    if (count < 0 || (size_t)count >= sizeof path) return PZIC_NO_SUCH;
+    bytes = (uint8_t *)malloc(PZIC_MOST_BYTES + 1);
+    if (bytes == NULL) return PZIC_NO_MEMORY;
+    status = pzic_load_(path, bytes, &length);
+    if (status == PZIC_OK) status = pzic_zone_read(bytes, length, zone, reason);
+    free(bytes);
+    return status;
+}
+
+#ifdef __cplusplus
+}
+#endif
+
+#endif

@@ -1,0 +1,372 @@
+/*
+ * Local time in SQLite: a loadable extension over pzic.h. docs/LIBRARY.md tells of its functions.
+ *
+ * Each connection has its own zones, and SQLite calls the functions of one connection one at a time, so
+ * nothing is shared between connections.
+ */
+#include <sqlite3ext.h>
+#include <string.h>
+
+#include "pzic.h"
+#include "pzic_tree.h"
+
+SQLITE_EXTENSION_INIT1
+
+/* The folder of zones that a connection has before pzic_open. */
+static const char usual_folder[] = "/usr/share/zoneinfo";
+
+/* A zone that was asked for, and what it said last. */
+typedef struct known_zone {
+    struct known_zone *next;
+    pzic_handle zone;
+    /* What holds from the first to the last instant, once it was asked for. */
+    pzic_state state;
+    int64_t first, last;
+    int32_t status;
+    char name[];
+} known_zone;
+
+enum { BUCKETS = 1024 };
+
+/* The zones of a connection. */
+typedef struct zones {
+    /* The folder that pzic_open named, or NULL. */
+    char *path;
+    /* The files of the source that it named, if it is one. */
+    pzic_handle files;
+    /* Whether a zone was asked for: from then on the place of the zones stays. */
+    int in_use;
+    /* The zone of the row before, and all. */
+    known_zone *recent;
+    known_zone *buckets[BUCKETS];
+    /* How many functions of the connection have this. */
+    int owners;
+} zones;
+
+static void let_go(void *argument) {
+    zones *all = argument;
+    if (--all->owners > 0) return;
+    for (int i = 0; i < BUCKETS; i++) {
+        while (all->buckets[i] != NULL) {
+            known_zone *known = all->buckets[i];
+            all->buckets[i] = known->next;
+            pzic_free(&known->zone);
+            sqlite3_free(known);
+        }
+    }
+    pzic_free(&all->files);
+    sqlite3_free(all->path);
+    sqlite3_free(all);
+}
+
+/* Sets the error of a function: a text that begins with its name. */
+static void fail(sqlite3_context *context, const char *function, const char *what, const char *name) {
+    char *text = sqlite3_mprintf("%s: %s: %s", function, name, what);
+    if (text == NULL) {
+        sqlite3_result_error_nomem(context);
+        return;
+    }
+    sqlite3_result_error(context, text, -1);
+    sqlite3_free(text);
+}
+
+static unsigned hash_of(const char *name) {
+    unsigned hash = 2166136261u;
+    for (; *name != '\0'; name++) hash = (hash ^ (unsigned char)*name) * 16777619u;
+    return hash % BUCKETS;
+}
+
+/* Reads a zone from where the connection has its zones. */
+static int32_t read_zone(zones *all, const char *name, pzic_handle *zone) {
+    size_t number;
+    uint32_t reason;
+    if (all->files.kind == 0)
+        return pzic_tree_zone(all->path ? all->path : usual_folder, name, zone, &reason);
+    int32_t status = pzic_files_find(&all->files, (const uint8_t *)name, strlen(name), &number);
+    return status == PZIC_OK ? pzic_zone_of(&all->files, number, zone) : status;
+}
+
+/* Keeps a zone. Returns NULL where memory is refused. */
+static known_zone *keep(zones *all, const char *name, const pzic_handle *zone) {
+    size_t length = strlen(name) + 1;
+    known_zone **bucket = &all->buckets[hash_of(name)];
+    known_zone *known = sqlite3_malloc64(sizeof *known + length);
+    if (known == NULL) return NULL;
+    memset(known, 0, sizeof *known);
+    memcpy(known->name, name, length);
+    known->zone = *zone;
+    known->last = -1;
+    known->next = *bucket;
+    *bucket = known;
+    return known;
+}
+
+/* Returns the zone that a value names. Sets the error or the NULL of the function where it is none. */
+static known_zone *find(sqlite3_context *context, const char *function, sqlite3_value *value) {
+    zones *all = sqlite3_user_data(context);
+    const char *name = (const char *)sqlite3_value_text(value);
+    if (name == NULL) return NULL;
+    if (strlen(name) != (size_t)sqlite3_value_bytes(value)) {
+        fail(context, function, "no such zone", name);
+        return NULL;
+    }
+    known_zone *known = all->recent;
+    if (known != NULL && strcmp(known->name, name) == 0) return known;
+    for (known = all->buckets[hash_of(name)]; known != NULL; known = known->next)
+        if (strcmp(known->name, name) == 0) return all->recent = known;
+    all->in_use = 1;
+    pzic_handle zone = PZIC_HANDLE_INIT;
+    int32_t status = read_zone(all, name, &zone);
+    if (status == PZIC_OK) {
+        known = keep(all, name, &zone);
+        if (known != NULL) return all->recent = known;
+        pzic_free(&zone);
+        status = PZIC_NO_MEMORY;
+    }
+    if (status == PZIC_NO_MEMORY) sqlite3_result_error_nomem(context);
+    else if (status == PZIC_BAD_FILE) fail(context, function, "no TZif file of version 2 or 3", name);
+    else if (status == PZIC_UNREADABLE) fail(context, function, "the file can't be read", name);
+    else fail(context, function, "no such zone", name);
+    return NULL;
+}
+
+/* Asks for the state at an instant. Returns whether there is one; else the function is NULL or an error. */
+static const pzic_state *state_at(sqlite3_context *context, const char *function,
+                                  sqlite3_value **values, int64_t *instant) {
+    if (sqlite3_value_type(values[0]) == SQLITE_NULL || sqlite3_value_type(values[1]) == SQLITE_NULL)
+        return NULL;
+    known_zone *known = find(context, function, values[0]);
+    if (known == NULL) return NULL;
+    if (sqlite3_value_numeric_type(values[1]) != SQLITE_INTEGER) {
+        fail(context, function, "an instant is a whole number of seconds from 1970",
+             (const char *)sqlite3_value_text(values[1]));
+        return NULL;
+    }
+    int64_t t = *instant = sqlite3_value_int64(values[1]);
+    if (t < known->first || known->last < t)
+        known->status = pzic_zone_span(&known->zone, t, &known->state, &known->first, &known->last);
+    return known->status == PZIC_OK ? &known->state : NULL;
+}
+
+static void pzic_offset(sqlite3_context *context, int count, sqlite3_value **values) {
+    int64_t instant;
+    const pzic_state *state = state_at(context, "pzic_offset", values, &instant);
+    (void)count;
+    if (state != NULL) sqlite3_result_int(context, state->offset);
+}
+
+static void pzic_abbreviation(sqlite3_context *context, int count, sqlite3_value **values) {
+    int64_t instant;
+    const pzic_state *state = state_at(context, "pzic_abbreviation", values, &instant);
+    (void)count;
+    if (state != NULL) sqlite3_result_text(context, state->name, -1, SQLITE_TRANSIENT);
+}
+
+/* The first and the last second of the years 0000 to 9999, as if they were UT. */
+static const int64_t first_second = -62167219200, last_second = 253402300799;
+
+/* The day of a date from 1970-01-01, by the Gregorian calendar. */
+static int64_t day_of(int64_t year, int month, int day) {
+    int64_t y = month <= 2 ? year - 1 : year;
+    int64_t era = (y >= 0 ? y : y - 399) / 400, within = y - era * 400;
+    int64_t of_year = (153 * (month + (month > 2 ? -3 : 9)) + 2) / 5 + day - 1;
+    return era * 146097 + within * 365 + within / 4 - within / 100 + of_year - 719468;
+}
+
+static void put_digits(char *text, int64_t number, int digits) {
+    while (digits-- > 0) {
+        text[digits] = (char)('0' + number % 10);
+        number /= 10;
+    }
+}
+
+/* Writes a second as a date and a time of 19 bytes, as SQLite's datetime does. */
+static void write_local(char *text, int64_t second) {
+    int64_t of_era = second - first_second, day = of_era / 86400 + 60, rest = of_era % 86400;
+    /* Days from 0000-03-01 in years from March on; the 60 days before belong to the year -1. */
+    int64_t from_march = day - 60 - 60 + 146097;
+    int64_t era = from_march / 146097, in_era = from_march % 146097;
+    int64_t year = (in_era - in_era / 1460 + in_era / 36524 - in_era / 146096) / 365;
+    int64_t of_year = in_era - (365 * year + year / 4 - year / 100);
+    int64_t shifted = (5 * of_year + 2) / 153, month = shifted < 10 ? shifted + 3 : shifted - 9;
+    memcpy(text, "0000-00-00 00:00:00", 19);
+    put_digits(text, (era - 1) * 400 + year + (month <= 2), 4);
+    put_digits(text + 5, month, 2);
+    put_digits(text + 8, of_year - (153 * shifted + 2) / 5 + 1, 2);
+    put_digits(text + 11, rest / 3600, 2);
+    put_digits(text + 14, rest / 60 % 60, 2);
+    put_digits(text + 17, rest % 60, 2);
+}
+
+static void pzic_local(sqlite3_context *context, int count, sqlite3_value **values) {
+    int64_t instant;
+    char text[19];
+    const pzic_state *state = state_at(context, "pzic_local", values, &instant);
+    (void)count;
+    if (state == NULL || instant < first_second - state->offset || instant > last_second - state->offset)
+        return;
+    write_local(text, instant + state->offset);
+    sqlite3_result_text(context, text, sizeof text, SQLITE_TRANSIENT);
+}
+
+/* Reads a number of so many digits. Returns -1 where there is none. */
+static int digits_at(const char *text, int digits) {
+    int number = 0;
+    for (int i = 0; i < digits; i++) {
+        if (text[i] < '0' || text[i] > '9') return -1;
+        number = 10 * number + (text[i] - '0');
+    }
+    return number;
+}
+
+/* Reads `YYYY-MM-DD`, and after a space or a T `HH:MM` or `HH:MM:SS`. Returns whether it is one. */
+static int read_local(const char *text, int length, int64_t *second) {
+    static const int days[] = {31, 29, 31, 30, 31, 30, 31, 31, 30, 31, 30, 31};
+    int time[3] = {0, 0, 0};
+    if (length != 10 && length != 16 && length != 19) return 0;
+    int year = digits_at(text, 4), month = digits_at(text + 5, 2), day = digits_at(text + 8, 2);
+    if (year < 0 || month < 1 || month > 12 || day < 1 || text[4] != '-' || text[7] != '-') return 0;
+    int is_leap = year % 4 == 0 && (year % 100 != 0 || year % 400 == 0);
+    if (day > days[month - 1] - (month == 2 && !is_leap)) return 0;
+    for (int i = 0; i < (length - 10) / 3; i++) {
+        const char *part = text + 10 + 3 * i;
+        if (i == 0 ? *part != ' ' && *part != 'T' : *part != ':') return 0;
+        time[i] = digits_at(part + 1, 2);
+        if (time[i] < 0 || time[i] > (i == 0 ? 23 : 59)) return 0;
+    }
+    *second = day_of(year, month, day) * 86400 + time[0] * 3600 + time[1] * 60 + time[2];
+    return 1;
+}
+
+/* Returns the number of a disambiguation, or -1. */
+static int choice_of(const char *word) {
+    static const char *const words[] = {"reject", "earlier", "later", "compatible"};
+    for (int i = 0; i < 4; i++)
+        if (word != NULL && strcmp(word, words[i]) == 0) return i;
+    return -1;
+}
+
+static void pzic_instant(sqlite3_context *context, int count, sqlite3_value **values) {
+    static const char function[] = "pzic_instant";
+    int64_t local, instant;
+    for (int i = 0; i < count; i++)
+        if (sqlite3_value_type(values[i]) == SQLITE_NULL) return;
+    known_zone *known = find(context, function, values[0]);
+    if (known == NULL) return;
+    const char *text = (const char *)sqlite3_value_text(values[1]);
+    const char *word = count > 2 ? (const char *)sqlite3_value_text(values[2]) : "compatible";
+    int choice = choice_of(word);
+    if (choice < 0) {
+        fail(context, function, "compatible, earlier, later or reject is wanted", word ? word : "");
+        return;
+    }
+    if (text == NULL || !read_local(text, sqlite3_value_bytes(values[1]), &local)) {
+        fail(context, function, "a local time as 2024-07-03 10:46:40 is wanted", text ? text : "");
+        return;
+    }
+    switch (pzic_zone_instant(&known->zone, (uint32_t)choice, local, &instant)) {
+        case PZIC_OK: sqlite3_result_int64(context, instant); break;
+        case PZIC_GAP: fail(context, function, "clocks pass over this local time", text); break;
+        case PZIC_FOLD: fail(context, function, "clocks show this local time more than once", text); break;
+        default: break;
+    }
+}
+
+/* Compiles a source, which is a file. Returns the status, or PZIC_UNREADABLE. */
+static int32_t compile_file(const char *path, pzic_handle *files, pzic_fault *fault) {
+    FILE *file = fopen(path, "rb");
+    long end = -1;
+    if (file == NULL) return PZIC_UNREADABLE;
+    if (fseek(file, 0, SEEK_END) == 0) end = ftell(file);
+    uint8_t *text = end < 0 ? NULL : sqlite3_malloc64((sqlite3_uint64)end + 1);
+    size_t length = 0;
+    int32_t status = end < 0 ? PZIC_UNREADABLE : PZIC_NO_MEMORY;
+    if (text != NULL && fseek(file, 0, SEEK_SET) == 0) {
+        length = fread(text, 1, (size_t)end, file);
+        status = length == (size_t)end ? pzic_compile(text, length, &length, 1, files, fault)
+                                       : PZIC_UNREADABLE;
+    }
+    sqlite3_free(text);
+    fclose(file);
+    return status;
+}
+
+/* Names the folder or the source of a connection's zones, once. */
+static void pzic_open(sqlite3_context *context, int count, sqlite3_value **values) {
+    static const char function[] = "pzic_open";
+    zones *all = sqlite3_user_data(context);
+    const char *path = (const char *)sqlite3_value_text(values[0]);
+    struct stat about;
+    pzic_fault fault;
+    int32_t status = PZIC_OK;
+    (void)count;
+    if (path == NULL) return;
+    if (all->path != NULL || all->in_use) {
+        if (all->path != NULL && strcmp(all->path, path) == 0) sqlite3_result_text(context, path, -1, SQLITE_TRANSIENT);
+        else fail(context, function, "the zones of this connection come from elsewhere", path);
+        return;
+    }
+    if (stat(path, &about) != 0 || !(S_ISDIR(about.st_mode) || S_ISREG(about.st_mode))) status = PZIC_UNREADABLE;
+    else if (S_ISREG(about.st_mode)) status = compile_file(path, &all->files, &fault);
+    if (status == PZIC_OK && (all->path = sqlite3_mprintf("%s", path)) == NULL) {
+        pzic_free(&all->files);
+        status = PZIC_NO_MEMORY;
+    }
+    if (status == PZIC_OK) {
+        sqlite3_result_text(context, path, -1, SQLITE_TRANSIENT);
+    } else if (status == PZIC_NO_MEMORY) {
+        sqlite3_result_error_nomem(context);
+    } else if (status == PZIC_BAD_SOURCE) {
+        char *text = sqlite3_mprintf("no source: line %lld", (long long)fault.line);
+        fail(context, function, text ? text : "no source", path);
+        sqlite3_free(text);
+    } else {
+        fail(context, function, "a folder of TZif files or a source is wanted", path);
+    }
+}
+
+static void version(sqlite3_context *context, int count, sqlite3_value **values) {
+    uint32_t number = pzic_version();
+    char *text = sqlite3_mprintf("%u.%u.%u", number / 10000, number / 100 % 100, number % 100);
+    (void)count, (void)values;
+    if (text == NULL) sqlite3_result_error_nomem(context);
+    else sqlite3_result_text(context, text, -1, sqlite3_free);
+}
+
+typedef void function(sqlite3_context *, int, sqlite3_value **);
+
+/* Adds the functions to a connection. */
+#ifdef _WIN32
+__declspec(dllexport)
+#endif
+int sqlite3_pzicsqlite_init(sqlite3 *db, char **error, const sqlite3_api_routines *api) {
+    enum { SAME = SQLITE_UTF8 | SQLITE_DETERMINISTIC | SQLITE_INNOCUOUS };
+    static const struct {
+        const char *name;
+        int count, flags;
+        function *call;
+    } calls[] = {
+        {"pzic_local", 2, SAME, pzic_local},
+        {"pzic_offset", 2, SAME, pzic_offset},
+        {"pzic_abbreviation", 2, SAME, pzic_abbreviation},
+        {"pzic_instant", 2, SAME, pzic_instant},
+        {"pzic_instant", 3, SAME, pzic_instant},
+        {"pzic_version", 0, SAME, version},
+        {"pzic_open", 1, SQLITE_UTF8 | SQLITE_DIRECTONLY, pzic_open},
+    };
+    SQLITE_EXTENSION_INIT2(api);
+    (void)error;
+    zones *all = sqlite3_malloc64(sizeof *all);
+    if (all == NULL) return SQLITE_NOMEM;
+    memset(all, 0, sizeof *all);
+    int status = SQLITE_OK;
+    /* This call is an owner too, until it ends. */
+    all->owners = 1;
+    for (size_t i = 0; i < sizeof calls / sizeof *calls && status == SQLITE_OK; i++) {
+        all->owners++;
+        status = sqlite3_create_function_v2(db, calls[i].name, calls[i].count, calls[i].flags, all,
+                                            calls[i].call, NULL, NULL, let_go);
+    }
+    let_go(all);
+    return status;
+}
