@@ -1,7 +1,8 @@
 #!/usr/bin/env bash
 # Converts columns of 100,000 rows over all zones and links of the system's release of the tz
 # database, by its source and by trees of its files. Compares each row with Python's zoneinfo, over the
-# program's files and over those of the system's zic, and with witness/reader.py. Needs `python3` 3.9
+# program's files and over those of the system's zic, and with witness/reader.py. Compares what
+# `show --local` prints near changes with zoneinfo too. Needs `python3` 3.9
 # or later.
 set -euo pipefail
 cd "$(dirname "${BASH_SOURCE[0]}")/.."
@@ -14,4 +15,5 @@ zic -b fat -d "$work/fat" "$release"
 zic -b slim -d "$work/slim" "$release"
 python3 witness/columns.py "$program" "$release" "$work" | sed 's/^/columns: /'
 python3 witness/layouts.py "$program" "$release" "$work" | sed 's/^/columns: /'
+python3 witness/local_times.py "$program" "$work" | sed 's/^/columns: /'
 python3 witness/tree_columns.py "$program" "$release" "$work" | sed 's/^/columns: /'

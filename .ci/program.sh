@@ -269,6 +269,7 @@ expect_usage convert --max-rows 100000001 plain
 expect_usage convert --workers 65 plain
 expect_usage convert --progress=1 plain
 expect_usage convert --header=1 plain
+expect_usage convert --header --skip-header plain
 expect_usage check --header plain
 expect_usage check --progress plain
 expect 0 '' '' convert --workers 64 --zone-piece 65536 --row-piece 65536 --max-rows 100000000 --max-bytes 4294967296 plain
@@ -365,10 +366,15 @@ seconds='
 Expected:
   Seconds since 1970-01-01T00:00:00 UT: 1 to 18 digits, with `-` before them
   for earlier instants, without `+`, spaces or a fraction. With `--unit` 3, 6
-  or 9 digits more.
+  or 9 digits more. With `--from rfc3339` a date and a time with a UT offset or
+  `Z`, as `1970-01-01T00:00:00Z`, in the years 1 to 9999, with a fraction of at
+  most as many digits.
 
 Usual cause:
-  A date, a number with a fraction, or the two fields swapped.'
+  A date, which `--from rfc3339` takes with a time and a UT offset, a number
+  with a fraction, or the two fields swapped. A leap second, `23:59:60`, is
+  none. Or a stray double quote before the instant, after which line ends are
+  text.'
 fraction='row 2: RowInstant
 --> standard input, row 2, field 2 (SECONDS)
   Etc/UTC,1.5

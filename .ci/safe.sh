@@ -2,7 +2,8 @@
 # Checks that the program overwrites nothing by surprise: standard streams that are closed, lists of
 # faults that are another file of the command, runs that stop before their rows, names that look like
 # leftovers of `build`, symbolic links that would lead to no file, control characters in words, and
-# trees with pipes and devices. As root, it makes leftovers of another user.
+# trees with pipes and devices. It checks too that `build --sync` syncs each file and folder, by `strace`,
+# and how the program is linked, by `readelf`, where these are installed. As root, it makes leftovers of another user.
 set -euo pipefail
 cd "$(dirname "${BASH_SOURCE[0]}")/.."
 . .ci/build.sh
@@ -174,6 +175,46 @@ status=0
 told 'pzic build --links symlink' 0 '' ''
 cmp -s link.tree/L/UTC link.tree/Etc/UTC || differ 'a symbolic link leads to no file'
 
+# ------------------------------------------------------------------ build --sync
+
+# trace WORD...: builds traced.zi, and lists the syncs and renames in `../calls`: with paths from here, and `~` for
+# temporary names.
+trace() {
+    status=0
+    strace -f -y -e 'trace=fsync,fdatasync,/^rename' -o ../trace "$program" build "$@" traced.zi >../out 2>../err || status=$?
+    sed -E "s/^[0-9]+ +//; s|<$PWD|<.|; s/[0-9]+</</; s/~pzic[0-9]+/~/g; s/ += 0\$//" ../trace | grep -v '^+++' >../calls || true
+}
+
+printf 'Zone Etc/UTC 0 - UTC\nZone A/West -1 - WST\nLink Etc/UTC UTC\n' >traced.zi
+if strace -o /dev/null true 2>/dev/null; then
+    trace --sync new/traced
+    told 'pzic build --sync' 0 '' ''
+    # each file is synced before it is renamed
+    holds <(head -n 6 ../calls) 'fsync(<./new/traced/Etc/~>)
+rename("new/traced/Etc/~", "new/traced/Etc/UTC")
+fsync(<./new/traced/A/~>)
+rename("new/traced/A/~", "new/traced/A/West")
+fsync(<./new/traced/~>)
+rename("new/traced/~", "new/traced/UTC")'
+    # and at the end each folder that got a name
+    holds <(tail -n +7 ../calls | LC_ALL=C sort) 'fsync(<./new/traced/A>)
+fsync(<./new/traced/Etc>)
+fsync(<./new/traced>)
+fsync(<./new>)
+fsync(<.>)'
+    trace --sync --links symlink new/traced
+    told 'pzic build --sync --links symlink' 0 '' ''
+    # no folder was made, so only those with the files and the link are synced
+    holds <(tail -n +6 ../calls | LC_ALL=C sort) 'fsync(<./new/traced/A>)
+fsync(<./new/traced/Etc>)
+fsync(<./new/traced>)'
+    trace new/traced
+    told 'pzic build' 0 '' ''
+    holds <(grep sync ../calls) ''
+else
+    echo "safe: there is no strace that can trace here, so the syncs of build --sync aren't looked at" >&2
+fi
+
 # ------------------------------------------------------------------ control characters in words
 
 red=$'\e[31m'
@@ -208,6 +249,18 @@ told 'pzic convert --tree /dev' 1 $'stdin,0,,,,\nstdin,0,,,,\nstdin,0,,,,' $'row
 convert --explain --tree special
 calls=$((calls + 1))
 grep -qxF -- '--> special/Pipe: not a regular file' ../err || differ "convert --explain of a pipe: '$(cat ../err)'"
+
+# ------------------------------------------------------------------ how the program is linked
+
+if command -v readelf >/dev/null; then
+    parts=$(readelf -hldW "$program")
+    for part in 'Type: +DYN' ' GNU_RELRO ' 'BIND_NOW' 'GNU_STACK .* RW +0'; do
+        calls=$((calls + 1))
+        grep -qE -- "$part" <<<"$parts" || differ "readelf shows no '$part' of the program"
+    done
+else
+    echo "safe: there is no readelf, so how the program is linked isn't looked at" >&2
+fi
 
 if [ "$differences" != 0 ]; then
     echo "safe: $differences of $calls calls differ" >&2

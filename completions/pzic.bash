@@ -11,9 +11,9 @@ _pzic() {
     fi
     case ${COMP_WORDS[1]} in
     check) options='--workers --zone-piece --explain --help' ;;
-    build) options='--links --workers --zone-piece --explain --help' ;;
-    convert) options='--workers --zone-piece --row-piece --max-rows --max-bytes --tree --header --zone --zone-field --time-field --delimiter --unit --append --keep-going --faults --progress --explain --help' ;;
-    show) options='--explain --help' ;;
+    build) options='--links --sync --workers --zone-piece --explain --help' ;;
+    convert) options='--workers --zone-piece --row-piece --max-rows --max-bytes --tree --header --skip-header --zone --zone-field --time-field --delimiter --unit --from --append --keep-going --faults --progress --explain --help' ;;
+    show) options='--local --explain --help' ;;
     dump) options='--from --to --explain --help' ;;
     explain)
         if [[ $current != -* ]]; then
@@ -40,13 +40,20 @@ _pzic() {
         COMPREPLY=($(compgen -W 's ms us ns' -- "$current"))
         return
         ;;
+    --from)
+        if [ "${COMP_WORDS[1]}" = convert ]; then
+            # shellcheck disable=SC2207
+            COMPREPLY=($(compgen -W 'count rfc3339' -- "$current"))
+        fi
+        return
+        ;;
     --tree)
         # shellcheck disable=SC2207
         COMPREPLY=($(compgen -d -- "$current"))
         return
         ;;
     --zone | --zone-field | --time-field | --delimiter) return ;;
-    --zone-piece | --row-piece | --max-rows | --max-bytes | --from | --to) return ;;
+    --zone-piece | --row-piece | --max-rows | --max-bytes | --to) return ;;
     esac
     if [[ $current = -* ]]; then
         # shellcheck disable=SC2207

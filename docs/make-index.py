@@ -5,8 +5,8 @@ usage: make-index.py [--check]
 
 Writes the page to standard output. With --check, writes in its place each public function that has neither an edit (or a
 test) nor a line of docs/index-exceptions.txt, each line there that no function needs, each line of docs/promises.txt
-that names no clause, and each definition that a clause cites and docs/DEFINITIONS.md doesn't name; the status is 1 if there
-is any.
+that names no clause, each definition that a clause cites and docs/DEFINITIONS.md doesn't name, and each public function
+that docs/PROOF.md doesn't name; the status is 1 if there is any.
 
 An edit belongs to the function whose text it changes, or to those that use the constant that it changes. Where that one is
 private, it belongs to the public functions that call it through private ones. A test calls a function itself, or through
@@ -129,6 +129,15 @@ class Index:
         for name, path in sorted(cited):
             if name not in named:
                 yield f'docs/DEFINITIONS.md lacks {name} of {path.relative_to(CRATES)}'
+        yield from self.untold()
+
+    def untold(self):
+        """Yields the public functions that docs/PROOF.md doesn't name. What a trait asks for is told with the trait."""
+        page = (CRATES.parent / 'docs/PROOF.md').read_text()
+        named = set(re.findall(r'\w+', ' '.join(re.findall('`([^`]*)`', page))))
+        for f in self.public:
+            if not f.is_law and not f.trait and f.name not in named:
+                yield f'docs/PROOF.md lacks {f.key}'
 
     def page(self):
         yield HEAD
@@ -190,7 +199,8 @@ def tests_of(f):
 def c_tests():
     """Yields of each test in C whether it is none, what it calls, and its name."""
     for result, name, body in re.findall(C_TEST, C_TESTS.read_text(), re.M | re.S):
-        called = re.findall(r'\bpzic_\w+', body)
+        # A function of the header calls what the library exports.
+        called = [call for name in re.findall(r'\bpzic_(\w+)', body) for call in ('pzic_' + name, 'pzic_raw_' + name)]
         yield (result != 'void', len(called)), called, name
 
 

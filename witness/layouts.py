@@ -7,7 +7,8 @@ usage: layouts.py PROGRAM SOURCE FOLDER
 FOLDER has the folder `ours` with our files of SOURCE. Each column has the same 100,000 random instants of a fixed seed over all zones and
 links, near transitions and elsewhere, counted in the unit of the column, and in one of a hundred records quotes round each field, with
 delimiters and line ends within the fields that aren't read. With --keep-going one of fifty records has a fault, the first and the last
-among them, and --faults lists them. Each option is tried alone and with each other one, by 1 and 4 workers. Prints a line for each, and
+among them, and --faults lists them. With --from rfc3339 Python's datetime writes the instants, by UT offsets at random, with a T or a space
+and without the zeros that end fractions. Each option is tried alone and with each other one, by 1 and 4 workers. Prints a line for each, and
 the first differences; the status is 1 if there is one.
 """
 import csv
@@ -18,14 +19,15 @@ import random
 import subprocess
 import sys
 from collections import namedtuple
+from datetime import datetime, timedelta
 from zoneinfo import ZoneInfo
 
 import files
 from columns import FIRST, LAST, compare, file_of
 from rows import row
 
-# a column by some options, as text; its records, as they stand there (starts) and as names and counts
-Column = namedtuple("Column", "chosen delimiter digits text starts records")
+# a column by some options, as text; its records, as they stand there (starts) and as names and instants; and the counts of instants
+Column = namedtuple("Column", "chosen delimiter digits text starts records counts")
 
 RECORDS = 100000
 NOWHERE = ["No,W\there", "No/Where", "Etc", "Etc/../Etc/UTC", "/Etc/UTC"]                # of no zone: some are paths of a tree
@@ -39,11 +41,13 @@ OPTIONS = {
     "ms": ["--unit", "ms"],
     "us": ["--unit", "us"],
     "ns": ["--unit", "ns"],
+    "rfc3339": ["--from", "rfc3339"],
     "header": ["--header"],
     "append": ["--append"],
     "going": ["--keep-going", "--faults", "FILE"],
+    "space": ["--delimiter", " "],
 }
-TOGETHER = [("delimiter", "semicolon"), ("ms", "us"), ("ms", "ns"), ("us", "ns")]      # that are one option
+TOGETHER = [("delimiter", "semicolon"), ("delimiter", "space"), ("semicolon", "space"), ("ms", "us"), ("ms", "ns"), ("us", "ns")]      # that are one option
 
 
 # ------------------------------------------------------------------ a column
@@ -56,6 +60,17 @@ def moments_of(folder, names):
         near = 7200 if number % 3 else 0
         second = random.randint(FIRST, LAST) if number % 3 == 2 else random.choice(instants[name]) + random.randint(-near, near)
         yield name, min(max(second, FIRST), LAST), random.randrange(10 ** 9)
+
+
+def written(number, second, fraction, delimiter):
+    """an instant as RFC 3339 writes it"""
+    offset = random.choice([None, 0, random.randint(-1439, 1439)])
+    local = datetime(1970, 1, 1) + timedelta(seconds=second, minutes=offset or 0)
+    between = " " if number % 4 == 0 and (delimiter != " " or number % 100 == 0) else "T"
+    sign = "-" if offset == 0 and number % 2 or (offset or 0) < 0 else "+"
+    zone = "Z" if offset is None else f"{sign}{abs(offset) // 60:02}:{abs(offset) % 60:02}"
+    fraction = fraction if number % 3 else fraction.rstrip("0")
+    return local.isoformat(between) + ("." + fraction if fraction else "") + zone
 
 
 def text_of(pairs, chosen, delimiter):
@@ -98,11 +113,16 @@ def records_of(text, chosen, delimiter):
 
 def column_of(moments, chosen):
     """a column of these moments"""
-    delimiter = "\t" if "delimiter" in chosen else ";" if "semicolon" in chosen else ","
+    delimiter = "\t" if "delimiter" in chosen else ";" if "semicolon" in chosen else " " if "space" in chosen else ","
     digits = max([UNITS.get(option, 0) for option in chosen], default=0)
     counts = [(name, second * 10 ** digits + nano // 10 ** (9 - digits)) for name, second, nano in moments]
-    text, starts = text_of(counts, chosen, delimiter)
-    return Column(chosen, delimiter, digits, text, starts, list(records_of(text, chosen, delimiter)))
+    instants = [str(count) for _, count in counts]
+    if "rfc3339" in chosen:
+        instants = [written(number, second, f"{nano:09}"[:digits], delimiter) for number, (_, second, nano) in enumerate(moments)]
+    text, starts = text_of([(name, instant) for (name, _), instant in zip(counts, instants)], chosen, delimiter)
+    values = {"0": 0} if "rfc3339" not in chosen else {}
+    values |= dict(zip(instants, (count for _, count in counts)))
+    return Column(chosen, delimiter, digits, text, starts, list(records_of(text, chosen, delimiter)), values)
 
 
 # ------------------------------------------------------------------ its rows
@@ -122,10 +142,10 @@ def rest_of(zone, second):
     return row("", zone, second).split(",", 2)[2]
 
 
-def fault_of(zones, name, count):
-    if count is None:
+def fault_of(column, zones, name, instant):
+    if instant is None:
         return "RowFields"
-    return "RowZone" if name not in zones else None if count.lstrip("-").isdigit() else "RowInstant"
+    return "RowZone" if name not in zones else None if instant in column.counts else "RowInstant"
 
 
 def faulty_row(column, name, count, start):
@@ -141,11 +161,11 @@ def faulty_row(column, name, count, start):
 
 def row_by(column, zone, name, count, start):
     """the row of a record without a fault"""
-    second, fraction = divmod(int(count), 10 ** column.digits)
+    second, fraction = divmod(count, 10 ** column.digits)
     local, *rest = rest_of(zone, second).split(",")
     if column.digits:
         local += f".{fraction:0{column.digits}}"
-    return column.delimiter.join([*([start] if "append" in column.chosen else [name, str(int(count))]), local, *rest])
+    return column.delimiter.join([*([start] if "append" in column.chosen else [name, str(count)]), local, *rest])
 
 
 def rows_of(column, zones):
@@ -156,11 +176,11 @@ def rows_of(column, zones):
         header = next(starts)
         rows.append(column.delimiter.join([header, *names[2:]] if "append" in column.chosen else names))
     for number, ((name, count), start) in enumerate(zip(column.records, starts), 1):
-        if fault := fault_of(zones, name, count):
+        if fault := fault_of(column, zones, name, count):
             faults.append(f"{number},{fault}")
             rows.append(faulty_row(column, name, count, start))
         else:
-            rows.append(row_by(column, zones[name], name, count, start))
+            rows.append(row_by(column, zones[name], name, column.counts[count], start))
     return "".join(f"{line}\n" for line in rows), faults
 
 

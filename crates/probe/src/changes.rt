@@ -12,8 +12,9 @@ use std::alloc::Global;
 use std::process::ExitCode;
 use std::rt::Env;
 use std::{io, slice};
+use zic_occurrences::ListedSource;
 use zic_rules::timeline;
-use zic_source::{Source, Stop, read_source};
+use zic_source::{Stop, read_source};
 
 /// Prints the lines of all zones, or the number of changes.
 pub fn run<R: Env + Input + Print + AllocGlobal>(rt: &R) -> io::Result<ExitCode> {
@@ -33,22 +34,23 @@ fn answer(
     answers: &mut Answers,
 ) -> Result<(), Stop> {
     let source = read_source(alloc, texts)?;
+    let listed = ListedSource::new(alloc, &source);
     match times {
-        Some(times) => push_count(alloc, &source, times, answers),
-        None => push_zones(alloc, &source, answers),
+        Some(times) => push_count(alloc, &listed, times, answers),
+        None => push_zones(alloc, &listed, answers),
     }
 }
 
 /// Appends the number of changes of all zones, made a number of times.
 fn push_count(
     alloc: Global,
-    source: &Source,
+    listed: &ListedSource<'_>,
     times: u32,
     answers: &mut Answers,
 ) -> Result<(), Stop> {
     let mut changes = 0usize;
     for _ in 0..times {
-        changes = changes.saturating_add(count(alloc, source)?);
+        changes = changes.saturating_add(count(alloc, listed)?);
     }
     answers.show(&changes);
     answers.word("changes\n");
@@ -56,28 +58,33 @@ fn push_count(
 }
 
 /// Returns the number of changes of all zones.
-fn count(alloc: Global, source: &Source) -> Result<usize, Stop> {
+fn count(alloc: Global, listed: &ListedSource<'_>) -> Result<usize, Stop> {
     let mut changes = 0usize;
-    for zone in 0..source.zones() {
-        changes = changes.saturating_add(timeline(alloc, source, zone)?.len());
+    for zone in 0..listed.source().zones() {
+        changes = changes.saturating_add(timeline(alloc, listed, zone)?.len());
     }
     Ok(changes)
 }
 
 /// Appends the lines of all zones.
-fn push_zones(alloc: Global, source: &Source, answers: &mut Answers) -> Result<(), Stop> {
-    for zone in 0..source.zones() {
-        push_zone(alloc, source, zone, answers)?;
+fn push_zones(alloc: Global, listed: &ListedSource<'_>, answers: &mut Answers) -> Result<(), Stop> {
+    for zone in 0..listed.source().zones() {
+        push_zone(alloc, listed, zone, answers)?;
     }
     Ok(())
 }
 
 /// Appends the lines of a zone.
-fn push_zone(alloc: Global, source: &Source, zone: usize, answers: &mut Answers) -> Result<(), Stop>
-    requires { zone < length source.now.zones }
+fn push_zone(
+    alloc: Global,
+    listed: &ListedSource<'_>,
+    zone: usize,
+    answers: &mut Answers,
+) -> Result<(), Stop>
+    requires { zone < length listed.now.zones }
 {
-    let name = source.zone_name(zone).octets();
-    let timeline = timeline(alloc, source, zone)?;
+    let name = listed.source().zone_name(zone).octets();
+    let timeline = timeline(alloc, listed, zone)?;
     answers.octets(name);
     answers.word("-");
     answers.state(timeline.first());

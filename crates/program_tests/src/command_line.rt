@@ -14,7 +14,7 @@ fn asked(rt: &impl Abort, alloc: Global, line: &str) -> String {
 }
 
 /// Words, and what they ask for.
-static REQUESTS: [(&str, &str); 19] = [
+static REQUESTS: [(&str, &str); 20] = [
     (
         "pzic check -",
         "Check { source: \"-\", plan: Plan { workers: 4, zone_piece: 16, row_piece: 1, max_rows: 0, max_bytes: 0 } }",
@@ -29,26 +29,30 @@ static REQUESTS: [(&str, &str); 19] = [
     ),
     (
         "pzic build D a",
-        "Build { folder: \"D\", sources: [\"a\"], plan: Plan { workers: 4, zone_piece: 16, row_piece: 1, max_rows: 0, max_bytes: 0 }, links: Copy }",
+        "Build { folder: \"D\", sources: [\"a\"], plan: Plan { workers: 4, zone_piece: 16, row_piece: 1, max_rows: 0, max_bytes: 0 }, links: Copy, sync: false }",
     ),
     (
         "pzic build --workers 1 D a - b",
-        "Build { folder: \"D\", sources: [\"a\", \"-\", \"b\"], plan: Plan { workers: 1, zone_piece: 16, row_piece: 1, max_rows: 0, max_bytes: 0 }, links: Copy }",
+        "Build { folder: \"D\", sources: [\"a\", \"-\", \"b\"], plan: Plan { workers: 1, zone_piece: 16, row_piece: 1, max_rows: 0, max_bytes: 0 }, links: Copy, sync: false }",
     ),
     (
         "pzic build --links copy D a",
-        "Build { folder: \"D\", sources: [\"a\"], plan: Plan { workers: 4, zone_piece: 16, row_piece: 1, max_rows: 0, max_bytes: 0 }, links: Copy }",
+        "Build { folder: \"D\", sources: [\"a\"], plan: Plan { workers: 4, zone_piece: 16, row_piece: 1, max_rows: 0, max_bytes: 0 }, links: Copy, sync: false }",
     ),
     (
         "pzic build --links hard D a",
-        "Build { folder: \"D\", sources: [\"a\"], plan: Plan { workers: 4, zone_piece: 16, row_piece: 1, max_rows: 0, max_bytes: 0 }, links: Hard }",
+        "Build { folder: \"D\", sources: [\"a\"], plan: Plan { workers: 4, zone_piece: 16, row_piece: 1, max_rows: 0, max_bytes: 0 }, links: Hard, sync: false }",
     ),
     (
-        "pzic build D a --links=symlink",
-        "Build { folder: \"D\", sources: [\"a\"], plan: Plan { workers: 4, zone_piece: 16, row_piece: 1, max_rows: 0, max_bytes: 0 }, links: Symbolic }",
+        "pzic build --sync D a --links=symlink",
+        "Build { folder: \"D\", sources: [\"a\"], plan: Plan { workers: 4, zone_piece: 16, row_piece: 1, max_rows: 0, max_bytes: 0 }, links: Symbolic, sync: true }",
     ),
     ("pzic show f 12", "Show { file: \"f\", instant: 12 }"),
     ("pzic show f -- -1", "Show { file: \"f\", instant: -1 }"),
+    (
+        "pzic show --local f 2026-10-25T02:30:00",
+        "ShowLocal { file: \"f\", local: LocalTime { seconds: 1792895400 } }",
+    ),
     (
         "pzic dump f",
         "Dump { file: \"f\", years: Years { from: 2, to: 2500 } }",
@@ -59,31 +63,31 @@ static REQUESTS: [(&str, &str); 19] = [
     ),
     (
         "pzic convert a",
-        "Convert(Conversion { zones: Source(\"a\"), plan: Plan { workers: 4, zone_piece: 16, row_piece: 1024, max_rows: 100000000, max_bytes: 4294967296 }, layout: Layout { zone: Field(0), time: 1, count: Exactly(2), unit: Second, delimiter: Delimiter { byte: 44 }, header: Absent, start: Fields, at_fault: End }, faults: None, progress: false })",
+        "Convert(Conversion { zones: Source(\"a\"), plan: Plan { workers: 4, zone_piece: 16, row_piece: 1024, max_rows: 100000000, max_bytes: 4294967296 }, layout: Layout { zone: Field(0), time: 1, from: Count, count: Exactly(2), unit: Second, delimiter: Delimiter { byte: 44 }, header: Absent, start: Fields, at_fault: End }, faults: None, progress: false })",
     ),
     (
         "pzic convert --workers 1 --zone-piece 2 a --row-piece 65536 --max-rows 0 --max-bytes 0",
-        "Convert(Conversion { zones: Source(\"a\"), plan: Plan { workers: 1, zone_piece: 2, row_piece: 65536, max_rows: 0, max_bytes: 0 }, layout: Layout { zone: Field(0), time: 1, count: Exactly(2), unit: Second, delimiter: Delimiter { byte: 44 }, header: Absent, start: Fields, at_fault: End }, faults: None, progress: false })",
+        "Convert(Conversion { zones: Source(\"a\"), plan: Plan { workers: 1, zone_piece: 2, row_piece: 65536, max_rows: 0, max_bytes: 0 }, layout: Layout { zone: Field(0), time: 1, from: Count, count: Exactly(2), unit: Second, delimiter: Delimiter { byte: 44 }, header: Absent, start: Fields, at_fault: End }, faults: None, progress: false })",
     ),
     (
         "pzic convert --progress a --workers 64",
-        "Convert(Conversion { zones: Source(\"a\"), plan: Plan { workers: 64, zone_piece: 16, row_piece: 1024, max_rows: 100000000, max_bytes: 4294967296 }, layout: Layout { zone: Field(0), time: 1, count: Exactly(2), unit: Second, delimiter: Delimiter { byte: 44 }, header: Absent, start: Fields, at_fault: End }, faults: None, progress: true })",
+        "Convert(Conversion { zones: Source(\"a\"), plan: Plan { workers: 64, zone_piece: 16, row_piece: 1024, max_rows: 100000000, max_bytes: 4294967296 }, layout: Layout { zone: Field(0), time: 1, from: Count, count: Exactly(2), unit: Second, delimiter: Delimiter { byte: 44 }, header: Absent, start: Fields, at_fault: End }, faults: None, progress: true })",
     ),
     (
         "pzic convert --header a --progress",
-        "Convert(Conversion { zones: Source(\"a\"), plan: Plan { workers: 4, zone_piece: 16, row_piece: 1024, max_rows: 100000000, max_bytes: 4294967296 }, layout: Layout { zone: Field(0), time: 1, count: Exactly(2), unit: Second, delimiter: Delimiter { byte: 44 }, header: First, start: Fields, at_fault: End }, faults: None, progress: true })",
+        "Convert(Conversion { zones: Source(\"a\"), plan: Plan { workers: 4, zone_piece: 16, row_piece: 1024, max_rows: 100000000, max_bytes: 4294967296 }, layout: Layout { zone: Field(0), time: 1, from: Count, count: Exactly(2), unit: Second, delimiter: Delimiter { byte: 44 }, header: First, start: Fields, at_fault: End }, faults: None, progress: true })",
     ),
     (
-        "pzic convert --zone Etc/UTC --unit ms --delimiter tab a",
-        "Convert(Conversion { zones: Source(\"a\"), plan: Plan { workers: 4, zone_piece: 16, row_piece: 1024, max_rows: 100000000, max_bytes: 4294967296 }, layout: Layout { zone: Name(\"Etc/UTC\"), time: 0, count: Exactly(1), unit: Millisecond, delimiter: Delimiter { byte: 9 }, header: Absent, start: Fields, at_fault: End }, faults: None, progress: false })",
+        "pzic convert --skip-header --zone Etc/UTC --unit ms --delimiter tab a",
+        "Convert(Conversion { zones: Source(\"a\"), plan: Plan { workers: 4, zone_piece: 16, row_piece: 1024, max_rows: 100000000, max_bytes: 4294967296 }, layout: Layout { zone: Name(\"Etc/UTC\"), time: 0, from: Count, count: Exactly(1), unit: Millisecond, delimiter: Delimiter { byte: 9 }, header: Skipped, start: Fields, at_fault: End }, faults: None, progress: false })",
     ),
     (
         "pzic convert --append --keep-going --faults f a",
-        "Convert(Conversion { zones: Source(\"a\"), plan: Plan { workers: 4, zone_piece: 16, row_piece: 1024, max_rows: 100000000, max_bytes: 4294967296 }, layout: Layout { zone: Field(0), time: 1, count: AtLeast(2), unit: Second, delimiter: Delimiter { byte: 44 }, header: Absent, start: Record, at_fault: GoOn }, faults: Some(\"f\"), progress: false })",
+        "Convert(Conversion { zones: Source(\"a\"), plan: Plan { workers: 4, zone_piece: 16, row_piece: 1024, max_rows: 100000000, max_bytes: 4294967296 }, layout: Layout { zone: Field(0), time: 1, from: Count, count: AtLeast(2), unit: Second, delimiter: Delimiter { byte: 44 }, header: Absent, start: Record, at_fault: GoOn }, faults: Some(\"f\"), progress: false })",
     ),
     (
-        "pzic convert --zone-field 3 --time-field 1 --unit ns --tree a",
-        "Convert(Conversion { zones: Tree(\"a\"), plan: Plan { workers: 4, zone_piece: 16, row_piece: 1024, max_rows: 100000000, max_bytes: 4294967296 }, layout: Layout { zone: Field(2), time: 0, count: AtLeast(3), unit: Nanosecond, delimiter: Delimiter { byte: 44 }, header: Absent, start: Fields, at_fault: End }, faults: None, progress: false })",
+        "pzic convert --zone-field 3 --time-field 1 --unit ns --from rfc3339 --tree a",
+        "Convert(Conversion { zones: Tree(\"a\"), plan: Plan { workers: 4, zone_piece: 16, row_piece: 1024, max_rows: 100000000, max_bytes: 4294967296 }, layout: Layout { zone: Field(2), time: 0, from: Rfc3339, count: AtLeast(3), unit: Nanosecond, delimiter: Delimiter { byte: 44 }, header: Absent, start: Fields, at_fault: End }, faults: None, progress: false })",
     ),
 ];
 

@@ -12,6 +12,7 @@ use std::slice;
 use zic_commands::*;
 use zic_counted::Counted;
 use zic_dump::Years;
+use zic_local::LocalTime;
 use zic_plan::Plan;
 
 /// Returns a plan with a number of workers and pieces of one, for 9 rows and 100 bytes.
@@ -61,8 +62,16 @@ fn what_is_not_flushed_is_not_written(rt: HostRuntime) {
     expect_told(&rt, rt.alloc(), answer, want);
     let answer = show(rt.alloc(), UTC_FILE, 0, &mut writer);
     expect_told(&rt, rt.alloc(), answer, want);
+    let local = must(&rt, LocalTime::new(i64::MAX / 2).ok_or(()));
+    expect(
+        &rt,
+        local.seconds() == i64::MAX / 2,
+        "the seconds of a local time",
+    );
+    let answer = show_local(rt.alloc(), UTC_FILE, &local, &mut writer);
+    expect_told(&rt, rt.alloc(), answer, want);
     let years = must(&rt, Years::new(2, 2500).ok_or(()));
     let answer = dump(rt.alloc(), "f", UTC_FILE, &years, &mut writer);
     expect_told(&rt, rt.alloc(), answer, want);
-    expect(&rt, writer.failures() == 3, "the failures of the writer");
+    expect(&rt, writer.failures() == 4, "the failures of the writer");
 }

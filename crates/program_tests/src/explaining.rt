@@ -4,14 +4,16 @@
 use crate::samples::{expect_text, must};
 use zic_base::{Kind, RowKind};
 use zic_explain::{
-    RecordForm, entries, expectation, line_place, nearest_zone, row_place, shown_word,
+    QuotedLines, RecordForm, entries, expectation, line_place, nearest_zone, quote_place,
+    row_place, shown_word,
 };
-use zic_plan::Unit;
+use zic_plan::{TimeFrom, Unit};
 
 /// Two fields with a comma between them: the name of a zone and seconds.
 const FORM: RecordForm = RecordForm {
     zone: Some(0),
     time: 1,
+    from: TimeFrom::Count,
     unit: Unit::Second,
     delimiter: b',',
 };
@@ -36,6 +38,17 @@ fn a_line_that_is_not_there_and_a_name_with_a_comma_have_places(rt: HostRuntime)
     );
     let want = "--> standard input, row 7, field 2 (SECONDS)\n  \"A,B\",1e9\n        ^^^\n";
     expect_text(&rt, got.as_bytes(), want.as_bytes(), "a row");
+}
+
+#[test]
+fn a_quote_that_nothing_closes_has_a_line(rt: HostRuntime) {
+    let lines = QuotedLines {
+        opened: 7,
+        ended: None,
+    };
+    let got = must(&rt, quote_place(rt.alloc(), lines));
+    let want = "A double quote opens in line 7, and nothing closes it.\n";
+    expect_text(&rt, got.as_bytes(), want.as_bytes(), "a quote");
 }
 
 #[test]

@@ -21,11 +21,14 @@ use std::thread::Threads;
 use std::time::Clock;
 use zic_base::FaultLog;
 use zic_command_line::{Conversion, Links, Request, Zones};
-use zic_commands::{Disk, Failure, LinkKind, LinkedFolder, Progress, Told, TreeZones};
+use zic_commands::{
+    Disk, Durability, Failure, LinkKind, LinkedFolder, Progress, ProgressLine, TreeZones,
+};
 use zic_counted::{Counted, flush, write_all};
 use zic_dump::Years;
 use zic_failures::Explainer;
 use zic_io::{FaultList, ListFile, ZoneFolder};
+use zic_local::LocalTime;
 use zic_pieces::Open;
 use zic_plan::{Header, Plan};
 
@@ -85,12 +88,21 @@ fn answer<
             sources,
             plan,
             links,
+            sync,
         } => {
             read(rt, &sources, texts)?;
-            build(rt, &plan, texts, folder.as_str(), links)
+            let durability = if sync {
+                Durability::Synced
+            } else {
+                Durability::Later
+            };
+            let mut disk = Disk::new(rt.alloc(), rt, number_of_run(rt), durability);
+            build(rt, &plan, texts, &mut disk, folder.as_str(), links)?;
+            disk.sync()
         }
         Request::Convert(order) => convert(rt, &order, errors, texts),
         Request::Show { file, instant } => show(rt, file.as_str(), instant),
+        Request::ShowLocal { file, local } => show_local(rt, file.as_str(), &local),
         Request::Dump { file, years } => dump(rt, file.as_str(), &years),
         Request::Explain { text } | Request::Version { text } => tell(rt, text.as_str()),
     }
@@ -126,6 +138,17 @@ fn show<R: Files + Print + AllocGlobal>(rt: &R, file: &str, instant: i64) -> Res
     zic_commands::show(rt.alloc(), &bytes, instant, &mut output)
 }
 
+/// Tells what a file says of a local time.
+fn show_local<R: Files + Print + AllocGlobal>(
+    rt: &R,
+    file: &str,
+    local: &LocalTime,
+) -> Result<(), Failure> {
+    let bytes = zic_commands::read_file(rt.alloc(), rt, file)?;
+    let mut output = Counted::new(io::writer(rt));
+    zic_commands::show_local(rt.alloc(), &bytes, local, &mut output)
+}
+
 /// Lists the changes of a file.
 fn dump<R: Files + Print + AllocGlobal>(rt: &R, file: &str, years: &Years) -> Result<(), Failure> {
     let bytes = zic_commands::read_file(rt.alloc(), rt, file)?;
@@ -133,23 +156,23 @@ fn dump<R: Files + Print + AllocGlobal>(rt: &R, file: &str, years: &Years) -> Re
     zic_commands::dump(rt.alloc(), file, &bytes, years, &mut output)
 }
 
-/// Compiles the texts, and writes their files into a folder.
-fn build<R: Files + RandomSource + AllocGlobal + Threads + Wait + Sync>(
+/// Compiles the texts, and places their files in a folder of a disk.
+fn build<R: Files + AllocGlobal + Threads + Wait + Sync>(
     rt: &R,
     plan: &Plan,
     texts: &[Vec<u8>],
+    disk: &mut Disk<'_, R>,
     folder: &str,
     links: Links,
 ) -> Result<(), Failure> {
     let alloc = rt.alloc();
-    let mut disk = Disk::new(alloc, rt, number_of_run(rt));
     let kind = match links {
-        Links::Copy => return zic_commands::build(rt, alloc, plan, texts, &mut disk, folder),
+        Links::Copy => return zic_commands::build(rt, alloc, plan, texts, disk, folder),
         Links::Hard => LinkKind::Hard,
         Links::Symbolic => LinkKind::Symbolic,
     };
     let folder = LinkedFolder { path: folder, kind };
-    zic_commands::build_linked(rt, alloc, plan, texts, &mut disk, &folder)
+    zic_commands::build_linked(rt, alloc, plan, texts, disk, &folder)
 }
 
 /// Returns a number that no other run at the same time has: a random one, or 0 where there is none.
@@ -168,13 +191,13 @@ fn tell<R: Print>(rt: &R, text: &str) -> Result<(), Failure> {
 }
 
 /// Returns where to report progress, if requested.
-fn told<E: IsTerminal + Drop>(progress: bool, errors: E) -> Told<E> {
+fn progress_line<E: IsTerminal + Drop>(progress: bool, errors: E) -> ProgressLine<E> {
     if !progress {
-        Told::Never
+        ProgressLine::Never
     } else if errors.is_terminal() {
-        Told::Anew(errors)
+        ProgressLine::Anew(errors)
     } else {
-        Told::Once(errors)
+        ProgressLine::Once(errors)
     }
 }
 
@@ -207,10 +230,10 @@ fn convert<
         Zones::Source(source) => read(rt, &[source.clone()?], texts)?,
         Zones::Tree(folder) => expect_folder(rt, folder)?,
     }
-    let told = told(order.progress, errors);
+    let line = progress_line(order.progress, errors);
     match &order.faults {
-        None => convert_rows(rt, order, texts, told, &mut FaultList::new(None::<R::File>)),
-        Some(path) => convert_noted(rt, order, texts, told, path),
+        None => convert_rows(rt, order, texts, line, &mut FaultList::new(None::<R::File>)),
+        Some(path) => convert_noted(rt, order, texts, line, path),
     }
 }
 
@@ -232,7 +255,7 @@ fn convert_noted<
     rt: &R,
     order: &Conversion,
     texts: &[Vec<u8>],
-    told: Told<E>,
+    line: ProgressLine<E>,
     path: &String,
 ) -> Result<(), Failure> {
     let Ok(file) = ListFile::open(rt, path.as_str()) else {
@@ -242,7 +265,7 @@ fn convert_noted<
         return Err(Failure::Memory);
     };
     let mut list = FaultList::new(Some(file));
-    let converted = convert_rows(rt, order, texts, told, &mut list);
+    let converted = convert_rows(rt, order, texts, line, &mut list);
     if list.first().is_none() && is_before_rows(&converted) {
         return converted;
     }
@@ -285,12 +308,12 @@ fn convert_rows<
     rt: &R,
     order: &Conversion,
     texts: &[Vec<u8>],
-    told: Told<E>,
+    line: ProgressLine<E>,
     faults: &mut FaultList<W>,
 ) -> Result<(), Failure> {
     let mut input = Counted::new(rt.reader());
     let header = order.layout.header;
-    let progress = Progress::new(io::writer(rt), rt, told, header == Header::First);
+    let progress = Progress::new(io::writer(rt), rt, line, header == Header::First);
     let mut output = Counted::new(progress);
     let converted = convert_column(rt, order, texts, &mut input, &mut output, faults);
     output.into_inner().finish();

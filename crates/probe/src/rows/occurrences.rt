@@ -1,13 +1,15 @@
 //! Occurrences of the set that the first line of the first zone names.
 
 ghost use Rattle.std.specs.Prelude.{◌≤◌, IfOk};
+ghost use Rattle.zic_occurrences.specs.LineItems.{items_of};
 ghost use Rattle.zic_states.specs.ByList.{AreRising};
 
 use super::call::{Call, Refusal};
 use crate::answers::Answers;
 use std::alloc::Global;
 use zic_occurrences::{
-    TimedOccurrence, instant_by, last_named_year, nominal_second, occurrences, year_second,
+    LineOccurrences, ListedSource, TimedOccurrence, instant_by, last_named_year, nominal_second,
+    occurrences, year_second,
 };
 use zic_source::{Rules, Source};
 use zic_states::{before, rule_at};
@@ -29,14 +31,15 @@ pub fn answer(
 }
 
 /// Returns the occurrences before a year, and perhaps some more.
-fn occurrences_of(
+fn occurrences_of<'a>(
     alloc: Global,
-    source: &Source,
+    listed: &'a ListedSource<'_>,
     before: u16,
-) -> Result<Vec<TimedOccurrence>, Refusal>
+) -> Result<LineOccurrences<'a>, Refusal>
     requires { before ≤ 9999 }
-    ensures { IfOk result (λ xs. AreRising xs.items) }
+    ensures { IfOk result (λ found. AreRising (items_of found)) }
 {
+    let source = listed.source();
     if source.zones() == 0 || source.lines(0) == 0 {
         return Err(Refusal::Call);
     }
@@ -44,7 +47,7 @@ fn occurrences_of(
     let Rules::Set(set) = &line.rules else {
         return Err(Refusal::Call);
     };
-    match occurrences(alloc, source, set, line.offset, before) {
+    match occurrences(alloc, listed, set, line.offset, before) {
         Ok(found) => Ok(found),
         Err(stop) => Err(Refusal::Stop(stop.at(line.place))),
     }
@@ -60,8 +63,9 @@ fn listed(
 ) -> Result<(), Refusal> {
     let (from, count) = (call.number(1, 0, 9999)?, call.number(2, 0, 9999)?);
     let before = call.number(0, 1, 9999)? as u16;
-    let found = occurrences_of(alloc, source, before)?;
-    push_occurrences(&found, from as usize, count as usize, answers);
+    let listed = ListedSource::new(alloc, source);
+    let found = occurrences_of(alloc, &listed, before)?;
+    push_occurrences(found.items(), from as usize, count as usize, answers);
     Ok(())
 }
 
@@ -89,12 +93,25 @@ fn current(
     call: &Call<'_>,
     answers: &mut Answers,
 ) -> Result<(), Refusal> {
-    let found = occurrences_of(alloc, source, 1)?;
+    let listed = ListedSource::new(alloc, source);
+    let found = occurrences_of(alloc, &listed, 1)?;
+    push_current(found.items(), call, answers)
+}
+
+/// Prints each instant that is asked for, the rule that is current then, and how many occurrences come
+/// before it.
+fn push_current(
+    found: &[TimedOccurrence],
+    call: &Call<'_>,
+    answers: &mut Answers,
+) -> Result<(), Refusal>
+    requires { AreRising found.now }
+{
     for number in 0..call.len() {
         let t = call.instant(number)?;
         answers.show(&t);
-        answers.debug(&rule_at(&found, t));
-        answers.show(&before(&found, t).len());
+        answers.debug(&rule_at(found, t));
+        answers.show(&before(found, t).len());
         answers.end_line();
     }
     Ok(())

@@ -2,12 +2,13 @@
 
 ghost use Rattle.std.specs.Prelude.{IfOk};
 ghost use Rattle.zic_source.specs.Sound.{IsSoundLine};
+ghost use Rattle.zic_occurrences.specs.LineItems.{items_of};
 ghost use Rattle.zic_states.specs.Occurrences.{AreOccurrencesFor};
 
 use super::call::{Call, Refusal};
 use crate::answers::Answers;
 use std::alloc::Global;
-use zic_occurrences::{TimedOccurrence, occurrences};
+use zic_occurrences::{LineOccurrences, ListedSource, occurrences};
 use zic_source::{Letter, Rules, Source, ZoneLine};
 use zic_states::format::abbreviation;
 use zic_states::{Abbreviation, is_abbreviation, observance_by, until_instant};
@@ -86,32 +87,33 @@ fn untils(alloc: Global, source: &Source, answers: &mut Answers) -> Result<(), R
     if source.zones() == 0 {
         return Err(Refusal::Call);
     }
+    let listed = ListedSource::new(alloc, source);
     for number in 0..source.lines(0) {
         let line = source.line(0, number);
-        let found = occurrences_for(alloc, source, line)?;
-        answers.debug_line(&until_instant(source, line, &found));
+        let found = occurrences_for(alloc, &listed, line)?;
+        answers.debug_line(&until_instant(source, line, found.items()));
     }
     Ok(())
 }
 
 /// Returns the occurrences of the line's set up to its UNTIL.
-fn occurrences_for(
+fn occurrences_for<'a>(
     alloc: Global,
-    source: &Source,
+    listed: &'a ListedSource<'_>,
     line: &ZoneLine,
-) -> Result<Vec<TimedOccurrence>, Refusal>
-    requires { IsSoundLine source.now.rules line.now }
+) -> Result<LineOccurrences<'a>, Refusal>
+    requires { IsSoundLine listed.now.rules line.now }
     ensures { IfOk result
-        (λ xs. AreOccurrencesFor source.now.rules line.now line.now.rules xs.items) }
+        (λ found. AreOccurrencesFor listed.now.rules line.now line.now.rules (items_of found)) }
 {
     let Rules::Set(set) = &line.rules else {
-        return Ok(Vec::new(alloc));
+        return Ok(LineOccurrences::Shared(&[]));
     };
     let before = match line.until {
         Some(until) => until.year + 2,
         None => 1,
     };
-    match occurrences(alloc, source, set, line.offset, before) {
+    match occurrences(alloc, listed, set, line.offset, before) {
         Ok(found) => Ok(found),
         Err(stop) => Err(Refusal::Stop(stop.at(line.place))),
     }

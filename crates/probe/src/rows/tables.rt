@@ -5,6 +5,7 @@ use crate::answers::Answers;
 use std::alloc::Global;
 use zic_base::{Place, Stop};
 use zic_footer::make;
+use zic_occurrences::ListedSource;
 use zic_rules::{Timeline, timeline};
 use zic_source::Source;
 use zic_table::table;
@@ -31,7 +32,8 @@ fn table_of(alloc: Global, source: &Source) -> Result<Table, Refusal> {
         return Err(Refusal::Call);
     }
     let place = source.line(0, 0).place;
-    let found = timeline(alloc, source, 0)?;
+    let listed = ListedSource::new(alloc, source);
+    let found = timeline(alloc, &listed, 0)?;
     Ok(table_by(alloc, place, &found)?)
 }
 

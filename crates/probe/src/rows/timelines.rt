@@ -7,6 +7,7 @@ use crate::answers::Answers;
 use std::alloc::Global;
 use zic_base::State;
 use zic_footer::{make, print};
+use zic_occurrences::ListedSource;
 use zic_rules::{Tail, TailRule, Timeline, timeline};
 use zic_source::Source;
 
@@ -34,7 +35,8 @@ pub fn answer(
 fn changes(alloc: Global, source: &Source, answers: &mut Answers) -> Result<(), Refusal>
     requires { length source.now.zones ≡ 1 }
 {
-    let found = timeline(alloc, source, 0)?;
+    let listed = ListedSource::new(alloc, source);
+    let found = timeline(alloc, &listed, 0)?;
     push_changes(&found, answers);
     Ok(())
 }
@@ -79,7 +81,8 @@ fn state_at<'a>(found: &'a Timeline<'_>, t: i64) -> Option<State<'a>> {
 fn tail(alloc: Global, source: &Source, answers: &mut Answers) -> Result<(), Refusal>
     requires { length source.now.zones ≡ 1 }
 {
-    let found = timeline(alloc, source, 0)?;
+    let listed = ListedSource::new(alloc, source);
+    let found = timeline(alloc, &listed, 0)?;
     match found.tail() {
         Tail::Constant(state) => {
             answers.state(state);
@@ -113,7 +116,8 @@ fn push_rules(rules: &[TailRule], answers: &mut Answers) {
 fn footer(alloc: Global, source: &Source, answers: &mut Answers) -> Result<(), Refusal>
     requires { length source.now.zones ≡ 1 }
 {
-    let found = timeline(alloc, source, 0)?;
+    let listed = ListedSource::new(alloc, source);
+    let found = timeline(alloc, &listed, 0)?;
     let footer = make(alloc, source.line(0, 0).place, &found)?;
     match print(alloc, &footer) {
         Ok(text) => answers.octets(&text),

@@ -1,10 +1,10 @@
 //! `convert` over readers and writers that fail, and its progress reports.
 
 use super::{expect_told, plan};
-use crate::samples::{Defect, Sink, expect, expect_text, must};
+use crate::samples::{Defect, Device, Sink, expect, expect_text, must};
 use std::alloc::Global;
 use std::cell::Cell;
-use std::io::{self, Write};
+use std::io::{self, ErrorKind, Write};
 use std::process::Abort;
 use std::slice;
 use std::sync::Wait;
@@ -13,8 +13,9 @@ use std::time::{Clock, Duration};
 use zic_base::Unnoted;
 use zic_commands::*;
 use zic_counted::Counted;
+use zic_io::FaultList;
 use zic_pieces::Open;
-use zic_plan::{Header, Layout};
+use zic_plan::{AtFault, Header, Layout};
 
 const UTC: &[u8] = b"Zone Etc/UTC 0 - UTC";
 
@@ -56,6 +57,55 @@ fn convert_tells_that_rows_are_not_written_and_flushes_also_without_rows(rt: Hos
     }
 }
 
+/// A column with two faults.
+const FAULTY: &[u8] = b"Etc/UTC,0\nNo/Such,0\nEtc/UTC,x\n";
+
+/// Converts the column with faults, goes on after them, and fails to read on at its end.
+fn converted_to_a_failed_read<T: Threads + Wait + Sync + Abort>(
+    rt: &T,
+    alloc: Global,
+    rows: &mut Counted<Vec<u8>>,
+    list: &mut FaultList<&mut Vec<u8>>,
+) -> Result<u64, Failure> {
+    let source = must(rt, Vec::from_slice(alloc, UTC));
+    let mut layout = Layout::plain(Header::Absent);
+    layout.at_fault = AtFault::GoOn;
+    let conversion = Conversion {
+        rt,
+        alloc,
+        plan: &plan(rt, 2),
+        layout: &layout,
+        gate: &Open,
+    };
+    let mut column = Counted::new(Device::new(FAULTY, 1, Err(ErrorKind::Other)));
+    convert_source(
+        &conversion,
+        slice::from_ref(&source),
+        &mut column,
+        rows,
+        list,
+    )
+}
+
+#[test]
+fn rows_and_faults_before_a_failed_read_end_at_the_same_row(rt: HostRuntime) {
+    let mut rows = Counted::new(Vec::new(rt.alloc()));
+    let mut file = Vec::new(rt.alloc());
+    let mut list = FaultList::new(Some(&mut file));
+    let answer = converted_to_a_failed_read(&rt, rt.alloc(), &mut rows, &mut list);
+    expect_told(&rt, rt.alloc(), answer, "cannot read column, status 3");
+    expect(&rt, list.count() == 2 && list.finish(), "two faults");
+    drop(list);
+    let wanted = b"Etc/UTC,0,1970-01-01T00:00:00,+00:00:00,0,UTC\nNo/Such,0,,,,\nEtc/UTC,x,,,,\n";
+    expect_text(&rt, &rows.into_inner(), wanted, "the rows");
+    expect_text(
+        &rt,
+        &file,
+        b"2,RowZone\n3,RowInstant\n",
+        "the list of faults",
+    );
+}
+
 /// A clock that advances by a quarter of a second with each reading.
 #[derive(Drop)]
 struct Quarters(Cell<u64>);
@@ -85,7 +135,7 @@ fn write_each<W: Write>(writer: &mut W, rows: &[&[u8]]) -> bool {
 /// As [`write_each`], with a line that tells of the rows.
 fn are_taken<W: Write + Drop>(
     writer: W,
-    line: Told<&mut Vec<u8>>,
+    line: ProgressLine<&mut Vec<u8>>,
     has_header: bool,
     rows: &[&[u8]],
 ) -> bool {
@@ -170,9 +220,14 @@ fn progress_is_told_of_the_rows_that_the_writer_took(rt: HostRuntime) {
         let mut told: Vec<u8> = Vec::new(rt.alloc());
         let mut sink = Sink::new(rt.alloc(), *defect);
         let taken = match line {
-            Line::Nowhere => are_taken(&mut sink, Told::Never, *has_header, *rows),
-            Line::Once => are_taken(&mut sink, Told::Once(&mut told), *has_header, *rows),
-            Line::OnTerminal => are_taken(&mut sink, Told::Anew(&mut told), *has_header, *rows),
+            Line::Nowhere => are_taken(&mut sink, ProgressLine::Never, *has_header, *rows),
+            Line::Once => are_taken(&mut sink, ProgressLine::Once(&mut told), *has_header, *rows),
+            Line::OnTerminal => are_taken(
+                &mut sink,
+                ProgressLine::Anew(&mut told),
+                *has_header,
+                *rows,
+            ),
         };
         let held = sink.held().len();
         let is_right = if taken {

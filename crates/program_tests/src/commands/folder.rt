@@ -131,7 +131,7 @@ impl<'a> OpenFile for DiskFile<'a> {
     }
 
     fn sync_all(&self) -> io::Result<()> {
-        Err(io::Error::from(ErrorKind::Unsupported))
+        self.log.note("sync_all", "")
     }
 
     fn sync_data(&self) -> io::Result<()> {
@@ -226,8 +226,64 @@ fn built_of<T: Threads + Wait + Sync + Abort>(
     folder: (&str, Option<LinkKind>),
     texts: &[Vec<u8>],
 ) -> String {
-    let mut tree = zic_commands::Disk::new(alloc, disk, 7);
+    let mut tree = zic_commands::Disk::new(alloc, disk, 7, Durability::Later);
     built_in(rt, alloc, &mut tree, folder, texts)
+}
+
+/// Returns what is told of building a text in the folder D, and of syncing it.
+fn synced_of<T: Threads + Wait + Sync + Abort>(
+    rt: &T,
+    alloc: Global,
+    disk: &Disk<'_>,
+    text: &Vec<u8>,
+) -> String {
+    let mut tree = zic_commands::Disk::new(alloc, disk, 7, Durability::Synced);
+    let mut built = built_in(rt, alloc, &mut tree, ("D", None), slice::from_ref(text));
+    if built.is_empty() {
+        let synced = told(rt, alloc, tree.sync());
+        must(rt, built.push_str(synced.as_str()));
+    }
+    built
+}
+
+/// The call that fails, and the calls: a file is synced before it has its name, and after all files
+/// the folders that got names. The folder D/Z is missing.
+static SYNCED: [(&str, &str); 4] = [
+    (
+        "",
+        "folder D/Z\ncreate D/Z/~pzic7\nwrite 111\nflush \nsync_all \nrename D/Z/~pzic7\nto D/Z/UTC\n\
+open D/Z\nsync_all \n",
+    ),
+    (
+        "metadata D/Z",
+        "folder D/Z\ncreate D/Z/~pzic7\nwrite 111\nflush \nsync_all \nrename D/Z/~pzic7\nto D/Z/UTC\n\
+open D\nsync_all \nopen D/Z\nsync_all \n",
+    ),
+    (
+        "sync_all ",
+        "folder D/Z\ncreate D/Z/~pzic7\nwrite 111\nflush \nsync_all \nremove D/Z/~pzic7\n\
+cannot write D/Z/UTC, status 3",
+    ),
+    (
+        "open D/Z",
+        "folder D/Z\ncreate D/Z/~pzic7\nwrite 111\nflush \nsync_all \nrename D/Z/~pzic7\nto D/Z/UTC\n\
+open D/Z\ncannot write D/Z, status 3",
+    ),
+];
+
+#[test]
+fn what_is_synced_is_synced_before_it_has_its_name(rt: HostRuntime) {
+    let text = copy_of(&rt, rt.alloc(), "Zone Z/UTC 0 - UTC\n");
+    for (fails, want) in &SYNCED {
+        let calls = RefCell::new(String::new(rt.alloc()));
+        let disk = Disk {
+            log: log_of(rt.alloc(), &calls, (*fails, ErrorKind::Other)),
+            bytes: b"",
+            names: b"",
+        };
+        let told = synced_of(&rt, rt.alloc(), &disk, &text);
+        expect_calls(&rt, calls, told.as_str(), *want);
+    }
 }
 
 /// As [`built_of`], in a tree.
