@@ -1,8 +1,8 @@
 #!/usr/bin/env bash
 # Compares the pages for users with the program:
-# - runs each command in the `console` blocks of README.md, docs/USING.md and docs/ZIC.md as it is
-#   printed, and compares the output with the lines below it. A block after a comment
-#   `<!-- needs: COMMAND.. -->` is left out if one of the commands is missing;
+# - runs each command in the `console` blocks of README.md, docs/USING.md, docs/ZIC.md and
+#   docs/SCALE.md as it is printed, and compares the output with the lines below it. A block after a
+#   comment `<!-- needs: COMMAND.. -->` is left out if one of the commands is missing;
 # - tries each example of docs/errors.txt, and compares docs/ERRORS.md and the texts of `explain`
 #   with what is made of it;
 # - looks for each command and option of docs/help in the manual page and in the completions, and
@@ -14,7 +14,7 @@ set -euo pipefail
 cd "$(dirname "${BASH_SOURCE[0]}")/.."
 . .ci/release.sh
 build zic_main check -
-# The recipe for GNU parallel, and the completions of zsh.
+# The recipes for GNU parallel, and the completions of zsh.
 for tool in parallel zsh; do
     command -v $tool >"$work/log" || install $tool 2>"$work/log" || echo "pages: no $tool"
 done
@@ -188,7 +188,7 @@ try_errors() (
 
 # All pages run at the same time, since USING.md waits for a database server.
 parts=()
-for page in README.md docs/USING.md docs/ZIC.md; do
+for page in README.md docs/USING.md docs/ZIC.md docs/SCALE.md; do
     run_page "$page" &
     parts+=($!)
 done
