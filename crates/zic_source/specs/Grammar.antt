@@ -1,6 +1,7 @@
 -- The grammar: which texts are a source, and which source: zic(8), FILES, with own limits.
-use Rattle.std.specs.Prelude.{◌≡◌, ◌≢◌, ◌≤◌, ℕ, Bool, false, List, [], ◌∷◌, ◌++◌, length, map, flat_map, filter_map, is_some, AllPairs, Option, Some, None, if◌then◌else◌}
+use Rattle.std.specs.Prelude.{◌≡◌, ◌≢◌, ◌≤◌, ℕ, zero, suc, Bool, false, List, [], ◌∷◌, length, flat_map, filter_map, is_some, slice_get, AllPairs, Option, Some, None, if◌then◌else◌}
 use Rattle.std.specs.List.{AllZip}
+use Rattle.std.specs.Option.{option_map_or}
 use Rattle.zic_lines.specs.declared.entry.Entry.{Entry}
 use Rattle.zic_lines.specs.declared.zone_line.ZoneLine.{ZoneLine}
 use Rattle.zic_lines.specs.Entry as said_by
@@ -58,6 +59,17 @@ open_line source = last_until (zone_lines_of source)
 abbrev pub is_open : SourceLines → Bool
 is_open source = is_some (open_line source)
 
+-- the last of the first k statements goes on; no statements don't
+abbrev pub goes_on_after : List Statement → ℕ → Bool
+goes_on_after statements zero = false
+goes_on_after statements (suc k) = option_map_or goes_on (slice_get statements k) false
+
+-- A continuation line stands just where it has to: statement k + 1 continues a zone exactly if statement k goes on, and the first
+-- doesn't. After the last, a continuation line still has to follow exactly if the last goes on.
+pub record AreContinued (statements : List Statement) (still : Bool) : Type 0 where
+  pub each : (k : ℕ) (statement : Statement) → slice_get statements k ≡ Some statement → continues statement ≡ goes_on_after statements k
+  pub last : still ≡ goes_on_after statements (length statements)
+
 -- These events are read, and this is the source that they say. How many lines and names there may be, and that no name is given
 -- twice, is own choice.
 pub record IsRead (events : List Event) (source : SourceLines) : Type 0 where
@@ -66,9 +78,9 @@ pub record IsRead (events : List Event) (source : SourceLines) : Type 0 where
   pub entries : List Entry
   pub each : AllZip EventSays events statements
   pub in_order : entries ≡ flat_map entries_in (said statements)
-  -- Blank lines apart, a continuation line stands just where what comes before it has an UNTIL: what goes on, one place later, is
-  -- what continues. So no text ends where a continuation line has to follow.
-  pub continued : (false ∷ map goes_on (said statements)) ≡ (map continues (said statements) ++ is_open source ∷ [])
+  -- Blank lines apart, a continuation line follows each Zone or continuation line with an UNTIL, and no other. So no text ends where one
+  -- has to follow.
+  pub continued : AreContinued (said statements) (is_open source)
   pub rules : source.rules ≡ flat_map rules_in entries
   pub zones : flat_map entries_of_zone source.zones ≡ flat_map zone_entries_in entries
   pub links : source.links ≡ flat_map links_in entries

@@ -8,7 +8,7 @@ use Rattle.zic_source.specs.Event.{Event}
 use Rattle.zic_source.specs.Source.{SourceLines}
 use Rattle.zic_source.specs.Grammar.{Statement, EventSays, said, entries_in, is_open, IsRead}
 use Rattle.zic_source.proofs.Counts.{sum_flat_map, times, once_differ, differ_once}
-use Rattle.zic_source.proofs.reading.Continuations.{Continued, one_later, in_turn}
+use Rattle.zic_source.proofs.reading.Continuations.{Continued, are_continued, in_turn}
 use Rattle.zic_source.proofs.reading.Limits.{IsOf, Limit, OfSet, Rules, Lines, Names, OfName, amount, amount_in, most, amount_said, ones}
 
 -- the entries of all lines
@@ -35,7 +35,7 @@ read_is events source r = record {
   entries = entries_of r.statements;
   each = r.each;
   in_order = refl;
-  continued = one_later false (is_open source) (said r.statements) r.continued;
+  continued = are_continued (is_open source) (said r.statements) r.continued;
   rules = r.is.rules;
   zones = r.is.zones;
   links = r.is.links;
@@ -61,7 +61,7 @@ module _ (events : List Event) (source : SourceLines) (is : IsRead events source
   is_read = record {
     statements = is.statements;
     each = is.each;
-    continued = in_turn false (is_open source) (said is.statements) is.continued;
+    continued = in_turn (is_open source) (said is.statements) is.continued;
     is = subst (IsOf source) is.in_order said_of;
     within = all_within;
   }
