@@ -1,6 +1,6 @@
 -- The window at the start of a line.
-use Rattle.std.proofs.Common.{◌≡◌, ℕ, zero, suc, ◌-◌, List, [], ◌∷◌, length, to_z, of_z, w64, FitsSigned, Option, Some, None, All, sym, ap, subst, ◌∙◌, arith, ℤ, pos, ◌+ℤ◌, ◌-ℤ◌, ◌<ℤ◌, ◌≤ℤ◌}
-use Rattle.std.specs.Prelude.{IfSome, slice_get}
+use Rattle.std.proofs.Common.{◌≡◌, ℕ, zero, suc, ◌-◌, List, [], ◌∷◌, length, to_z, of_z, w64, FitsSigned, Option, Some, None, All, refl, sym, ap, subst, ◌∙◌, arith, ℤ, pos, ◌+ℤ◌, ◌-ℤ◌, ◌<ℤ◌, ◌≤ℤ◌}
+use Rattle.std.specs.Prelude.{IfSome, IsSomeAnd, slice_get}
 use Rattle.std.specs.Int.{int_max}
 use Rattle.std.proofs.lemmas.Int.{ints}
 use Rattle.std.proofs.lemmas.Option.{same_Some}
@@ -13,7 +13,7 @@ use Rattle.zic_base.proofs.Elements.{all_got}
 use Rattle.zic_occurrences.specs.declared.occurrence.TimedOccurrence.{TimedOccurrence}
 use Rattle.zic_states.specs.ByList.{rule_at}
 use Rattle.zic_states.specs.Kept.{Kept, IsKeptBy, IsRuleOf}
-use Rattle.zic_states.specs.Zone.{Zone, line_at, Ends, IsWindowEnd, Keeps}
+use Rattle.zic_states.specs.Zone.{Zone, line_at, Ends, HasOffset, IsWindowEnd, Keeps}
 use Rattle.zic_rules.specs.declared.period.Period.{Period}
 use Rattle.zic_rules.specs.code.Period.{Holds}
 use Rattle.zic_rules.specs.code.Held.{HeldTo, AreSoFar, last_rule}
@@ -57,13 +57,12 @@ module _ (zone : Zone) (start : ℤ) (ss : List Period) (mine : List TimedOccurr
       record {
         start = start;
         starts = ends;
-        earlier = earlier;
-        is_earlier = at;
-        kept = one.kept;
-        keeps = subst (λ (l : ZoneLine). Keeps zone i l (start -ℤ pos 1) one.kept) same (holds.keeps one.kept by);
-        by_itself = other.kept;
-        keeps_by_itself = tells.keeps start other.kept (omega (arith, ints)) other.is_kept;
-        is = λ k. start +ℤ int_max (pos 0) (one.is k -ℤ other.is k);
+        before = before;
+        is_before = subst (λ (o : Option ZoneLine). IsSomeAnd o (λ l. HasOffset (Keeps zone i) l (start -ℤ pos 1) before)) (sym at)
+            (one.kept, subst (λ (l : ZoneLine). Keeps zone i l (start -ℤ pos 1) one.kept) same (holds.keeps one.kept by), one.is);
+        after = at_start;
+        is_after = (other.kept, tells.keeps start other.kept (omega (arith, ints)) other.is_kept, other.is);
+        is = refl;
       }
 
   pub window : (number : ℕ) → AreSoFar zone number (Some start) ss → line_at zone (number - 1) ≡ Some earlier → line_at zone number ≡ Some later

@@ -14,10 +14,10 @@ use Rattle.zic_occurrences.specs.Order.{IsInOrder}
 use Rattle.zic_states.specs.Kept.{Kept, IsLastOf, NoneIs, IsFirstStandard, IsLetterBefore, SetKeeps, RulesKeep, kept_from}
 use Rattle.zic_states.specs.Laws.{HasSetsInOrder}
 use Rattle.zic_states.specs.Until.{set_of}
-use Rattle.zic_states.specs.Zone.{Zone, line_at, KeepsBy, IsWindowEnd, Keeps}
+use Rattle.zic_states.specs.Zone.{Zone, line_at, KeepsBy, HasOffset, IsWindowEnd, Keeps}
 use Rattle.zic_occurrences.proofs.Instants.{instants_rise}
 use Rattle.zic_states.proofs.Orders.{same_int, same_rule}
-use Rattle.zic_states.proofs.Lines.{set_in_order, one_end_of}
+use Rattle.zic_states.proofs.Lines.{set_in_order, one_end_of, some_and_has}
 
 same_kept : (a b : Kept) → a.saving ≡ b.saving → a.daylight ≡ b.daylight → a.letter ≡ b.letter → a ≡ b
 same_kept a b saving daylight letter = λ i. record { saving = saving i; daylight = daylight i; letter = letter i }
@@ -84,13 +84,18 @@ module _ (zone : Zone) (sets : HasSetsInOrder zone) where
       → IsWindowEnd zone i (Keeps zone i) later t → IsWindowEnd zone i (Keeps zone i) later u → t ≡ u
   one_window_end i later t u one_before e one other =
       let start = one_end_of zone sets i one.start other.start one.starts other.starts in
-      let earlier = same_Some one.earlier other.earlier (sym one.is_earlier ∙ other.is_earlier) in
-      let keeps = subst (λ (s : ℤ). Keeps zone i other.earlier (s -ℤ pos 1) other.kept) (sym start) other.keeps in
-      let keeps_too = subst (λ (l : ZoneLine). Keeps zone i l (one.start -ℤ pos 1) other.kept) (sym earlier) keeps in
-      let kept = one_before one.earlier (one.start -ℤ pos 1) one.kept other.kept one.is_earlier one.keeps keeps_too in
-      let keeps_by_itself = subst (λ (s : ℤ). KeepsBy zone later s other.by_itself) (sym start) other.keeps_by_itself in
-      let by_itself = one_kept_by (suc i) later one.start one.by_itself other.by_itself e one.keeps_by_itself keeps_by_itself in
-      one.is ∙ (λ k. start k +ℤ int_max (pos 0) (((earlier k).offset +ℤ (kept k).saving) -ℤ (later.offset +ℤ (by_itself k).saving))) ∙ sym other.is
+      let (earlier, at, (kept, keeps, is_before)) = some_and_has (line_at zone i) (λ l. HasOffset (Keeps zone i) l (one.start -ℤ pos 1) one.before) one.is_before in
+      let (earlier', at', (kept', keeps', is_before')) = some_and_has (line_at zone i) (λ l. HasOffset (Keeps zone i) l (other.start -ℤ pos 1) other.before) other.is_before in
+      let line = same_Some earlier earlier' (sym at ∙ at') in
+      let keeps_at = subst (λ (s : ℤ). Keeps zone i earlier' (s -ℤ pos 1) kept') (sym start) keeps' in
+      let keeps_too = subst (λ (l : ZoneLine). Keeps zone i l (one.start -ℤ pos 1) kept') (sym line) keeps_at in
+      let same = one_before earlier (one.start -ℤ pos 1) kept kept' at keeps keeps_too in
+      let before : one.before ≡ other.before = is_before ∙ (λ k. (line k).offset +ℤ (same k).saving) ∙ sym is_before' in
+      let (own, keeps_own, is_after) = one.is_after in
+      let (own', keeps_own', is_after') = other.is_after in
+      let same_own = one_kept_by (suc i) later one.start own own' e keeps_own (subst (λ (s : ℤ). KeepsBy zone later s own') (sym start) keeps_own') in
+      let after : one.after ≡ other.after = is_after ∙ (λ k. later.offset +ℤ (same_own k).saving) ∙ sym is_after' in
+      one.is ∙ (λ k. start k +ℤ int_max (pos 0) (before k -ℤ after k)) ∙ sym other.is
 
   pub one_kept : (i : ℕ) (line : ZoneLine) (t : ℤ) (a b : Kept) → line_at zone i ≡ Some line
       → Keeps zone i line t a → Keeps zone i line t b → a ≡ b

@@ -1,5 +1,6 @@
 -- At each instant a line keeps something.
-use Rattle.std.proofs.Common.{◌≡◌, ℕ, zero, suc, All, inl, inr, List, Some, None, refl, arith, ℤ, pos, ◌+ℤ◌, ◌-ℤ◌, ◌≤ℤ◌, ◌↔◌, false}
+use Rattle.std.proofs.Common.{◌≡◌, ℕ, zero, suc, All, inl, inr, List, Option, Some, None, refl, sym, subst, arith, ℤ, pos, ◌+ℤ◌, ◌-ℤ◌, ◌≤ℤ◌, ◌↔◌, false}
+use Rattle.std.specs.Prelude.{IsSomeAnd}
 use Rattle.std.specs.Int.{int_max, int_min}
 use Rattle.std.proofs.lemmas.Int.{ints, clamps}
 use Rattle.zic_lines.specs.declared.rule.Rule.{Rule}
@@ -14,7 +15,7 @@ use Rattle.zic_states.specs.code.Listed.{IsLimit}
 use Rattle.zic_states.specs.Kept.{Kept, SetKeeps, RulesKeep, kept_from}
 use Rattle.zic_states.specs.Laws.{HasSetsInOrder}
 use Rattle.zic_states.specs.Until.{set_of}
-use Rattle.zic_states.specs.Zone.{Zone, line_at, IsNotOver, KeepsBy, IsWindowEnd, Keeps}
+use Rattle.zic_states.specs.Zone.{Zone, line_at, IsNotOver, KeepsBy, HasOffset, IsWindowEnd, Keeps}
 use Rattle.zic_states.proofs.ByList.{limit_without_until, limit_at_end}
 use Rattle.zic_states.proofs.FirstLetter.{some_letter}
 use Rattle.zic_states.proofs.Lines.{sound_line, set_in_order, line_before, until_before, ends_at}
@@ -111,12 +112,11 @@ module _ (zone : Zone) (sets : HasSetsInOrder zone) where
         record {
           start = start;
           starts = ends_at zone sets i earlier start at is;
-          earlier = earlier;
-          is_earlier = at;
-          kept = kept;
-          keeps = kept_before;
-          by_itself = by_itself;
-          keeps_by_itself = kept_by_itself;
+          before = earlier.offset +ℤ kept.saving;
+          is_before = subst (λ (o : Option ZoneLine). IsSomeAnd o (λ l. HasOffset (Keeps zone i) l (start -ℤ pos 1) (earlier.offset +ℤ kept.saving))) (sym at)
+              (kept, kept_before, refl);
+          after = later.offset +ℤ by_itself.saving;
+          is_after = (by_itself, kept_by_itself, refl);
           is = refl;
         },
       )

@@ -1,5 +1,5 @@
 -- The window of a zone's last line ends at most four days after its start; from then on the line keeps what it keeps by itself.
-use Rattle.std.proofs.Common.{◌≡◌, ℕ, zero, suc, ◌*◌, All, inl, inr, List, Some, sym, subst, arith}
+use Rattle.std.proofs.Common.{◌≡◌, ℕ, zero, suc, ◌*◌, All, inl, inr, List, Some, sym, subst, arith, ◌∙◌}
 use Rattle.std.specs.Prelude.{ℤ, pos, ◌+ℤ◌, ◌-ℤ◌, ◌<ℤ◌, ◌≤ℤ◌}
 use Rattle.std.specs.Int.{int_max}
 use Rattle.std.proofs.lemmas.Int.{ints, clamps}
@@ -14,9 +14,9 @@ use Rattle.zic_states.specs.End.{IsLastYear}
 use Rattle.zic_states.specs.Kept.{Kept, RulesKeep}
 use Rattle.zic_states.specs.Laws.{HasSetsInOrder}
 use Rattle.zic_states.specs.Until.{set_of}
-use Rattle.zic_states.specs.Zone.{Zone, line_at, Ends, HasBegun, KeepsBy, IsWindowEnd, Keeps}
+use Rattle.zic_states.specs.Zone.{Zone, line_at, Ends, HasBegun, KeepsBy, HasOffset, IsWindowEnd, Keeps}
 use Rattle.zic_states.proofs.Ends.{not_later}
-use Rattle.zic_states.proofs.Lines.{sound_line, one_end_of}
+use Rattle.zic_states.proofs.Lines.{sound_line, one_end_of, some_and_has}
 use Rattle.zic_states.proofs.SomeKept.{some_kept}
 
 saving_within : (rules : List Rule) (line : ZoneLine) (says : Rules) (IsSuch : ℤ → Type 0) (kept : Kept) → All IsSoundRule rules
@@ -66,12 +66,14 @@ module _ (zone : Zone) (sets : HasSetsInOrder zone) where
   window_over i line name year end last at window =
       let (start, ends, before) = some_start i name year last in
       let same : window.start ≡ start = one_end_of zone sets i window.start start window.starts ends in
-      let near = four_days window.start end window.earlier.offset window.kept.saving line.offset window.by_itself.saving
-      (sound_line zone sets i window.earlier window.is_earlier).offset
-      (kept_within i window.earlier (window.start -ℤ pos 1) window.kept window.is_earlier window.keeps)
+      let (earlier, at_earlier, (kept, keeps, is_before)) = some_and_has (line_at zone i) (λ l. HasOffset (Keeps zone i) l (window.start -ℤ pos 1) window.before) window.is_before in
+      let (own, keeps_own, is_after) = window.is_after in
+      let near = four_days window.start end earlier.offset kept.saving line.offset own.saving
+      (sound_line zone sets i earlier at_earlier).offset
+      (kept_within i earlier (window.start -ℤ pos 1) kept at_earlier keeps)
       (sound_line zone sets (suc i) line at).offset
-      (kept_by_within (suc i) line window.start window.by_itself at window.keeps_by_itself)
-      window.is in
+      (kept_by_within (suc i) line window.start own at keeps_own)
+      (window.is ∙ (λ k. window.start +ℤ int_max (pos 0) (is_before k -ℤ is_after k))) in
       omega (arith, ints)
 
   pub keeps_by_itself : (i : ℕ) (line : ZoneLine) (name : List ℕ) (year t : ℤ) (kept : Kept) → IsLastYear zone i name year

@@ -50,21 +50,24 @@ pub record Governs (zone : Zone) (i : ℕ) (line : ZoneLine) (t : ℤ) : Type 0 
 abbrev pub KeepsBy : Zone → ZoneLine → ℤ → Kept → Type 0
 KeepsBy zone line t kept = RulesKeep zone.source.rules line line.rules (λ u. (u ≤ℤ t) × IsNotOver zone line u) kept
 
--- The window of a line that follows another. The earlier line shows an offset one second before the start; by itself the later
--- line would show another at the start. Where that one is less, clocks go back by the difference, and what the later line's
--- occurrences say within that number of seconds holds from the start on.
+-- the line's UT offset at t: its standard offset and the saving that it keeps
+abbrev pub HasOffset : (ZoneLine → ℤ → Kept → Type 0) → ZoneLine → ℤ → ℤ → Type 0
+HasOffset Keeps line t offset = (kept : Kept) × Keeps line t kept × (offset ≡ line.offset +ℤ kept.saving)
+
+-- The window of a line that follows line i ends at this instant. Just before the start the earlier line has one offset, and at the start
+-- the later line has another by itself. Where clocks go back from the one to the other, the window lasts for the seconds by which
+-- they do; else it ends at the start.
 pub record IsWindowEnd (zone : Zone) (i : ℕ) (Keeps : ZoneLine → ℤ → Kept → Type 0) (later : ZoneLine) (end : ℤ) : Type 0 where
   pub start : ℤ
   pub starts : Ends zone i start
-  pub earlier : ZoneLine
-  pub is_earlier : line_at zone i ≡ Some earlier
-  pub kept : Kept
-  pub keeps : Keeps earlier (start -ℤ pos 1) kept
-  pub by_itself : Kept
-  pub keeps_by_itself : KeepsBy zone later start by_itself
-  pub is : end ≡ start +ℤ int_max (pos 0) ((earlier.offset +ℤ kept.saving) -ℤ (later.offset +ℤ by_itself.saving))
+  pub before : ℤ
+  pub is_before : IsSomeAnd (line_at zone i) (λ earlier. HasOffset Keeps earlier (start -ℤ pos 1) before)
+  pub after : ℤ
+  pub is_after : HasOffset (KeepsBy zone) later start after
+  pub is : end ≡ start +ℤ int_max (pos 0) (before -ℤ after)
 
--- The line of this number keeps this at t: by its last occurrence not after t, or in its window not after the window's end.
+-- The line of this number keeps this at t: by the last of its occurrences not after t. What its occurrences say in its window, up to and
+-- including its end, holds from the start on.
 unfoldable pub Keeps : Zone → ℕ → ZoneLine → ℤ → Kept → Type 0
 Keeps zone zero line t kept = KeepsBy zone line t kept
 Keeps zone (suc i) line t kept =
