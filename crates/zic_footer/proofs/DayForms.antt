@@ -15,13 +15,13 @@ use Rattle.zic_words.specs.Month.{IsMonth}
 use Rattle.zic_posix.specs.Grammar.{IsDay}
 use Rattle.zic_posix.specs.declared.footer.DayRule.TheVariants.{J, M}
 use Rattle.zic_posix.specs.Meaning.{day_in}
-use Rattle.zic_footer.specs.Making.{ShiftedDay, by_week, day_of_form}
+use Rattle.zic_footer.specs.code.Edges.{ShiftedDay, by_week, day_of_form}
 use Rattle.zic_footer.specs.code.Turns.{IsSmall}
 
 -- ---- plain days
 
 -- but for February months are of one length in all years
-same_length : (a b : Bool) (m : ℕ) → m ≢ 2 → month_length a m ≡ month_length b m
+pub same_length : (a b : Bool) (m : ℕ) → m ≢ 2 → month_length a m ≡ month_length b m
 same_length a b m other = grind (arith, nat_tests)
 
 -- so from March on the days before a month differ from year to year by those of January and February
@@ -43,7 +43,7 @@ no_fewer y (suc (suc zero)) h = omega arith
 no_fewer y (suc (suc (suc k))) h = let before = no_fewer y (suc (suc k)) (omega arith) in omega arith
 
 -- January and February of a common year have 59 days, and January 31
-common_two : days_of_months (pos 1) 2 ≡ 59
+pub common_two : days_of_months (pos 1) 2 ≡ 59
 unfolding days_of_months
 common_two = refl
 
@@ -56,13 +56,13 @@ unfolding days_of_months
 no_month y = refl
 
 -- `Jn` counts from 1 January, and from 1 March where n is 60 or more
-before_march : (y : ℤ) (n : ℕ) → n ≤ 59 → day_in y (J n) ≡ year_start y +ℤ pos n -ℤ pos 1
+pub before_march : (y : ℤ) (n : ℕ) → n ≤ 59 → day_in y (J n) ≡ year_start y +ℤ pos n -ℤ pos 1
 before_march y n few = elim (nat_le n 59) as (λ b. nat_le n 59 ≡ b → (if b then day_number y 1 n else day_number y 3 (n - 59)) ≡ year_start y +ℤ pos n -ℤ pos 1) [
   | true ↦ λ e. omega (arith, ints, no_month y)
   | false ↦ λ e. absurd (grind (arith, nat_tests))
 ] refl
 
-from_march : (y : ℤ) (n : ℕ) → 59 < n → day_in y (J n) ≡ year_start y +ℤ pos (days_of_months y 2) +ℤ pos n -ℤ pos 60
+pub from_march : (y : ℤ) (n : ℕ) → 59 < n → day_in y (J n) ≡ year_start y +ℤ pos (days_of_months y 2) +ℤ pos n -ℤ pos 60
 from_march y n many = elim (nat_le n 59) as (λ b. nat_le n 59 ≡ b → (if b then day_number y 1 n else day_number y 3 (n - 59)) ≡ year_start y +ℤ pos (days_of_months y 2) +ℤ pos n -ℤ pos 60) [
   | true ↦ λ e. absurd (grind (arith, nat_tests))
   | false ↦ λ e. omega (arith, ints)
@@ -134,10 +134,10 @@ after_right y m w d weekday =
       | false ↦ λ e. counted y m w (pos d) weekday ∙ sym (first_after y m w d)
     ] refl
 
-meant_last : (y : ℤ) (m d : ℕ) → d ≡ month_length true m → last_meant y m d ≡ days_in_month y m
+pub meant_last : (y : ℤ) (m d : ℕ) → d ≡ month_length true m → last_meant y m d ≡ days_in_month y m
 meant_last y m d e = grind (arith, nat_tests)
 
-meant_itself : (y : ℤ) (m d : ℕ) → (d == month_length true m) ≡ false → last_meant y m d ≡ d
+pub meant_itself : (y : ℤ) (m d : ℕ) → (d == month_length true m) ≡ false → last_meant y m d ≡ d
 meant_itself y m d e = grind (arith, nat_tests)
 
 before_right : (y : ℤ) (m w d : ℕ) → IsWeekday w → IsRight y m (Before w d) (day_of_form m (Before w d))
@@ -203,7 +203,7 @@ day_of_form-is m (Before w d) month fits = by_test (d == month_length true m) m 
 -- ---- weeks of the code
 
 -- the week in which a number lies
-floor : (t : ℤ) → ((pos 7 *ℤ int_div_euclid t (pos 7)) ≤ℤ t) × (t <ℤ ((pos 7 *ℤ int_div_euclid t (pos 7)) +ℤ pos 7))
+pub floor : (t : ℤ) → ((pos 7 *ℤ int_div_euclid t (pos 7)) ≤ℤ t) × (t <ℤ ((pos 7 *ℤ int_div_euclid t (pos 7)) +ℤ pos 7))
 floor (pos n) = (omega (arith, ints), omega (arith, ints))
 floor (negsuc n) = (omega (arith, ints), omega (arith, ints))
 

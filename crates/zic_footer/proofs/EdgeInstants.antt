@@ -8,7 +8,8 @@ use Rattle.zic_occurrences.specs.Occurrence.{nominal_second}
 use Rattle.zic_occurrences.specs.Order.{instant_by}
 use Rattle.zic_rules.specs.declared.tail.TailRule.{TailRule}
 use Rattle.zic_posix.specs.Meaning.{day_in, local_second, start_in, stop_in}
-use Rattle.zic_footer.specs.Making.{day_of_form, wall_time, edge_of, daylight_part, by_rules}
+use Rattle.zic_footer.specs.Making.{wall_time}
+use Rattle.zic_footer.specs.code.Edges.{day_of_form, edge_of, daylight_part, by_rules}
 use Rattle.zic_footer.specs.code.Turns.{IsSoundTail}
 use Rattle.zic_footer.proofs.DayForms.{day_of_form-right}
 

@@ -16,7 +16,7 @@ use Rattle.zic_states.proofs.States.{one_state}
 use Rattle.zic_states.proofs.TailForEver.{repeats_for_ever}
 use Rattle.zic_states.proofs.TailKept.{given}
 use Rattle.zic_states.proofs.TailSet.{IsNamedTo}
-use Rattle.zic_rules.specs.Tail.{IsTailBy, ShowsByTail, AreOfBothFlags, IsRulesTail, tail_state}
+use Rattle.zic_rules.specs.Tail.{IsTailBy, ShowsLast, AreOfBothFlags, IsRulesTail, tail_state}
 use Rattle.zic_rules.specs.declared.tail.TailRule.{TailRule}
 use Rattle.zic_rules.proofs.TailTurns.{last_occurrence_is_change}
 use Rattle.zic_posix.specs.Footer.{TzString}
@@ -24,7 +24,8 @@ use Rattle.zic_posix.specs.Meaning.{Means}
 use Rattle.zic_posix.proofs.Cycles.{means_later}
 use Rattle.zic_posix.proofs.Edges.{instant_in-rises}
 use Rattle.zic_posix.proofs.Meanings.{means_only}
-use Rattle.zic_footer.specs.Making.{IsPair, IsWide, GoesOn, edge_of, daylight_part, by_rules}
+use Rattle.zic_footer.specs.Making.{IsPair, IsWide, GoesOn}
+use Rattle.zic_footer.specs.code.Edges.{edge_of, daylight_part, by_rules}
 use Rattle.zic_footer.specs.code.Turns.{IsSoundTail}
 use Rattle.zic_footer.proofs.EdgeInstants.{edge, start_at, stop_at}
 use Rattle.zic_footer.proofs.InTurn.{edge_before, current_at}
@@ -76,7 +77,7 @@ module _ (zone : Zone) (orderly : IsOrderly zone) (standard year : ℤ) (tails :
   flags = both_flags tails starting ending pair
 
   -- the last occurrence before the end
-  module _ (at_end : ShowsByTail zone standard year tails by (end -ℤ pos 1)) where
+  module _ (at_end : ShowsLast zone set standard year by.numbers tails (end -ℤ pos 1)) where
     abbrev o : Occurrence
     o = at_end.occurrence
 
@@ -94,7 +95,7 @@ module _ (zone : Zone) (orderly : IsOrderly zone) (standard year : ℤ) (tails :
     from_last t changes = changes u (last_occurrence_is_change zone orderly standard year tails by flags alternate end is_end o u before_end)
 
     -- the current rule by its number
-    by_number : (t : ℤ) (shown : ShowsByTail zone standard year tails by t)
+    by_number : (t : ℤ) (shown : ShowsLast zone set standard year by.numbers tails t)
         → ((shown.occurrence.number ≡ two.start) × (shown.tail ≡ starting)) ⊎ ((shown.occurrence.number ≡ two.stop) × (shown.tail ≡ ending))
     by_number t shown = two.place shown.place shown.occurrence.number shown.tail shown.number shown.is_tail
 
@@ -111,7 +112,7 @@ module _ (zone : Zone) (orderly : IsOrderly zone) (standard year : ℤ) (tails :
         omega (arith, ints, stop_at standard starting ending a sound_stop, stop_at standard starting ending b sound_stop)
 
     -- 400 years later the string means what the zone shows
-    means_late : (t : ℤ) (shown : ShowsByTail zone standard year tails by t) → (u +ℤ pos 12_622_780_800) ≤ℤ t → Means string t (tail_state standard shown.tail)
+    means_late : (t : ℤ) (shown : ShowsLast zone set standard year by.numbers tails t) → (u +ℤ pos 12_622_780_800) ≤ℤ t → Means string t (tail_state standard shown.tail)
     means_late t shown late =
         let q = shown.occurrence in
         let v = shown.instant in
@@ -173,4 +174,4 @@ module _ (zone : Zone) (orderly : IsOrderly zone) (standard year : ℤ) (tails :
         subst (λ (s : Shown). Shows zone t s) (same_there ∙ sym same) here.shows
 
   pub goes_on : GoesOn zone (by_rules standard starting ending)
-  goes_on = goes_on_from (tail.from_end end (end -ℤ pos 1) is_end (omega (arith, ints)))
+  goes_on = goes_on_from (tail.from_end (end -ℤ pos 1) (end, is_end, omega (arith, ints)))

@@ -1,4 +1,6 @@
 pub mod DayForms
+pub mod SaidDays
+pub mod SaidEdges
 pub mod EdgeInstants
 pub mod TailRules
 pub mod InTurn

@@ -20,13 +20,15 @@ use Rattle.zic_rules.specs.Timeline.{IsWholeZone}
 use Rattle.zic_rules.specs.declared.tail.TailRule.{TailRule}
 use Rattle.zic_rules.proofs.Limits.{shows_within_limits}
 use Rattle.zic_posix.specs.Footer.{TzString, constant}
-use Rattle.zic_footer.specs.Making.{IsPair, IsForEver, AreInTurn, IsMade, GoesOn, IsFaultOfFooter, by_rules}
+use Rattle.zic_footer.specs.Making.{IsPair, IsForEver, AreInTurn, IsByRules, IsMade, GoesOn, IsFaultOfFooter}
+use Rattle.zic_footer.specs.code.Edges.{by_rules}
 use Rattle.zic_footer.specs.code.Faults.{IsFirstFault}
-use Rattle.zic_footer.specs.code.Turns.{AreSoundTails, TakeTurns, IsMadeOf, NoneTakeTurns}
+use Rattle.zic_footer.specs.code.Turns.{IsSoundTail, AreSoundTails, TakeTurns, IsMadeOf, NoneTakeTurns}
 use Rattle.zic_footer.proofs.Alternation.{alternate_from, in_turn_from}
 use Rattle.zic_footer.proofs.ForEver.{goes_on}
 use Rattle.zic_footer.proofs.OneTail.{same_name, same_last, same_pair}
 use Rattle.zic_footer.proofs.Pairs.{sound_pair}
+use Rattle.zic_footer.proofs.SaidEdges.{wide_edge, edge_is_wide, string_is}
 use Rattle.zic_footer.proofs.TailRules.{AreTwo, two_rules, sound_tails}
 
 -- ---- what holds of a result
@@ -50,7 +52,7 @@ module _ (zone : Zone) (whole : IsWholeZone zone) (state : Shown) (tail : IsCons
   for_ever : IsForEver zone state
   for_ever =
       let (end, is_end) = whole.has_end in
-      record { few = tail.few; end = end; is_end = is_end; shows = tail.from_end end (end -ℤ pos 1) is_end (omega (arith, ints)) }
+      record { few = tail.few; end = end; is_end = is_end; shows = tail.from_end (end -ℤ pos 1) (end, is_end, omega (arith, ints)) }
 
   pub state_within : IsWithinLimits state
   state_within = shows_within_limits zone whole.source whole.sound (for_ever.end -ℤ pos 1) state for_ever.shows
@@ -84,16 +86,26 @@ module _ (zone : Zone) (whole : IsWholeZone zone) (standard year : ℤ) (tails :
         alternate_from (set_of zone.source.rules tail.by.name) standard tail.by.last named tail.by.line tail.by.numbers tails tail.by.continuing starting ending
         (two turns.pair) turns.in_turn
 
+    sound : IsPair tails starting ending → IsSoundTail standard starting × IsSoundTail standard ending
+    sound pair = sound_pair standard tails starting ending tails_are_sound pair
+
     are_in_turn : TakeTurns standard tails starting ending → AreInTurn zone standard starting ending
-    are_in_turn turns = record {
-      year = year;
-      tails = tails;
-      by = tail.by;
-      pair = turns.pair;
-      alternate = alternate turns;
-      start = turns.start;
-      stop = turns.stop;
-    }
+    are_in_turn turns =
+        let (sound_start, sound_stop) = sound turns.pair in
+        record {
+          year = year;
+          tails = tails;
+          by = tail.by;
+          pair = turns.pair;
+          alternate = alternate turns;
+          start = wide_edge standard starting ending.saving.seconds sound_start.yearly turns.start;
+          stop = wide_edge standard ending starting.saving.seconds sound_stop.yearly turns.stop;
+        }
+
+    made_by : TakeTurns standard tails starting ending → (f : TzString) → f ≡ by_rules standard starting ending → IsByRules standard starting ending f
+    made_by turns f is =
+        let (sound_start, sound_stop) = sound turns.pair in
+        subst (λ (x : TzString). IsByRules standard starting ending x) (sym is) (string_is standard starting ending sound_start sound_stop)
 
     take_turns : AreInTurn zone standard starting ending → TakeTurns standard tails starting ending
     take_turns others =
@@ -102,22 +114,23 @@ module _ (zone : Zone) (whole : IsWholeZone zone) (standard year : ℤ) (tails :
         let last = same_last zone whole.orderly standard standard year others.year tails others.tails tail.by others.by in
         let by_name = subst (λ (x : List ℕ). Alternate (set_of zone.source.rules x) others.by.last) (sym name) others.alternate in
         let alternate = subst (λ (y : ℤ). Alternate (set_of zone.source.rules tail.by.name) y) (sym last) by_name in
+        let (sound_start, sound_stop) = sound pair in
         record {
           pair = pair;
           in_turn = in_turn_from (set_of zone.source.rules tail.by.name) standard tail.by.last named tail.by.line tail.by.numbers tails tail.by.continuing starting ending
               (two pair) alternate;
-          start = others.start;
-          stop = others.stop;
+          start = edge_is_wide standard starting ending.saving.seconds sound_start.yearly others.start;
+          stop = edge_is_wide standard ending starting.saving.seconds sound_stop.yearly others.stop;
         }
 
     turns_go_on : TakeTurns standard tails starting ending → GoesOn zone (by_rules standard starting ending)
     turns_go_on turns =
-        let (sound_start, sound_stop) = sound_pair standard tails starting ending tails_are_sound turns.pair in
+        let (sound_start, sound_stop) = sound turns.pair in
         goes_on zone whole.orderly standard year tails tail starting ending turns.pair (alternate turns) sound_start sound_stop turns.start turns.stop
 
   pub rules_made : (r : Result TzString ZoneStop) → IfOk r (IsMadeOf standard tails) → IfOk r (IsMade zone)
   rules_made r made = if_ok (IsMadeOf standard tails) (IsMade zone)
-      (λ f h. let (starting, ending, turns, is) = h in inr (standard, starting, ending, are_in_turn starting ending turns, is)) r made
+      (λ f h. let (starting, ending, turns, is) = h in inr (standard, starting, ending, are_in_turn starting ending turns, made_by starting ending turns f is)) r made
 
   pub rules_go_on : (r : Result TzString ZoneStop) → IfOk r (IsMadeOf standard tails) → IfOk r (GoesOn zone)
   rules_go_on r made = if_ok (IsMadeOf standard tails) (GoesOn zone)
@@ -137,6 +150,13 @@ module _ (zone : Zone) (whole : IsWholeZone zone) (standard year : ℤ) (tails :
           none = λ starting ending others. h.1 starting ending (take_turns starting ending others);
         },
       )) r refused
+
+-- the rules of a pair that goes on in turn are sound
+pub sound_turns : (zone : Zone) → IsWholeZone zone → (standard : ℤ) (starting ending : TailRule) → AreInTurn zone standard starting ending
+    → IsSoundTail standard starting × IsSoundTail standard ending
+sound_turns zone whole standard starting ending turns =
+    sound_pair standard turns.tails starting ending
+    (sound_tails zone whole.orderly (whole.sound kind.OffsetRange) standard turns.year turns.tails turns.by) turns.pair
 
 -- ---- the fault at the Zone line
 

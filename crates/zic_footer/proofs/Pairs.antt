@@ -6,7 +6,8 @@ use Rattle.zic_posix.specs.Footer.{TzString}
 use Rattle.zic_posix.specs.Grammar.{IsName, IsEdge, IsDaylight, IsTzString}
 use Rattle.zic_posix.specs.declared.footer.Dst.{Dst}
 use Rattle.zic_rules.specs.declared.tail.TailRule.{TailRule}
-use Rattle.zic_footer.specs.Making.{IsPair, IsWide, edge_of, daylight_part, by_rules}
+use Rattle.zic_footer.specs.Making.{IsPair, IsWide}
+use Rattle.zic_footer.specs.code.Edges.{edge_of, daylight_part, by_rules}
 use Rattle.zic_footer.specs.declared.maker.Pair.{Pair}
 use Rattle.zic_footer.specs.code.Turns.{IsSoundTail, AreSoundTails, FollowInTurn, TakeTurns, HasWideEdges, IsMadeOf}
 use Rattle.zic_footer.proofs.DayForms.{day_of_form-is}

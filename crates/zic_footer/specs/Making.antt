@@ -1,17 +1,18 @@
 -- Which footer goes on for a zone, and why a zone gets none. Own choice, but for what POSIX TZ
 -- strings mean.
-use Rattle.std.specs.Prelude.{◌≡◌, ◌⊎◌, ◌<◌, ◌+◌, ◌*◌, ◌-◌, ℕ, ℤ, pos, ◌+ℤ◌, ◌-ℤ◌, ◌*ℤ◌, true, false, ◌==◌, ◌&&◌, not, if◌then◌else◌, List, [], ◌∷◌, Some, unsigned_abs}
+use Rattle.std.specs.Prelude.{◌≡◌, ◌⊎◌, ◌<◌, ◌+◌, ◌*◌, ℕ, ℤ, pos, ◌+ℤ◌, ◌-ℤ◌, ◌*ℤ◌, ◌≤ℤ◌, true, false, List, [], ◌∷◌, Some, unsigned_abs}
+use Rattle.std.specs.Int.{IsInRange}
 use Rattle.zic_base.specs.Fault.{fault_at}
 use Rattle.zic_base.specs.State.{Shown}
 use Rattle.zic_base.specs.declared.fault.Fault.{Fault}
 use Rattle.zic_base.specs.declared.fault.Kind.TheVariants.{NoFooter, PermanentDaylight}
 use Rattle.zic_base.specs.declared.place.Place.{Place}
-use Rattle.zic_calendar.specs.Calendar.{month_length, days_of_months}
-use Rattle.zic_calendar.specs.DayForm.{week_of, days_into_week, weekday_before}
+use Rattle.zic_calendar.specs.Calendar.{days_in_month}
+use Rattle.zic_calendar.specs.DayForm.{IsDayOf, last_meant, weekday_before}
 use Rattle.zic_calendar.specs.declared.day_form.On.{On}
 use Rattle.zic_calendar.specs.declared.day_form.On.TheVariants.{Day, Last, After, Before}
 use Rattle.zic_posix.specs.Footer.{TzString, constant}
-use Rattle.zic_posix.specs.Meaning.{Means}
+use Rattle.zic_posix.specs.Meaning.{Means, day_in}
 use Rattle.zic_posix.specs.declared.footer.DayRule.{DayRule}
 use Rattle.zic_posix.specs.declared.footer.DayRule.TheVariants.{J, M}
 use Rattle.zic_posix.specs.declared.footer.Dst.{Dst}
@@ -27,30 +28,44 @@ use Rattle.zic_states.specs.Zone.{Zone, Shows}
 use Rattle.zic_words.specs.declared.clock.ClockForm.{ClockForm}
 use Rattle.zic_words.specs.declared.clock.ClockForm.TheVariants.{Wall, Standard, Universal}
 
--- a day in the terms of POSIX, and how many days after it the day lies that is meant
-pub record ShiftedDay : Type 0 where
-  pub day : DayRule
-  pub shift : ℤ
+-- In this year the form seeks this weekday among seven days, of which this day of the month is the last: zic(8), ON
+abbrev pub Seeks : On → ℤ → ℕ → ℕ → ℕ → Type 0
+Seeks (Day day) year month weekday last = ⊥
+Seeks (Last x) year month weekday last = (weekday ≡ x) × (last ≡ days_in_month year month)
+Seeks (After x day) year month weekday last = (weekday ≡ x) × (last ≡ day + 6)
+Seeks (Before x day) year month weekday last = (weekday ≡ x) × (last ≡ last_meant year month day)
 
--- the first X on or after day q of a month, which may lie before the month's first: the week of q,
--- counted in sevens, and the days from its start to q
-abbrev pub by_week : ℕ → ℕ → ℤ → ShiftedDay
-by_week month weekday q =
-    let shift = days_into_week q in
-    record { day = M month (week_of q) (weekday_before weekday shift); shift = shift }
+-- in every year it seeks this weekday among the month's last seven days
+abbrev pub SeeksLast : ℕ → On → ℕ → Type 0
+SeeksLast month on weekday = (year : ℤ) → Seeks on year month weekday (days_in_month year month)
 
--- The day of a rule's form, in every year: a plain day is `Jn`, counted in a common year, as the
--- year 1 is; a last weekday is week 5, also where it is written as `>=` or `<=`; another `X<=d` is
--- the first X on or after day d - 6.
-abbrev pub day_of_form : ℕ → On → ShiftedDay
-day_of_form month (Day day) = record { day = J (days_of_months (pos 1) (month - 1) + day); shift = pos 0 }
-day_of_form month (Last weekday) = record { day = M month 5 weekday; shift = pos 0 }
-day_of_form month (After weekday day) =
-    if (day == month_length true month - 6) && not (month == 2) then record { day = M month 5 weekday; shift = pos 0 }
-    else by_week month weekday (pos day)
-day_of_form month (Before weekday day) =
-    if day == month_length true month then record { day = M month 5 weekday; shift = pos 0 }
-    else by_week month weekday (pos day -ℤ pos 6)
+-- A plain day of a month is `Jn`.
+abbrev pub IsPlainDay : On → DayRule → ℤ → Type 0
+IsPlainDay on day shift = (of_month number : ℕ) × (on ≡ Day of_month) × (day ≡ J number) × (shift ≡ pos 0)
+
+-- A weekday that is sought in the last seven days of the month in every year is of week 5, however the rule says it.
+abbrev pub IsInLastWeek : ℕ → On → DayRule → ℤ → Type 0
+IsInLastWeek month on day shift = (weekday : ℕ) × SeeksLast month on weekday × (day ≡ M month 5 weekday) × (shift ≡ pos 0)
+
+-- Another weekday is of the weeks 1 to 4, which are the days 7w - 6 to 7w of the month: so many days after the week come the days among
+-- which it is sought. The week is the last that doesn't begin after them, and week 1 where each does.
+pub record IsInWeek (month : ℕ) (on : On) (day : DayRule) (shift : ℤ) : Type 0 where
+  pub weekday : ℕ
+  pub last : ℕ
+  pub seeks : (year : ℤ) → Seeks on year month weekday last
+  pub not_last_week : SeeksLast month on weekday → ⊥
+  pub week : ℕ
+  pub is_week : IsInRange 1 4 week
+  pub moved : pos last ≡ pos (7 * week) +ℤ shift
+  pub not_after : (week ≡ 1) ⊎ (pos 0 ≤ℤ shift)
+  pub is_last : (week ≡ 4) ⊎ (shift ≤ℤ pos 6)
+  pub says : day ≡ M month week (weekday_before weekday shift)
+
+-- How a string says the day of a rule: by a day so many days after which, in every year, the day comes that the rule names (zic(8), ON;
+-- POSIX TZ). Which of the days that do is an own choice.
+pub record SaysDay (month : ℕ) (on : On) (day : DayRule) (shift : ℤ) : Type 0 where
+  pub means : (year : ℤ) → IsDayOf year month on (day_in year day +ℤ shift)
+  pub way : IsPlainDay on day shift ⊎ IsInLastWeek month on day shift ⊎ IsInWeek month on day shift
 
 -- the time of a rule's AT by wall clocks, at this standard offset in seconds east of UT and with
 -- this many seconds saved
@@ -59,33 +74,27 @@ wall_time Wall standard saved at = at
 wall_time Standard standard saved at = at +ℤ saved
 wall_time Universal standard saved at = at +ℤ standard +ℤ saved
 
--- the edge at which a rule takes over, where this is saved before: its day, and the time by the
--- wall clocks before it
-abbrev pub edge_of : ℤ → TailRule → ℤ → Edge
-edge_of standard rule saved =
-    let at = day_of_form rule.moment.month rule.moment.on in
-    record {
-      day = at.day;
-      time = wall_time rule.moment.at.form standard saved rule.moment.at.seconds +ℤ (pos 86_400 *ℤ at.shift);
-    }
+-- The edge at which a rule takes over, where this is saved before it: its day, and the time by the wall clocks before it, to which the
+-- days after that day are added.
+pub record IsEdgeOf (standard : ℤ) (rule : TailRule) (saved : ℤ) (edge : Edge) : Type 0 where
+  pub shift : ℤ
+  pub day : SaysDay rule.moment.month rule.moment.on edge.day shift
+  pub time : edge.time ≡ wall_time rule.moment.at.form standard saved rule.moment.at.seconds +ℤ (pos 86_400 *ℤ shift)
 
 -- the daylight part by the rule that starts daylight saving time and the one that ends it
-abbrev pub daylight_part : ℤ → TailRule → TailRule → Dst
-daylight_part standard starting ending = record {
-  name = starting.name;
-  offset = standard +ℤ starting.saving.seconds;
-  start = edge_of standard starting ending.saving.seconds;
-  stop = edge_of standard ending starting.saving.seconds;
-}
+pub record IsDaylightBy (standard : ℤ) (starting ending : TailRule) (dst : Dst) : Type 0 where
+  pub name : dst.name ≡ starting.name
+  pub offset : dst.offset ≡ standard +ℤ starting.saving.seconds
+  pub start : IsEdgeOf standard starting ending.saving.seconds dst.start
+  pub stop : IsEdgeOf standard ending starting.saving.seconds dst.stop
 
--- the string by these two rules: the standard part has the offset and abbreviation that the ending
--- rule begins
-abbrev pub by_rules : ℤ → TailRule → TailRule → TzString
-by_rules standard starting ending = record {
-  std = ending.name;
-  offset = standard +ℤ ending.saving.seconds;
-  dst = Some (daylight_part standard starting ending);
-}
+-- The string is by these two rules. The standard part has the offset and abbreviation that the ending rule begins.
+pub record IsByRules (standard : ℤ) (starting ending : TailRule) (f : TzString) : Type 0 where
+  pub std : f.std ≡ ending.name
+  pub offset : f.offset ≡ standard +ℤ ending.saving.seconds
+  pub dst : Dst
+  pub has : f.dst ≡ Some dst
+  pub daylight : IsDaylightBy standard starting ending dst
 
 -- two rules, in either order, of which one starts daylight saving time and the other ends it
 pub record IsPair (tails : List TailRule) (starting ending : TailRule) : Type 0 where
@@ -96,6 +105,10 @@ pub record IsPair (tails : List TailRule) (starting ending : TailRule) : Type 0 
 -- the time is within 167:59:59 either way, as far as TZif of version 3 goes
 abbrev pub IsWide : Edge → Type 0
 IsWide edge = unsigned_abs edge.time < (MAX_WIDE_HOURS + 1) * 3600
+
+-- the edge of a rule can be said
+abbrev pub HasWideEdge : ℤ → TailRule → ℤ → Type 0
+HasWideEdge standard rule saved = (edge : Edge) × IsEdgeOf standard rule saved edge × IsWide edge
 
 -- The state just before the explicit end is for ever: fewer than two rules of the last line's set
 -- go on.
@@ -113,14 +126,14 @@ pub record AreInTurn (zone : Zone) (standard : ℤ) (starting ending : TailRule)
   pub by : IsTailBy zone standard year tails
   pub pair : IsPair tails starting ending
   pub alternate : Alternate (set_of zone.source.rules by.name) by.last
-  pub start : IsWide (edge_of standard starting ending.saving.seconds)
-  pub stop : IsWide (edge_of standard ending starting.saving.seconds)
+  pub start : HasWideEdge standard starting ending.saving.seconds
+  pub stop : HasWideEdge standard ending starting.saving.seconds
 
 -- the footer of a zone: one standard state for ever, or two rules in turn
 abbrev pub IsMade : Zone → TzString → Type 0
 IsMade zone f =
     ((state : Shown) × IsForEver zone state × (state.daylight ≡ false) × (f ≡ constant state.name state.offset))
-    ⊎ ((standard : ℤ) × (starting ending : TailRule) × AreInTurn zone standard starting ending × (f ≡ by_rules standard starting ending))
+    ⊎ ((standard : ℤ) × (starting ending : TailRule) × AreInTurn zone standard starting ending × IsByRules standard starting ending f)
 
 -- From the last change before the explicit end on, or at every instant if there is none, the zone
 -- shows what the footer means.

@@ -7,6 +7,7 @@ ghost use Rattle.zic_words.specs.declared.clock.TheConstants.{LATEST_TIME};
 ghost use Rattle.zic_words.specs.Time.{IsWithin};
 ghost use Rattle.zic_source.specs.Sound.{IsWithinDay};
 ghost use Rattle.zic_footer.specs.Making as making;
+ghost use Rattle.zic_footer.specs.code.Edges as edges;
 ghost use Rattle.zic_footer.specs.code.Turns.{IsYearly, IsSmall};
 
 use zic_calendar::{On, SECONDS_OF_DAY, day_of, days_in_month};
@@ -36,7 +37,7 @@ pub(crate) fn edge_of(standard: i32, rule: &TailRule, saved: i32) -> Edge
     requires standard { IsWithinDay standard }
     requires rule { IsYearly rule.now.moment }
     requires saved { IsWithinDay saved }
-    ensures { result ≡ making.edge_of standard rule.now saved }
+    ensures { result ≡ edges.edge_of standard rule.now saved }
 {
     let moment = &rule.moment;
     let at = day_of_form(moment.month, moment.on);
@@ -65,8 +66,8 @@ fn wall_time(standard: i32, at: ClockTime, saved: i32) -> i32
 fn day_of_form(month: u8, on: On) -> ShiftedDay
     requires month { IsMonth month }
     requires fits { (year : ℤ) → FormFits year month on }
-    ensures day { result.day ≡ (making.day_of_form month on).day }
-    ensures shift { result.shift ≡ (making.day_of_form month on).shift }
+    ensures day { result.day ≡ (edges.day_of_form month on).day }
+    ensures shift { result.shift ≡ (edges.day_of_form month on).shift }
     ensures range { IsSmall result.shift }
 {
     match on {
@@ -96,7 +97,7 @@ fn day_of_form(month: u8, on: On) -> ShiftedDay
 fn number_in_year(month: u8, day: u8) -> u16
     requires month { IsMonth month }
     requires fits { FormFits (pos 1) month (On.Day day) }
-    ensures { DayRule.J result ≡ (making.day_of_form month (On.Day day)).day }
+    ensures { DayRule.J result ≡ (edges.day_of_form month (On.Day day)).day }
 {
     let before = day_of(COMMON_YEAR, 1, On::Day(1));
     (day_of(COMMON_YEAR, month, On::Day(day)) - before + 1) as u16
@@ -122,8 +123,8 @@ fn last_of(month: u8, weekday: u8) -> ShiftedDay
 fn by_week(month: u8, weekday: u8, day: i32) -> ShiftedDay
     requires low { neg_ℤ (pos 6) ≤ℤ day }
     requires high { day ≤ℤ pos 31 }
-    ensures day { result.day ≡ (making.by_week month weekday day).day }
-    ensures shift { result.shift ≡ (making.by_week month weekday day).shift }
+    ensures day { result.day ≡ (edges.by_week month weekday day).day }
+    ensures shift { result.shift ≡ (edges.by_week month weekday day).shift }
     ensures range { IsSmall result.shift }
 {
     let week = ((day - 1).div_euclid(7) + 1).clamp(1, 4);

@@ -7,8 +7,8 @@ ghost use Rattle.zic_base.specs.State.{shown};
 ghost use Rattle.zic_posix.specs.Footer as footer;
 ghost use Rattle.zic_posix.specs.Grammar.{IsName};
 ghost use Rattle.zic_words.specs.Limits.{IsWithinLimits};
-ghost use Rattle.zic_footer.specs.Making as making;
 ghost use Rattle.zic_footer.specs.Making.{IsMade, GoesOn, IsFaultOfFooter, IsWide};
+ghost use Rattle.zic_footer.specs.code.Edges as edges;
 ghost use Rattle.zic_footer.specs.code.Faults.{IsFirstFault};
 ghost use Rattle.zic_footer.specs.code.Turns.{AreSoundTails, IsSoundPair, IsPairOf, HasWideEdges, IsMadeOf, NoneTakeTurns};
 
@@ -122,7 +122,7 @@ fn pair_of(rules: &[TailRule]) -> Option<Pair<'_>>
 fn by_pair(alloc: Global, standard: i32, pair: &Pair<'_>) -> Result<Footer, ZoneStop>
     requires { IsSoundPair standard pair.now }
     ensures made { IfOk result
-        (λ f. f ≡ making.by_rules standard pair.now.starting.now pair.now.ending.now) }
+        (λ f. f ≡ edges.by_rules standard pair.now.starting.now pair.now.ending.now) }
     ensures wide { IfOk result (λ _. HasWideEdges standard pair.now) }
     ensures err { IfRefusal kind_of result
         (λ kind. (kind ≡ Kind.NoFooter) × (HasWideEdges standard pair.now → ⊥)) }
@@ -144,7 +144,7 @@ fn by_pair(alloc: Global, standard: i32, pair: &Pair<'_>) -> Result<Footer, Zone
 fn daylight_part(alloc: Global, standard: i32, pair: &Pair<'_>) -> Result<Dst, AllocError>
     requires { IsSoundPair standard pair.now }
     ensures ok { IfOk result
-        (λ dst. dst ≡ making.daylight_part standard pair.now.starting.now pair.now.ending.now) }
+        (λ dst. dst ≡ edges.daylight_part standard pair.now.starting.now pair.now.ending.now) }
     ensures name { IfOk result (λ dst. IsName dst.name) }
     ensures inline { IsOk result }
 {

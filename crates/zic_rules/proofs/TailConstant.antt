@@ -95,7 +95,8 @@ module _ (zone : Zone) (orderly : IsOrderly zone) (end : ℤ) (is_end : IsEnd zo
       let keeps = one_thing has le in
       record {
         few = keeps.few;
-        from_end = λ other t is_other late.
+        from_end = λ t late.
+            let (other, is_other, le) = late in
             let same = one_end zone orderly.sets other end is_other is_end in
             let not_before : (end -ℤ pos 1) ≤ℤ t = omega (arith, ints) in
             record {

@@ -25,7 +25,7 @@ use Rattle.zic_states.proofs.TailRepeats.{follow}
 use Rattle.zic_states.proofs.TailSet.{rule_in, some_last, last_is_after, continues_after, own_instant}
 use Rattle.zic_states.proofs.TailWindow.{settled}
 use Rattle.zic_rules.specs.Laws.{LastIsChange}
-use Rattle.zic_rules.specs.Tail.{IsTailBy, ShowsByTail, AreOfBothFlags, IsRulesTail, tail_state}
+use Rattle.zic_rules.specs.Tail.{IsTailBy, ShowsLast, AreOfBothFlags, IsRulesTail, tail_state}
 use Rattle.zic_rules.specs.declared.tail.TailRule.{TailRule}
 use Rattle.zic_rules.proofs.TailLines.{IsSetLine}
 
@@ -78,7 +78,7 @@ module _ (zone : Zone) (orderly : IsOrderly zone) (end : ℤ) (is_end : IsEnd zo
 
   -- the zone shows what this occurrence begins
   abbrev ShowsFrom : ℤ → Occurrence → Type 0
-  ShowsFrom t o = (shows : ShowsByTail zone standard year tails by t) × (shows.occurrence ≡ o)
+  ShowsFrom t o = (shows : ShowsLast zone set standard year of.numbers tails t) × (shows.occurrence ≡ o)
 
   -- where an occurrence of a later year is the last, it is of one of these rules, and the zone shows what the rule begins
   shows_by : (t : ℤ) (o : Occurrence) (u : ℤ) → IsLastOccurrence set of.line.offset t o u → of.year <ℤ o.year → IsContinuing o.rule
@@ -111,7 +111,7 @@ module _ (zone : Zone) (orderly : IsOrderly zone) (end : ℤ) (is_end : IsEnd zo
         refl,
       )
 
-  from_end : (t : ℤ) → (end -ℤ pos 1) ≤ℤ t → ShowsByTail zone standard year tails by t
+  from_end : (t : ℤ) → (end -ℤ pos 1) ≤ℤ t → ShowsLast zone set standard year of.numbers tails t
   from_end t late =
       let is = of.end_is in
       let keeps = by_continuing zone orderly of.number of.line of.name of.year of.tail some_number t (omega (arith, ints)) in
@@ -218,7 +218,7 @@ module _ (zone : Zone) (orderly : IsOrderly zone) (end : ℤ) (is_end : IsEnd zo
         }
 
   -- from the last change on
-  from_change : AreOfBothFlags tails → Alternate set of.year → (t : ℤ) → IsAfterChanges zone t → ShowsByTail zone standard year tails by t
+  from_change : AreOfBothFlags tails → Alternate set of.year → (t : ℤ) → IsAfterChanges zone t → ShowsLast zone set standard year of.numbers tails t
   from_change both alternate t none_after =
       let from = given zone orderly of.number of.line of.name of.year of.tail in
       let (number, rule, member, continues) = some_number in
@@ -231,7 +231,8 @@ module _ (zone : Zone) (orderly : IsOrderly zone) (end : ℤ) (is_end : IsEnd zo
   pub rules_tail : IsRulesTail zone standard year tails
   rules_tail = record {
     by = by;
-    from_end = λ other t is_other late.
+    from_end = λ t late.
+        let (other, is_other, le) = late in
         let same = one_end zone orderly.sets other end is_other is_end in
         from_end t (omega (arith, ints));
     from_change = from_change;

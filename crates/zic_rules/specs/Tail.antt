@@ -52,14 +52,15 @@ pub record IsTailBy (zone : Zone) (standard year : ℤ) (tails : List TailRule) 
   pub rules : AreTailRules zone.source.rules line numbers tails
   pub several : 2 ≤ length numbers
 
--- At t the zone shows what the last occurrence not after t begins, and this is of such a rule and of such a year.
-pub record ShowsByTail (zone : Zone) (standard year : ℤ) (tails : List TailRule) (by : IsTailBy zone standard year tails) (t : ℤ) : Type 0 where
+-- At t the zone shows what the last occurrence of the set that isn't after t begins, on this standard offset. The occurrence is of this
+-- year or a later one, and of one of the rules of these numbers; the tail has that rule at the place of its number.
+pub record ShowsLast (zone : Zone) (set : RuleSet) (standard year : ℤ) (numbers : List ℕ) (tails : List TailRule) (t : ℤ) : Type 0 where
   pub occurrence : Occurrence
   pub instant : ℤ
-  pub current : IsLastOccurrence (set_of zone.source.rules by.name) standard t occurrence instant
+  pub current : IsLastOccurrence set standard t occurrence instant
   pub in_years : year ≤ℤ occurrence.year
   pub place : ℕ
-  pub number : slice_get by.numbers place ≡ Some occurrence.number
+  pub number : slice_get numbers place ≡ Some occurrence.number
   pub tail : TailRule
   pub is_tail : slice_get tails place ≡ Some tail
   pub shows : Shows zone t (tail_state standard tail)
@@ -68,13 +69,17 @@ pub record ShowsByTail (zone : Zone) (standard year : ℤ) (tails : List TailRul
 abbrev pub AreOfBothFlags : List TailRule → Type 0
 AreOfBothFlags tails = (a b : TailRule) × (tails ≡ a ∷ b ∷ []) × (a.saving.daylight ≢ b.saving.daylight)
 
--- a tail of rules: from one second before the end on what the zone shows, and the same from the last change on where
--- there are two rules, of both flags, that alternate
+-- one second before the explicit end, or later
+abbrev pub IsFromEnd : Zone → ℤ → Type 0
+IsFromEnd zone t = (end : ℤ) × IsEnd zone end × ((end -ℤ pos 1) ≤ℤ t)
+
+-- A tail of rules: from one second before the explicit end on the zone shows what the last occurrence of its set begins. So it does from
+-- the last change on, where there are two rules, of both flags, that alternate.
 pub record IsRulesTail (zone : Zone) (standard year : ℤ) (tails : List TailRule) : Type 0 where
   pub by : IsTailBy zone standard year tails
-  pub from_end : (end t : ℤ) → IsEnd zone end → (end -ℤ pos 1) ≤ℤ t → ShowsByTail zone standard year tails by t
+  pub from_end : (t : ℤ) → IsFromEnd zone t → ShowsLast zone (set_of zone.source.rules by.name) standard year by.numbers tails t
   pub from_change : AreOfBothFlags tails → Alternate (set_of zone.source.rules by.name) by.last
-      → (t : ℤ) → IsAfterChanges zone t → ShowsByTail zone standard year tails by t
+      → (t : ℤ) → IsAfterChanges zone t → ShowsLast zone (set_of zone.source.rules by.name) standard year by.numbers tails t
 
 -- Fewer than two rules of the last line's set go on for ever, or it has none.
 pub record HasConstantTail (zone : Zone) : Type 0 where
@@ -87,7 +92,7 @@ pub record HasConstantTail (zone : Zone) : Type 0 where
 -- A constant tail: from one second before the end on, and from the last change on, the zone shows this.
 pub record IsConstantTail (zone : Zone) (state : Shown) : Type 0 where
   pub few : HasConstantTail zone
-  pub from_end : (end t : ℤ) → IsEnd zone end → (end -ℤ pos 1) ≤ℤ t → Shows zone t state
+  pub from_end : (t : ℤ) → IsFromEnd zone t → Shows zone t state
   pub from_change : (t : ℤ) → IsAfterChanges zone t → Shows zone t state
 
 -- the meaning of a tail

@@ -27,13 +27,16 @@ use Rattle.zic_rules.proofs.Limits.{shows_within_limits}
 use Rattle.zic_rules.proofs.TailTurns.{rules_tail}
 use Rattle.zic_posix.specs.Footer.{TzString, constant}
 use Rattle.zic_posix.specs.Grammar.{IsTzString}
-use Rattle.zic_footer.specs.Making.{IsForEver, AreInTurn, IsMade, GoesOn, by_rules}
+use Rattle.zic_footer.specs.Making.{IsWide, IsForEver, AreInTurn, IsByRules, IsMade, GoesOn}
+use Rattle.zic_footer.specs.code.Edges.{edge_of, by_rules}
 use Rattle.zic_footer.specs.code.Turns.{IsSoundTail}
 use Rattle.zic_footer.proofs.ForEver.{goes_on}
 use Rattle.zic_footer.proofs.Names.{is_name}
 use Rattle.zic_footer.proofs.OneTail.{same_name, same_last}
-use Rattle.zic_footer.proofs.Pairs.{sound_pair, is_string}
-use Rattle.zic_footer.proofs.TailRules.{HasRule, AreTwo, two_rules, sound_tails}
+use Rattle.zic_footer.proofs.Outcomes.{sound_turns}
+use Rattle.zic_footer.proofs.Pairs.{is_string}
+use Rattle.zic_footer.proofs.SaidEdges.{edge_is_wide, one_string}
+use Rattle.zic_footer.proofs.TailRules.{HasRule, AreTwo, two_rules}
 
 module _ (zone : Zone) (whole : IsWholeZone zone) (end : ℤ) (is_end : IsEnd zone end) where
   -- ---- one state for ever
@@ -131,13 +134,20 @@ module _ (zone : Zone) (whole : IsWholeZone zone) (end : ℤ) (is_end : IsEnd zo
     two = two_rules zone standard turns.year turns.tails by starting ending turns.pair
 
     sound : IsSoundTail standard starting × IsSoundTail standard ending
-    sound =
-        sound_pair standard turns.tails starting ending
-        (sound_tails zone whole.orderly (whole.sound kind.OffsetRange) standard turns.year turns.tails by) turns.pair
+    sound = sound_turns zone whole standard starting ending turns
+
+    start : IsWide (edge_of standard starting ending.saving.seconds)
+    start = edge_is_wide standard starting ending.saving.seconds sound.0.yearly turns.start
+
+    stop : IsWide (edge_of standard ending starting.saving.seconds)
+    stop = edge_is_wide standard ending starting.saving.seconds sound.1.yearly turns.stop
+
+    by_string : (f : TzString) → IsByRules standard starting ending f → f ≡ by_rules standard starting ending
+    by_string f is = one_string standard starting ending sound.0 sound.1 f is
 
     rules_go_on : GoesOn zone (by_rules standard starting ending)
     rules_go_on =
-        goes_on zone whole.orderly standard turns.year turns.tails tail starting ending turns.pair alternate sound.0 sound.1 turns.start turns.stop
+        goes_on zone whole.orderly standard turns.year turns.tails tail starting ending turns.pair alternate sound.0 sound.1 start stop
 
     -- the zone shows the abbreviation of each at some instant
     named : (n : ℕ) (rule : TailRule) → HasRule set by.line n rule → is_abbreviation rule.name ≡ true
@@ -154,17 +164,17 @@ module _ (zone : Zone) (whole : IsWholeZone zone) (end : ℤ) (is_end : IsEnd zo
     rules_are_string : IsTzString (by_rules standard starting ending)
     rules_are_string =
         is_string standard starting ending sound.0 sound.1
-        (is_name starting.name (named two.start starting two.starts)) (is_name ending.name (named two.stop ending two.stops)) turns.start turns.stop
+        (is_name starting.name (named two.start starting two.starts)) (is_name ending.name (named two.stop ending two.stops)) start stop
 
   -- ---- each
 
   made_goes_on : (f : TzString) → IsMade zone f → GoesOn zone f
   made_goes_on f (inl (state, for_ever, standard, is)) = subst (GoesOn zone) (sym is) (constant_goes_on state for_ever standard)
-  made_goes_on f (inr (standard, starting, ending, turns, is)) = subst (GoesOn zone) (sym is) (rules_go_on standard starting ending turns)
+  made_goes_on f (inr (standard, starting, ending, turns, is)) = subst (GoesOn zone) (sym (by_string standard starting ending turns f is)) (rules_go_on standard starting ending turns)
 
   made_is_string : (f : TzString) → IsMade zone f → IsTzString f
   made_is_string f (inl (state, for_ever, standard, is)) = subst IsTzString (sym is) (constant_is_string state for_ever)
-  made_is_string f (inr (standard, starting, ending, turns, is)) = subst IsTzString (sym is) (rules_are_string standard starting ending turns)
+  made_is_string f (inr (standard, starting, ending, turns, is)) = subst IsTzString (sym (by_string standard starting ending turns f is)) (rules_are_string standard starting ending turns)
 
 pub footer_goes_on : (zone : Zone) → IsWholeZone zone → (f : TzString) → IsMade zone f → GoesOn zone f × IsTzString f
 footer_goes_on zone whole f made =

@@ -29,6 +29,8 @@ use Rattle.zic_rules.proofs.Limits.{shows_within_limits}
 use Rattle.zic_rules.proofs.TailHeld.{held_for_ever}
 use Rattle.zic_rules.proofs.TimelineStates.{shows_held}
 use Rattle.zic_footer.specs.Making.{IsMade, IsPair}
+use Rattle.zic_footer.proofs.Outcomes.{sound_turns}
+use Rattle.zic_footer.proofs.SaidEdges.{one_string}
 use Rattle.zic_footer.proofs.TailRules.{numbered, placed}
 
 -- ---- lengths
@@ -148,7 +150,8 @@ module _ (zone : Zone) (whole : IsWholeZone zone) where
       subst HasShortNames (sym e) (abbreviation_length state.name within.name, tt)
   made_names f (inr (standard, starting, ending, turns, e)) =
       let (start, stop) = pair_names standard turns.year turns.tails turns.by starting ending turns.pair in
-      subst HasShortNames (sym e) (stop, start)
+      let (sound_start, sound_stop) = sound_turns zone whole standard starting ending turns in
+      subst HasShortNames (sym (one_string standard starting ending sound_start sound_stop f e)) (stop, start)
 
   -- the text of a footer that was made is short
   pub made_length : (f : TzString) → IsMade zone f → length (printed f) ≤ 104

@@ -25,9 +25,12 @@ use Rattle.zic_rules.specs.Tail.{AreContinuing, IsTailBy, HasConstantTail}
 use Rattle.zic_rules.specs.Timeline.{IsWholeZone}
 use Rattle.zic_rules.specs.declared.tail.TailRule.{TailRule}
 use Rattle.zic_posix.specs.Footer.{TzString, constant}
-use Rattle.zic_footer.specs.Making.{IsForEver, AreInTurn, IsMade, IsFaultOfFooter, by_rules}
+use Rattle.zic_footer.specs.Making.{IsForEver, AreInTurn, IsByRules, IsMade, IsFaultOfFooter}
+use Rattle.zic_footer.specs.code.Edges.{by_rules}
 use Rattle.zic_footer.proofs.OneTail.{same_pair}
+use Rattle.zic_footer.proofs.Outcomes.{sound_turns}
 use Rattle.zic_footer.proofs.Pairs.{one_pair}
+use Rattle.zic_footer.proofs.SaidEdges.{one_string}
 use Rattle.zic_tzif.specs.Content.{Content}
 use Rattle.zic_table.specs.ContentOf.{content_of, limits, IsContentOf, IsFaultOfTable}
 use Rattle.zic_tzif.specs.Writing.{written}
@@ -104,11 +107,17 @@ module _ (zone : Zone) (whole : IsWholeZone zone) where
       let (start, stop) = one_pair one.tails a b x y one.pair pair in
       λ k. by_rules (offset k) (sym start k) (sym stop k)
 
+  by_string : (standard : ℤ) (a b : TailRule) → AreInTurn zone standard a b → (f : TzString) → IsByRules standard a b f → f ≡ by_rules standard a b
+  by_string standard a b turns f is =
+      let (sound_start, sound_stop) = sound_turns zone whole standard a b turns in
+      one_string standard a b sound_start sound_stop f is
+
   one_footer : (f g : TzString) → IsMade zone f → IsMade zone g → f ≡ g
   one_footer f g (inl (a, one, standard, is)) (inl (b, other, standard_too, is_too)) = is ∙ ap (λ (s : Shown). constant s.name s.offset) (one_for_ever a b one other) ∙ sym is_too
   one_footer f g (inl (a, one, standard, is)) (inr (offset, x, y, turns, is_too)) = absurd (not_both offset turns.year turns.tails one.few turns.by)
   one_footer f g (inr (offset, x, y, turns, is)) (inl (b, other, standard, is_too)) = absurd (not_both offset turns.year turns.tails other.few turns.by)
-  one_footer f g (inr (offset, a, b, one, is)) (inr (other, x, y, two, is_too)) = is ∙ rules_one offset other a b x y one two ∙ sym is_too
+  one_footer f g (inr (offset, a, b, one, is)) (inr (other, x, y, two, is_too)) =
+      by_string offset a b one f is ∙ rules_one offset other a b x y one two ∙ sym (by_string other x y two g is_too)
 
   -- ---- a footer, or a fault
 

@@ -9,7 +9,8 @@ use Rattle.zic_occurrences.specs.Occurrence.{nominal_second}
 use Rattle.zic_source.specs.Sound.{IsSoundMoment, IsWithinDay}
 use Rattle.zic_words.specs.declared.time.TheConstants.{GREATEST_OFFSET}
 use Rattle.zic_rules.specs.declared.tail.TailRule.{TailRule}
-use Rattle.zic_footer.specs.Making.{IsPair, IsWide, edge_of, by_rules}
+use Rattle.zic_footer.specs.Making.{IsPair, IsWide}
+use Rattle.zic_footer.specs.code.Edges.{edge_of, by_rules}
 use Rattle.zic_footer.specs.declared.maker.Pair.{Pair}
 
 -- a moment of every year

@@ -2,7 +2,8 @@ use Rattle.std.proofs.Common.{◌≡◌, ◌∙◌, subst, sym, refl, arith, ◌
 use Rattle.std.proofs.lemmas.Int.{ints}
 use Rattle.zic_posix.specs.Grammar.{IsName, IsTzString}
 use Rattle.zic_posix.specs.declared.footer.Dst.{Dst}
-use Rattle.zic_footer.specs.Making.{IsWide, daylight_part}
+use Rattle.zic_footer.specs.Making.{IsWide}
+use Rattle.zic_footer.specs.code.Edges.{daylight_part}
 use Rattle.zic_footer.proofs.Names.{is_name}
 use Rattle.zic_footer.proofs.Pairs.{is_string, same_string}
 use Rattle.zic_footer.proofs.maker.by_pair.Goals as goal

@@ -1,7 +1,7 @@
 use Rattle.std.proofs.Common.{◌≡◌, subst, sym, refl, arith, ℤ, to_z, of_z, w32}
-use Rattle.std.specs.Prelude.{IfOk, IfSome}
+use Rattle.std.specs.Prelude.{IfOk}
 use Rattle.std.proofs.lemmas.Int.{ints}
-use Rattle.zic_footer.specs.Making.{by_rules}
+use Rattle.zic_footer.specs.code.Edges.{by_rules}
 use Rattle.zic_footer.specs.code.Turns.{IsSoundPair, HasWideEdges, NoneTakeTurns}
 use Rattle.zic_footer.proofs.Pairs.{sound_pair, pair_made, they_follow}
 use Rattle.zic_footer.proofs.maker.by_rules.Goals as goal
