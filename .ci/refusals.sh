@@ -4,7 +4,8 @@
 # must still pass, one row of nearly each call of witness/rows, and commands of the program, with several
 # numbers of workers and sizes of pieces. If a growth is refused, the answers to rows end there, and
 # a command says `out of memory`, or reports the fault that it reports otherwise; it may give its whole answer only if the
-# growth was for the start of a worker. If threads are refused, it gives its whole answer. It never
+# growth was for the start of a worker, or for one of the few things that are given up without memory. If threads are
+# refused, it gives its whole answer. It never
 # leaves files or rows that aren't part of its whole answer. A `convert` of one zone and of a column
 # of one round starts its workers, all but the calling thread, once, and once more for the rows
 # before a fault. Needs `rt` and `cc`.
@@ -135,10 +136,17 @@ fail() {
     exit 1
 }
 
-# Returns whether a refusal may change nothing: `convert` asks for one block only to have the C library keep
-# the memory of rounds.
+# Returns whether a refusal may change nothing. What isn't needed for the answer is given up: in `check`
+# and `build` the four lists of what the lines of `zones` share, and in `convert` the block by which the C
+# library keeps the memory of rounds, and the list of texts for later rounds, which grows four times.
 is_spare() {
-    [ "$1" = convert ] && [ "$spare" = 0 ] && spare=1
+    local most=0
+    case $1 in
+    check | build) most=4 ;;
+    convert) most=5 ;;
+    esac
+    spare=$((spare + 1))
+    [ "$spare" -le "$most" ]
 }
 
 # every WORD...: refuses each growth and each start in turn.
