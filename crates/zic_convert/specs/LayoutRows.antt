@@ -3,7 +3,7 @@
 use Rattle.std.specs.Prelude.{◌≡◌, ℕ, ◌+◌, nat_le, ℤ, List, [], ◌∷◌, ◌++◌, length, Option, Some, None, option_map, is_some, IsSome, Contains, if◌then◌else◌}
 use Rattle.std.specs.Fmt.{signed_decimal}
 use Rattle.csv.specs.Writing.{default_writer, row_text, with_delimiter}
-use Rattle.zic_base.specs.Check.{Check, check, first_failed}
+use Rattle.zic_base.specs.Check.{Check, first_failed}
 use Rattle.zic_base.specs.State.{Shown}
 use Rattle.zic_tzif.specs.Answer.{Answers}
 use Rattle.zic_rows.specs.Count.{count_of, counted_rest_text, second_of}
@@ -24,7 +24,7 @@ use Rattle.zic_base.specs.declared.row_fault.RowFault.{RowFault}
 use Rattle.zic_base.specs.declared.row_fault.RowKind.{RowKind}
 use Rattle.zic_base.specs.declared.row_fault.RowKind.TheVariants as kind
 use Rattle.zic_zones.specs.Zones.{field_at, is_named, zone_in}
-use Rattle.zic_convert.specs.Rows.{is_row_instant}
+use Rattle.zic_convert.specs.Rows.{is_row_instant, row_checks}
 
 -- the count that a field has: in decimals, or as a date and a time of day with a UT offset
 abbrev pub count_by : TimeFrom → Unit → List ℕ → Option ℤ
@@ -38,12 +38,8 @@ count_in layout fields = count_by layout.from layout.unit (field_at fields layou
 -- the checks of a record with this count as the row of a number, where there is a greatest number of rows
 abbrev pub checks_of : Layout → List File → ℕ → ℕ → List (List ℕ) → Option ℤ → List (Check RowKind)
 checks_of layout files most number fields count =
-    check (nat_le number most) kind.TooManyRows
-    ∷ check (has_count layout.count (length fields)) kind.RowFields
-    ∷ check (is_named files (zone_in layout.zone fields)) kind.RowZone
-    ∷ check (is_some count) kind.RowInstant
-    ∷ check (is_row_instant (option_map (second_of layout.unit) count)) kind.RowRange
-    ∷ []
+    row_checks (nat_le number most) (has_count layout.count (length fields)) (is_named files (zone_in layout.zone fields)) (is_some count)
+    (is_row_instant (option_map (second_of layout.unit) count))
 
 -- the checks of a record
 abbrev pub checks_by : Layout → List File → ℕ → ℕ → List (List ℕ) → List (Check RowKind)
