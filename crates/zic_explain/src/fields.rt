@@ -3,6 +3,10 @@
 
 use std::alloc::{AllocError, Global};
 
+/// The greatest number of bytes of a line whose fields are told apart. A longer one has the fault
+/// LineTooLong, which is about no one field.
+const LONGEST_LINE: usize = 2_048;
+
 /// A part of a line, from a byte up to another.
 #[derive(Clone, Copy)]
 pub(crate) struct Span {
@@ -19,8 +23,9 @@ pub(crate) struct Field {
     pub(crate) text: Vec<u8>,
 }
 
-/// Returns the fields of a line.
+/// Returns the fields of a line, as far as a line may go.
 pub(crate) fn fields_of(alloc: Global, line: &[u8]) -> Result<Vec<Field>, AllocError> {
+    let line = line.get(..LONGEST_LINE).unwrap_or(line);
     let code = code_of(line);
     let mut fields = Vec::new(alloc);
     let mut quoted = false;

@@ -1,15 +1,15 @@
 //! Explains a failure, by the request and by what was read.
 
-use crate::column::{Found, column_start, find_record, quoted_lines, text_of};
+use crate::column::{column_start, find_record};
 use crate::refused::refused_file;
+use crate::scan::{Found, Sought};
 use std::alloc::{AllocError, Global};
 use std::fs::Files;
 use std::slice;
 use zic_base::RowKind;
 use zic_command_line::{Request, Zones};
 use zic_explain::{
-    QuotedLines, RecordForm, entries, expectation, line_place, nearest_zone, quote_place,
-    row_place, shown_word,
+    RecordForm, entries, expectation, line_place, nearest_zone, quote_place, row_place, shown_word,
 };
 use zic_io::Failure;
 use zic_plan::{Header, Layout, ZoneFrom};
@@ -59,8 +59,9 @@ impl Explainer {
         failure: &Failure,
     ) -> Result<String, AllocError> {
         let alloc = rt.alloc();
-        let mut text = self.place(rt, failure)?;
-        let mut reason = self.refused(rt, failure)?;
+        let record = self.record(rt, failure);
+        let mut text = self.place(alloc, failure, record.as_ref())?;
+        let mut reason = self.refused(rt, failure, record.as_ref())?;
         if reason.is_empty() {
             let entries = entries(alloc)?;
             reason = expectation(alloc, &entries, name_of(failure))?;
@@ -75,30 +76,26 @@ impl Explainer {
         &self,
         rt: &R,
         failure: &Failure,
+        record: Option<&Found>,
     ) -> Result<String, AllocError> {
         let Some(folder) = &self.folder else {
             return Ok(String::new(rt.alloc()));
         };
-        match failure {
-            Failure::UnknownZone(name) => refused_file(rt, folder.as_str(), name.as_bytes()),
-            Failure::Row { row, kind } | Failure::Rows { row, kind, .. }
-                if *kind == RowKind::RowZone => {
-                match &self.record(rt, *row) {
-                    Some(record) => refused_file(rt, folder.as_str(), self.zone_in(record)),
-                    None => Ok(String::new(rt.alloc())),
-                }
-            }
+        match (failure, record) {
+            (Failure::UnknownZone(name), _) => refused_file(rt, folder.as_str(), name.as_bytes()),
+            (Failure::Row { kind, .. } | Failure::Rows { kind, .. }, Some(record))
+                if *kind == RowKind::RowZone => { refused_file(rt, folder.as_str(), &record.zone) }
             _ => Ok(String::new(rt.alloc())),
         }
     }
 
     /// Returns the lines that say where a failure is, if it is at a place.
-    fn place<R: Files + AllocGlobal>(
+    fn place(
         &self,
-        rt: &R,
+        alloc: Global,
         failure: &Failure,
+        record: Option<&Found>,
     ) -> Result<String, AllocError> {
-        let alloc = rt.alloc();
         let path = self.word(0);
         match failure {
             Failure::Line { line, kind } => { line_place(alloc, *kind, path, self.text(0), *line) }
@@ -108,56 +105,47 @@ impl Explainer {
             }
             Failure::File(_) => format!(in alloc; "--> {path}\n"),
             Failure::Row { row, kind } | Failure::Rows { row, kind, .. } => {
-                self.row_place(rt, *kind, *row)
+                self.row_place(alloc, *kind, *row, record)
             }
             _ => Ok(String::new(alloc)),
         }
     }
 
     /// Returns the lines that say where the fault of a row is, and which zone's name is nearest.
-    fn row_place<R: Files + AllocGlobal>(
+    fn row_place(
         &self,
-        rt: &R,
+        alloc: Global,
         kind: RowKind,
         row: u64,
+        record: Option<&Found>,
     ) -> Result<String, AllocError> {
-        let alloc = rt.alloc();
-        let record = self.record(rt, row);
-        let text = match (self.start, &record) {
-            (Some(start), Some(record)) => text_of(rt, start, record),
-            _ => None,
+        let Some(record) = record else {
+            return row_place(alloc, kind, row, self.form, None);
         };
-        let mut place = row_place(alloc, kind, row, self.form, text.as_deref())?;
-        if let Some(lines) = record
-            .as_ref()
-            .and_then(|record| self.quoted_lines(rt, record))
-        {
+        let mut place = row_place(alloc, kind, row, self.form, Some(&record.text[..]))?;
+        if let Some(lines) = record.lines {
             place.push_str(quote_place(alloc, lines)?.as_str())?;
         }
-        if let (RowKind::RowZone, Some(record)) = (kind, &record) {
-            let nearest = nearest_zone(alloc, self.text(0), self.zone_in(record))?;
+        if kind == RowKind::RowZone {
+            let nearest = nearest_zone(alloc, self.text(0), &record.zone)?;
             place.push_str(nearest.as_str())?;
         }
         Ok(place)
     }
 
-    /// Returns the record of the row of this number, where it can be read again.
-    fn record<R: Files + AllocGlobal>(&self, rt: &R, row: u64) -> Option<Found> {
-        let number = self.before.saturating_add(row);
-        find_record(rt, self.start?, number, self.form.delimiter)
-    }
-
-    /// Returns the lines of the double quotes by which a record goes on, if it does.
-    fn quoted_lines<R: Files + AllocGlobal>(&self, rt: &R, record: &Found) -> Option<QuotedLines> {
-        quoted_lines(rt, self.start?, record, self.form.delimiter)
-    }
-
-    /// Returns the name of the zone in a record, or an empty one.
-    fn zone_in<'a>(&self, record: &'a Found) -> &'a [u8] {
-        match self.form.zone {
-            Some(index) => record.fields.get(index).unwrap_or(&[]),
-            None => &[],
-        }
+    /// Returns what is shown of the record of the row that a failure is about, where it can be read
+    /// again.
+    fn record<R: Files + AllocGlobal>(&self, rt: &R, failure: &Failure) -> Option<Found> {
+        let row = match failure {
+            Failure::Row { row, .. } | Failure::Rows { row, .. } => *row,
+            _ => return None,
+        };
+        let sought = Sought {
+            number: self.before.saturating_add(row),
+            delimiter: self.form.delimiter,
+            zone: self.form.zone,
+        };
+        find_record(rt, self.start?, sought)
     }
 
     /// Returns the word at this index, or an empty text.

@@ -4,7 +4,7 @@
 
 mod column;
 mod explainer;
-mod quote;
 mod refused;
+mod scan;
 
 pub use explainer::Explainer;
