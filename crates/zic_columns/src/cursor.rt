@@ -1,14 +1,15 @@
 //! How far a piece was split.
 
-ghost use Rattle.std.specs.Prelude.{◌≡◌, ◌≤◌, ℕ, List, drop, length};
+ghost use Rattle.std.specs.Prelude.{◌≡◌, ◌≤◌, ℕ, List, None, Some, IfSome, IsTrue, drop, length};
 ghost use Rattle.zic_columns.specs.code.Ends.{ShowsEnds};
 ghost use Rattle.zic_columns.specs.code.Line.{IsAfterLineEnds};
-ghost use Rattle.zic_columns.specs.code.Plain.{IsNextAt};
+ghost use Rattle.zic_columns.specs.code.Machine.{BeginsRecord};
+ghost use Rattle.zic_columns.specs.code.Plain.{IsNextAt, record_of};
 
 use crate::ends::FieldEnds;
 use crate::fields::{Record, Wanted};
 use crate::line::{after_line_ends, ends_line};
-use crate::plain::split_plain;
+use crate::plain::{PlainRecord, split_pair, split_plain, split_quoted_pair};
 use crate::walk::{split_record, split_rest};
 
 /// The number of bytes of a piece that were split, and what is known of the field ends after them.
@@ -43,6 +44,37 @@ impl Cursor {
         }
         let rest = after_line_ends(&piece[self.at..]);
         *self = Cursor::new(piece.len() - rest.len());
+    }
+
+    /// Returns whether a byte that ends no line comes next.
+    #[inline(always)]
+    fn begins_record(&self, piece: &[u8]) -> bool
+        ensures { IsTrue result → BeginsRecord (drop self.now.at piece.now) }
+    {
+        self.at < piece.len() && !ends_line(piece[self.at])
+    }
+
+    /// Splits the next record, where it begins here and is a zone and a time in this order, as they are
+    /// or between double quotes. `None` says nothing, and leaves the cursor as it was.
+    #[inline(always)]
+    pub(crate) fn next_pair(&mut self, piece: &[u8], wanted: Wanted) -> Option<PlainRecord>
+        requires { ShowsEnds piece.now self.old.at self.old.ends }
+        ensures shows { ShowsEnds piece.now self.new.at self.new.ends }
+        ensures next { IfSome result (λ plain. IsNextAt piece.now wanted self.old.at
+            (Some (record_of plain.start plain.end plain.fields)) self.new.at) }
+        ensures none { result ≡ None → self.new ≡ self.old }
+    {
+        if !self.begins_record(piece) {
+            return None;
+        }
+        if piece[self.at] == b'"' {
+            let plain = split_quoted_pair(piece, self.at, wanted)?;
+            *self = Cursor::new(plain.end + 1);
+            return Some(plain);
+        }
+        let plain = split_pair(piece, self.at, wanted, &mut self.ends)?;
+        self.at = plain.end + 1;
+        Some(plain)
     }
 
     /// Splits the next record, if there is one.

@@ -28,6 +28,9 @@ fn record_len(bytes: &[u8]) -> usize
     requires { BeginsRecord bytes.now }
     ensures { IsFirstRecord bytes.now result }
 {
+    if bytes[0] == b'"' {
+        return quoted_len(bytes);
+    }
     match memchr3(b'\r', b'\n', b'"', bytes) {
         None => bytes.len(),
         Some(at) if bytes[at] == b'"' => quoted_len(bytes),

@@ -32,6 +32,9 @@ pub(crate) fn split_lines(bytes: &[u8]) -> (&[u8], &[u8])
 fn lines_before_quote(bytes: &[u8]) -> usize
     ensures { BeginWithLines bytes.now result }
 {
+    if bytes.len() > 0 && bytes[0] == b'"' {
+        return 0;
+    }
     match first_quote(bytes) {
         Some(at) => split_lines(&bytes[..at]).0.len(),
         None => split_lines(bytes).0.len(),

@@ -4,12 +4,12 @@ ghost use Rattle.std.specs.Prelude.{◌≡◌, ◌≢◌, ◌+◌, ◌^◌, ◌<
 ghost use Rattle.zic_columns.specs.Record.{IsWithin, bytes_at};
 ghost use Rattle.zic_columns.specs.code.Ends.{ShowsEnds};
 ghost use Rattle.zic_columns.specs.code.Machine.{BeginsRecord};
-ghost use Rattle.zic_columns.specs.code.Plain.{IsPlainFrom, IsSought, no_fields, record_of};
-ghost use Rattle.zic_columns.specs.code.Walk.{HasFields, HasWalked};
+ghost use Rattle.zic_columns.specs.code.Plain.{IsLineEndAt, IsPlainFrom, IsSought, no_fields, record_of};
+ghost use Rattle.zic_columns.specs.code.Walk.{HasFields, HasWalked, IsRecordFrom};
 
 use crate::ends::FieldEnds;
 use crate::fields::{Field, Record, Span, Wanted};
-use crate::walk::Begun;
+use crate::walk::{Begun, quoted_text};
 
 /// The number of fields of a record, and where those that rows need stand.
 #[derive(Clone, Copy, Drop)]
@@ -17,6 +17,24 @@ pub(crate) struct PlainFields {
     count: usize,
     zone: Span,
     time: Span,
+}
+
+/// A record whose fields begin with no double quote: where its own bytes stand, and its fields.
+#[derive(Clone, Copy, Drop)]
+pub(crate) struct PlainRecord {
+    start: usize,
+    pub(crate) end: usize,
+    fields: PlainFields,
+}
+
+impl PlainRecord {
+    /// Returns the record.
+    #[inline(always)]
+    pub(crate) fn record(self) -> Record
+        ensures { result ≡ record_of self.start self.end self.fields }
+    {
+        record_of(self.start, self.end, self.fields)
+    }
 }
 
 /// Returns the record of these fields, whose own bytes are those from one index up to another.
@@ -110,7 +128,7 @@ pub(crate) fn split_plain(
         (λ begun. HasWalked piece.now start wanted begun.given begun.at) }
 {
     match split_pair(piece, start, wanted, ends) {
-        Some(given) => Ok(given),
+        Some(plain) => Ok(plain.record()),
         None => split_fields(piece, start, wanted, ends),
     }
 }
@@ -118,10 +136,16 @@ pub(crate) fn split_plain(
 /// Splits the record that begins at an index, where it is a zone and a time in this order, neither of
 /// which begins with a double quote. `None` says nothing, and leaves the field ends as they were.
 #[inline(always)]
-fn split_pair(piece: &[u8], start: usize, wanted: Wanted, ends: &mut FieldEnds) -> Option<Record>
+pub(crate) fn split_pair(
+    piece: &[u8],
+    start: usize,
+    wanted: Wanted,
+    ends: &mut FieldEnds,
+) -> Option<PlainRecord>
     requires begins { BeginsRecord (drop start piece.now) }
     requires shows { ShowsEnds piece.now start ends.old }
-    ensures some { IfSome result (IsPlainFrom piece.now start wanted ends.new) }
+    ensures some { IfSome result (λ plain. IsPlainFrom piece.now start wanted ends.new
+        (record_of plain.start plain.end plain.fields)) }
     ensures none { result ≡ None → ends.new ≡ ends.old }
 {
     let (Some(0), 1) = (wanted.zone, wanted.time) else {
@@ -143,7 +167,40 @@ fn split_pair(piece: &[u8], start: usize, wanted: Wanted, ends: &mut FieldEnds) 
         start: comma + 1,
         end,
     };
-    Some(record_of(start, end, with_span(zone, time, indices)))
+    Some(PlainRecord {
+        start,
+        end,
+        fields: with_span(zone, time, indices),
+    })
+}
+
+/// Splits the record that begins at an index, where it is a zone and a time in this order, each of them
+/// between two double quotes, with a line end after it. `None` says nothing.
+#[inline(always)]
+pub(crate) fn split_quoted_pair(piece: &[u8], start: usize, wanted: Wanted) -> Option<PlainRecord>
+    requires begins { BeginsRecord (drop start piece.now) }
+    ensures from { IfSome result (λ plain. IsRecordFrom piece.now start wanted
+        (record_of plain.start plain.end plain.fields)) }
+    ensures ended { IfSome result (λ plain. IsLineEndAt piece.now plain.end) }
+{
+    let (Some(0), 1) = (wanted.zone, wanted.time) else {
+        return None;
+    };
+    let zone = quoted_text(piece, start)?;
+    if zone.stop == piece.len() || piece[zone.stop] != b',' {
+        return None;
+    }
+    let time = quoted_text(piece, zone.stop + 1)?;
+    if time.stop == piece.len() || piece[time.stop] == b',' {
+        return None;
+    }
+    let indices = indices_of(wanted);
+    let first = with_span(no_fields(start), zone.span, indices);
+    Some(PlainRecord {
+        start,
+        end: time.stop,
+        fields: with_span(first, time.span, indices),
+    })
 }
 
 /// Returns no fields, of a record that begins at an index.

@@ -89,10 +89,14 @@ impl<'a> Splitter<'a> {
     {
         let mut count = 0;
         while count < BATCH {
-            let Some(given) = cursor.next_record(piece, wanted) else {
+            // Stored by its parts: a copy of a record that was just made would wait for its stores.
+            if let Some(plain) = cursor.next_pair(piece, wanted) {
+                records[count] = plain.record();
+            } else if let Some(given) = cursor.next_record(piece, wanted) {
+                records[count] = given;
+            } else {
                 return count;
-            };
-            records[count] = given;
+            }
             count += 1;
         }
         count

@@ -6,13 +6,14 @@ ghost use Rattle.zic_columns.specs.Record.{StandsIn, field_text};
 ghost use Rattle.zic_columns.specs.code.Field.{IsFieldAt};
 ghost use Rattle.zic_columns.specs.code.Machine.{BeginsRecord, IsEndOfRecord, ReadsTo, state_at};
 ghost use Rattle.zic_columns.specs.code.Own.{IsOwnLen};
-ghost use Rattle.zic_columns.specs.code.Walk.{HasFields, HasWalked, IsFieldEnd, IsQuoteAt, IsRecordFrom};
+ghost use Rattle.zic_columns.specs.code.Walk.{HasFields, HasWalked, IsFieldEnd, IsQuoteAt, IsRecordFrom, quoted_field};
 ghost use Rattle.zic_columns.specs.declared.machine.Place.TheVariants as place;
 
 use crate::blocks::{near_field_end, near_quote};
 use crate::fields::{Field, Record, Span, Wanted};
 use crate::line::ends_line;
 use crate::machine::{Place, field_len, record_end};
+use crate::plain::split_quoted_pair;
 use memchr::{memchr, memchr3};
 
 /// A field of a piece, and the index of the comma or line end after it, or of the piece's end.
@@ -20,6 +21,14 @@ use memchr::{memchr, memchr3};
 pub(crate) struct FoundField {
     field: Field,
     stop: usize,
+}
+
+/// The text of a field between two double quotes, as it stands in a piece, and the index of the comma or
+/// line end after the field, or of the piece's end.
+#[derive(Clone, Copy, Drop)]
+pub(crate) struct QuotedText {
+    pub(crate) span: Span,
+    pub(crate) stop: usize,
 }
 
 /// A record whose first fields were read, and the index at which the next one begins.
@@ -56,12 +65,12 @@ fn field_end(bytes: &[u8], at: usize) -> usize
     }
 }
 
-/// Returns the field between two double quotes, the first of which stands at an index, where no
-/// other stands between them and the field ends after the second.
+/// Returns the text between two double quotes, the first of which stands at an index, where no other
+/// stands between them and the field ends after the second.
 #[inline(always)]
-fn near_quoted(piece: &[u8], at: usize) -> Option<FoundField>
+fn near_quoted(piece: &[u8], at: usize) -> Option<QuotedText>
     requires { IsQuoteAt piece.now at }
-    ensures { IfSome result (IsFieldAt piece.now at) }
+    ensures { IfSome result (λ text. IsFieldAt piece.now at (quoted_field text)) }
 {
     let start = at + 1;
     let end = start + quote_end(&piece[start..])?;
@@ -69,8 +78,20 @@ fn near_quoted(piece: &[u8], at: usize) -> Option<FoundField>
     if stop < piece.len() && piece[stop] != b',' && !ends_line(piece[stop]) {
         return None;
     }
-    let field = Field::Plain(Span { start, end });
-    Some(FoundField { field, stop })
+    let span = Span { start, end };
+    Some(QuotedText { span, stop })
+}
+
+/// Returns the text of the field from an index on, where it stands between two double quotes and no
+/// other stands between them.
+#[inline(always)]
+pub(crate) fn quoted_text(piece: &[u8], at: usize) -> Option<QuotedText>
+    ensures { IfSome result (λ text. IsFieldAt piece.now at (quoted_field text)) }
+{
+    if at < piece.len() && piece[at] == b'"' {
+        return near_quoted(piece, at);
+    }
+    None
 }
 
 /// Returns the field from an index on, at which a double quote stands.
@@ -79,8 +100,10 @@ fn quoted_field(piece: &[u8], at: usize) -> FoundField
     requires { IsQuoteAt piece.now at }
     ensures { IsFieldAt piece.now at result }
 {
-    if let Some(found) = near_quoted(piece, at) {
-        return found;
+    if let Some(text) = near_quoted(piece, at) {
+        let field = Field::Plain(text.span);
+        let stop = text.stop;
+        return FoundField { field, stop };
     }
     let stop = at + field_len(&piece[at..]);
     let field = Field::Quoted(Span {
@@ -171,13 +194,21 @@ pub(crate) fn split_record(piece: &[u8], start: usize, wanted: Wanted) -> Record
     split_rest(piece, Begun { given, at: start }, wanted)
 }
 
-/// Returns the number of the own bytes of the record at the start of the bytes.
+/// Returns the number of the own bytes of the record at the start of the bytes. A zone and a time
+/// between double quotes, as they are common, are passed over at once.
 pub(crate) fn own_len(bytes: &[u8]) -> usize
     requires { BeginsRecord bytes.now }
     ensures own { IsOwnLen bytes.now result }
     ensures ended { result < length bytes.now
         → IsEndOfRecord (state_at place.Start) bytes.now (result + 1) }
 {
+    let pair = Wanted {
+        zone: Some(0),
+        time: 1,
+    };
+    if let Some(plain) = split_quoted_pair(bytes, 0, pair) {
+        return plain.end;
+    }
     let none = Wanted {
         zone: None,
         time: usize::MAX,

@@ -7,8 +7,11 @@ use Rattle.zic_columns.specs.Own.{own_texts}
 use Rattle.zic_columns.specs.Record.{IsSplit, StandsIn, bytes_at, field_text, wanted_text}
 use Rattle.zic_columns.specs.code.Block.{ends_field}
 use Rattle.zic_columns.specs.code.Machine.{IsEndOfRecord, ReadsTo}
+use Rattle.zic_columns.specs.declared.fields.Field.TheVariants.{Plain}
 use Rattle.zic_columns.specs.declared.fields.Record.{Record}
 use Rattle.zic_columns.specs.declared.fields.Wanted.{Wanted}
+use Rattle.zic_columns.specs.declared.walk.FoundField.{FoundField}
+use Rattle.zic_columns.specs.declared.walk.QuotedText.{QuotedText}
 use Rattle.memchr.specs.Find.{Nowhere, Passes}
 
 -- no comma or line end stands from an index up to another, at which there is one or the end
@@ -22,6 +25,10 @@ pub record IsFieldEnd (bytes : List ℕ) (at stop : ℕ) : Type 0 where
 pub record IsQuoteAt (bytes : List ℕ) (at : ℕ) : Type 0 where
   pub within : at < length bytes
   pub here : slice_index bytes at ≡ 34
+
+-- the field whose text stands between two double quotes
+abbrev pub quoted_field : QuotedText → FoundField
+quoted_field text = record { field = Plain text.span; stop = text.stop }
 
 -- of these fields a record has the number and the wanted ones
 pub record HasFields (piece : List ℕ) (wanted : Wanted) (fields : List (List ℕ)) (given : Record) : Type 0 where

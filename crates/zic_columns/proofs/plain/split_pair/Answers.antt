@@ -1,9 +1,9 @@
-use Rattle.std.proofs.Common.{◌≡◌, ◌+◌, ◌==◌, false, get_or, inr, refl, sym, subst, arith}
+use Rattle.std.proofs.Common.{◌≡◌, ◌+◌, ◌==◌, false, get_or, inr, refl, arith}
 use Rattle.std.proofs.lemmas.Bool.{ne_eqb}
 use Rattle.std.proofs.lemmas.List.{length-drop}
 use Rattle.zic_columns.specs.Column.{ends_line}
 use Rattle.zic_columns.specs.code.Field.{IsFieldAt}
-use Rattle.zic_columns.specs.code.Plain.{IsPlainFrom, no_fields, record_of}
+use Rattle.zic_columns.specs.code.Plain.{no_fields, record_of}
 use Rattle.zic_columns.proofs.FieldFacts.{either}
 use Rattle.zic_columns.proofs.WalkFacts.{field_ends, field_to, plain_at, record_out, walked_none, walked_on}
 use Rattle.zic_columns.proofs.plain.split_pair.Goals as goal
@@ -27,7 +27,7 @@ returns-clause-some c =
     let found : IsFieldAt piece (comma + 1) (field_to (comma + 1) stop) = plain_at piece (comma + 1) stop last.end (λ _. c.if-piece-comma-eq34.false) in
     let both = c.with_span.ensures.has piece start start wanted walked.fields sought walked.has (found.low, found.high) in
     let other : (get_or piece stop 0 == 44) ≡ false = ne_eqb (get_or piece stop 0) 44 c.if-piece-end-eq44.false in
-    subst (IsPlainFrom piece start wanted c.next_end-2.new.self) (sym c.record_of.ensures) (record {
+    record {
       from = record_out piece start wanted (record_of start start c.with_span-zone.result) (comma + 1) walked (field_to (comma + 1) stop) found c.requires.begins
           (record_of start stop c.with_span.result) refl
           (record { count = both.count; zone_stands = both.zone_stands; zone = both.zone; time_stands = both.time_stands; time = both.time })
@@ -37,4 +37,4 @@ returns-clause-some c =
         here = either (get_or piece stop 0 == 44) (ends_line (get_or piece stop 0)) (field_ends piece (comma + 1) stop last.end last.within) other;
       };
       shows = last.shows;
-    })
+    }
