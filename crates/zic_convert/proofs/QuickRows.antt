@@ -1,5 +1,5 @@
 -- Rows of records in which all that they show is at hand.
-use Rattle.std.proofs.Common.{◌≡◌, ◌≤◌, ◌<◌, ◌+◌, ◌∙◌, ℕ, ℤ, Bool, true, List, ◌∷◌, ◌++◌, Some, None, ap, ap₂, append_assoc, arith, length, length-append, refl, subst, sym, take, drop, get_or}
+use Rattle.std.proofs.Common.{◌≡◌, ◌≤◌, ◌<◌, ◌+◌, ◌∙◌, ℕ, ℤ, Bool, true, List, [], ◌∷◌, ◌++◌, Some, None, ap, ap₂, append_assoc, arith, length, length-append, refl, subst, sym, take, drop, get_or}
 use Rattle.std.specs.Prelude.{int_le, slice_range, ◌&&◌}
 use Rattle.std.proofs.lemmas.Int.{ints}
 use Rattle.zic_base.specs.State.{Shown}
@@ -51,6 +51,10 @@ own_begins piece given split k zone time by_field plain first next last within c
     let here : bytes_at bytes given.own ≡ slice_range bytes zone.start time.end = ap₂ (λ (a b : ℕ). slice_range bytes a b) (sym first) (sym last) in
     let row_record = joined bytes zone.start zone.end time.end stands.0 (omega (arith, next, within.0)) within.1 comma in
     here ∙ row_record ∙ ap₂ (λ (l : List ℕ) (n : ℕ). l ++ 44 ∷ slice_range bytes n time.end) name next
+
+-- a name, and then a comma
+pub comma_pushed : (old name a b : List ℕ) → a ≡ old ++ name → b ≡ a ++ 44 ∷ [] → b ≡ old ++ (name ++ 44 ∷ [])
+comma_pushed old name a b is_a is_b = is_b ∙ ap (λ (l : List ℕ). l ++ 44 ∷ []) is_a ∙ append_assoc old name (44 ∷ [])
 
 -- a row that is appended in parts is longer than what was there
 pub longer : (old begun part start rest all : List ℕ) → begun ++ part ≡ old ++ start → all ≡ begun ++ (part ++ rest) → length old ≤ length all

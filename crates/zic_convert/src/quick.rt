@@ -1,13 +1,13 @@
 //! The quick way to the text of a row, where all that it shows is at hand.
 
-ghost use Rattle.std.specs.Prelude.{◌≡◌, ◌≢◌, ◌++◌, ◌∷◌, ◌≤◌, IfOk, IfSome, IsSome, IsTrue, List, OnOk, Some, drop, length, slice_get, take, ℕ};
+ghost use Rattle.std.specs.Prelude.{◌≡◌, ◌≢◌, ◌++◌, ◌∷◌, ◌≤◌, [], IfOk, IfSome, IsSome, IsTrue, List, OnOk, Some, drop, length, slice_get, take, ℕ};
 ghost use Rattle.zic_columns.specs.Exchange.{exchanged};
 ghost use Rattle.zic_columns.specs.Record.{IsSplit, IsWithin, bytes_at, field_text, record_at};
 ghost use Rattle.zic_slots.specs.declared.limit.TheConstants.{UNKNOWN};
 ghost use Rattle.zic_zones.specs.States.{HasState};
 ghost use Rattle.zic_zones.specs.Zones.{zone_in};
 ghost use Rattle.zic_convert.specs.LayoutRows.{IsTextBy};
-ghost use Rattle.zic_convert.specs.code.Batch.{IsQuickRow, wanted_by};
+ghost use Rattle.zic_convert.specs.code.Batch.{IsQuickRow, wanted_by, zone_at};
 ghost use Rattle.zic_convert.specs.code.Row.{field_start, put_back};
 
 use crate::piece::Piece;
@@ -76,6 +76,28 @@ fn begins_row(piece: &Piece<'_, '_>, given: &Record, time: Span) -> bool
     false
 }
 
+/// Appends the name of a record's zone, whose file has this number, and a comma: by the bytes of its
+/// field, where they stand in the piece.
+#[inline(always)]
+fn push_zone(
+    text: &mut RowText,
+    piece: &Piece<'_, '_>,
+    given: &Record,
+    file: usize,
+) -> Result<(), AllocError>
+    requires split { IsSplit piece.now.bytes.now (wanted_by piece.now.layout.now) given.now }
+    requires file { zone_at piece.now given.now ≡ Some file }
+    ensures { OnOk result (text.new ≡ text.old ++ (zone_in piece.now.layout.now.zone
+        (record_at piece.now.bytes.now given.now).fields ++ 44 ∷ [])) }
+{
+    if let (ZoneFrom::Field(_), Field::Plain(zone)) = (&piece.layout.zone, given.zone) {
+        return text.push_field(piece.bytes, zone.start, zone.end);
+    }
+    text.push(piece.zones.name(file))?;
+    text.push(b",")?;
+    Ok(())
+}
+
 /// Appends what a row begins with, with commas, up to the last bytes of it that stand together in the
 /// piece, and returns where these stand.
 #[inline(always)]
@@ -103,8 +125,7 @@ fn push_front(
             if begins_row(piece, given, time) {
                 return Ok(given.own);
             }
-            text.push(piece.zones.name(row.file))?;
-            text.push(b",")?;
+            push_zone(text, piece, given, row.file)?;
             Ok(time)
         }
     }

@@ -1,6 +1,6 @@
 //! The text of rows.
 
-ghost use Rattle.std.specs.Prelude.{◌≡◌, ◌+◌, ◌<◌, ◌≤◌, ◌++◌, [], drop, length, map, slice_range, take, IfOk, OnOk};
+ghost use Rattle.std.specs.Prelude.{◌≡◌, ◌+◌, ◌<◌, ◌≤◌, ◌++◌, ◌∷◌, [], drop, length, map, slice_range, take, IfOk, OnOk};
 ghost use Rattle.zic_rows.specs.Instant.{IsRowInstant};
 ghost use Rattle.zic_rows.specs.Row.{for_comma};
 ghost use Rattle.zic_rows.specs.Count.{timed_rest_text, units_of_second};
@@ -10,10 +10,11 @@ use crate::limit::{DAY, DAYS_TO_1970};
 use crate::row::local_seconds;
 use crate::row_time::RowTime;
 use crate::state_text::StateText;
-use crate::store::put_64;
+use crate::store::{put_16, put_64};
 use crate::timed_rest::{TIMED_ROOM, put_rest};
 use std::alloc::{AllocError, Global};
 use std::marker::Model;
+use std::simd::prelude::*;
 
 /// The room that the start of a row has, in bytes: where it is no longer, it is written at once.
 const START_ROOM: usize = 64;
@@ -99,6 +100,28 @@ impl RowText {
         let end = self.len + bytes.len();
         self.bytes[self.len..end].copy_from_slice(bytes);
         self.len = end;
+        Ok(())
+    }
+
+    /// Appends a part of some bytes, `start..end`, and a comma. Where memory runs out, a part may be
+    /// there.
+    #[inline(always)]
+    pub fn push_field(&mut self, bytes: &[u8], start: usize, end: usize) -> Result<(), AllocError>
+        requires order { start ≤ end }
+        requires within { end ≤ length bytes.now }
+        ensures { OnOk result
+            (self.new ≡ self.old ++ (slice_range bytes.now start end ++ 44 ∷ [])) }
+    {
+        let len = end - start;
+        let room = self.bytes.len() - self.len;
+        if len > START_ROOM || bytes.len() - start < START_ROOM || room < 2 * START_ROOM {
+            self.push(&bytes[start..end])?;
+            return self.push(b",");
+        }
+        let text: &mut [u8] = &mut self.bytes;
+        put_64(text, self.len, bytes, start, len);
+        put_16(text, self.len + len, u8x16::splat(b','), 1);
+        self.len += len + 1;
         Ok(())
     }
 
