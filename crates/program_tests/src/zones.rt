@@ -1,7 +1,7 @@
 //! Rows whose zone is found in the record, and whose text is at hand. The local times are those that
 //! GNU `date` gives for POSIX TZ strings with the same rules.
 
-ghost use Rattle.std.specs.Prelude.{◌≡◌};
+ghost use Rattle.std.specs.Prelude.{◌≡◌, ◌<◌, length};
 
 use crate::files::built;
 use crate::samples::{expect_text, must};
@@ -9,8 +9,8 @@ use std::process::Abort;
 use zic_files::Files;
 use zic_pieces::Open;
 use zic_plan::Unit;
-use zic_rows::{RowText, quick_time};
-use zic_zones::{RowZones, SourceZones, Zones};
+use zic_rows::{RowText, StateText, quick_time};
+use zic_zones::{RowStates, RowZones, SourceZones, UNKNOWN, Zones};
 
 /// A zone with no rule, one with two changes a year, 4 and 8 months apart, and one whose two changes
 /// of a year are 20 days apart: `IST-5:30`, `EST5EDT,M3.2.0,M11.1.0` and `AAA0BBB-1,J60/0,J80/0`.
@@ -62,6 +62,17 @@ const ROWS: [(&[u8], &[u8]); 9] = [
     ),
 ];
 
+/// Returns the text of the state that a file shows at an instant, where its number is at hand.
+fn state_at<'a>(states: &RowStates<'a>, file: usize, instant: i64) -> Option<&'a StateText>
+    requires { file < length states.now.files }
+{
+    let number = states.number(file, instant);
+    if number == UNKNOWN {
+        return None;
+    }
+    Some(states.text(number))
+}
+
 /// Appends the row of a record, and ends the test where its zone, time or text isn't at hand.
 fn push(rt: &impl Abort, text: &mut RowText, files: &Files, zones: &RowZones<'_>, record: &[u8])
     requires { zones.now ≡ files.now }
@@ -73,7 +84,7 @@ fn push(rt: &impl Abort, text: &mut RowText, files: &Files, zones: &RowZones<'_>
         let time = quick_time(record, start, end, Unit::Second);
         if let (Some(file), Some(time)) = (found, time) {
             if file < files.len() {
-                if let Some(state) = zones.quick_text(file, time.second) {
+                if let Some(state) = state_at(&zones.states(), file, time.second) {
                     must(rt, text.push_row(record, 0, end, time, state));
                     return;
                 }

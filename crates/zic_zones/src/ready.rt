@@ -149,13 +149,4 @@ impl Ready {
     {
         self.texts.get(self.state(file, number))
     }
-
-    /// Returns the text of the state that a file shows at an instant, where a table tells it.
-    #[inline(always)]
-    pub(crate) fn quick_text(&self, file: usize, instant: i64) -> Option<&StateText>
-        ensures { (files : List File) → AreReady files self.now
-            → IfSome result (λ text. AnswersAt files file instant text.now) }
-    {
-        self.texts.get(self.quick_state(file, instant))
-    }
 }

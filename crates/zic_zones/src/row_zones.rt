@@ -10,7 +10,7 @@ use crate::ready::Ready;
 use crate::row_states::RowStates;
 use std::marker::Model;
 use zic_files::Files;
-use zic_rows::{RowWriter, StateText};
+use zic_rows::RowWriter;
 use zic_tzif::{Answer, Instants};
 
 /// Some instants, and the number of the state that a zone shows at each of them.
@@ -108,29 +108,6 @@ impl<'a> RowZones<'a> {
             files: self.files,
             ready: self.ready,
         }
-    }
-
-    /// Returns the text of the state that a file shows at an instant, if it is at hand. `None` says
-    /// nothing.
-    #[inline(always)]
-    pub fn quick_text(&self, file: usize, instant: i64) -> Option<&'a StateText>
-        requires { file < length self.now }
-        ensures { IfSome result (λ text. AnswersAt self.now file instant text.now) }
-    {
-        match self.ready.quick_text(file, instant) {
-            Some(text) => Some(text),
-            None => self.text_by_span(file, instant),
-        }
-    }
-
-    /// Returns the text of the state that a file shows at an instant, if one was made, by a search.
-    #[inline(never)]
-    fn text_by_span(&self, file: usize, instant: i64) -> Option<&'a StateText>
-        requires { file < length self.now }
-        ensures { IfSome result (λ text. AnswersAt self.now file instant text.now) }
-    {
-        let span = self.span(file, instant);
-        self.ready.text(file, span.number)
     }
 
     /// Sets the state of the rows to come to that of a file with this number, which the file shows

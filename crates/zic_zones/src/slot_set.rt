@@ -1,6 +1,6 @@
 //! Slots by number, each kept once.
 
-ghost use Rattle.std.specs.Prelude.{◌≡◌, [], IfOk, IfSome, Some, slice_get};
+ghost use Rattle.std.specs.Prelude.{◌≡◌, [], IfOk, IfSome, IsTrue, Some, slice_get};
 ghost use Rattle.zic_zones.specs.code.Tables.{AreNumbersOfSlots};
 ghost use Rattle.zic_zones.specs.code.Texts.{Keeps};
 
@@ -65,25 +65,40 @@ impl SlotSet {
             self.places.resize(1 << BITS, UNKNOWN)?;
         }
         let mut numbers = Vec::with_capacity(alloc, slots.len())?;
+        let mut last = UNKNOWN;
         for slot in slots {
-            let Some(number) = self.number(*slot)? else {
+            let Some(number) = self.number(*slot, last)? else {
                 return Ok(None);
             };
             numbers.push(number)?;
+            last = number;
         }
         Ok(Some(numbers))
     }
 
     /// Returns the number of a slot, which is added if it isn't here, or `None` where the numbers are
-    /// all taken.
-    fn number(&mut self, slot: Slot) -> Result<Option<u16>, AllocError>
+    /// all taken. Many slots are the same as the one before, whose number is the last.
+    fn number(&mut self, slot: Slot, last: u16) -> Result<Option<u16>, AllocError>
         ensures kept { Keeps self.old self.new }
         ensures number { IfOk result (λ found. IfSome found
             (λ number. slice_get self.new number ≡ Some slot)) }
     {
+        if self.is_slot(last, slot) {
+            return Ok(Some(last));
+        }
         match self.find(slot) {
             Ok(number) => Ok(Some(number)),
             Err(place) => self.add(slot, place),
+        }
+    }
+
+    /// Returns whether a number is that of a slot.
+    fn is_slot(&self, number: u16, slot: Slot) -> bool
+        ensures { IsTrue result → slice_get self.now number ≡ Some slot }
+    {
+        match self.slot(number) {
+            Some(found) => found == slot,
+            None => false,
         }
     }
 
