@@ -1,7 +1,8 @@
 #!/usr/bin/env bash
 # Gives the program small versions of inputs that were made to cost it time or memory: sources whose
-# lines name one large set, stray quotes and long lines, also with `--explain`. Checks that each stays
-# within a bound of processor time and memory. Needs `python3` 3.9 or later.
+# lines name one large set, names that share a place of a table, many names of one file, stray quotes
+# and long lines, also with `--explain`. Checks that each stays within a bound of processor time and
+# memory. Needs `python3` 3.9 or later.
 set -euo pipefail
 cd "$(dirname "${BASH_SOURCE[0]}")/.."
 . .ci/build.sh

@@ -7,7 +7,9 @@ Each run has its answer checked too. Its memory may be at most the bound, by `ru
 Its processor time may be ten times what was measured on an idle machine, since other runs may be at work. Inputs are made in FOLDER.
 Prints a line for each run; the status is 1 where one is over a bound, or has another answer.
 """
+import itertools
 import os
+import struct
 import subprocess
 import sys
 
@@ -65,6 +67,69 @@ def sources(program):
     run("a line of 8 MiB, explained", [program, "check", "--explain", source], None, (0.1, 40), (1, "line 1: LineTooLong\n--> long.zi:1"))
 
 
+# ------------------------------------------------------------------ names
+
+def colliding(pairs, count):
+    """names of as many blocks, each one or the other of its pair"""
+    for blocks in itertools.islice(itertools.product(*pairs), count):
+        yield "".join(blocks)
+
+
+# Blocks of one value modulo 2^31 - 1 at the key 0x1e35a7bd, by which names are looked up where the system gives no random number.
+KEYED = [("HDwZloUl", "EBxGYeOf"), ("YwtmROxr", "UitXBafn"), ("mjlJDFlT", "svOEqgag"), ("snjnYGrO", "JbOgmKdj"), ("sEcaJMFs", "tPdDOwkC"),
+         ("OJReuCmh", "aRkEDVYg")]
+# Blocks of one value at 31, by which hashes of texts are often made.
+USUAL = [("Aa", "BB")]
+
+
+def value(block, key, modulus):
+    """the value of the polynomial of a block's bytes"""
+    total = 0
+    for byte in block.encode():
+        total = (total * key + byte) % modulus
+    return total
+
+
+def names(program):
+    """names that share a place of a table, and many names"""
+    for pairs, key, modulus in ((KEYED, 0x1e35a7bd, 2 ** 31 - 1), (USUAL, 31, 2 ** 32)):
+        assert all(value(one, key, modulus) == value(other, key, modulus) for one, other in pairs)
+    os.mkdir("empty")
+    for what, pairs in (("at 31", USUAL * 17), ("at the usual key", (KEYED * 3)[:17])):
+        column = written("column", (f"{name},0\n".encode() for name in colliding(pairs, 100_000)))
+        run(f"100,000 names of one hash {what}, of an empty tree", [program, "convert", "--keep-going", "--tree", "empty"], column, (0.4, 48),
+            (1, "row 1: RowZone\n100000 rows with faults"))
+    column = written("column", (f"Refused/Name_{i},0\n".encode() for i in range(400_000)))
+    run("400,000 names, of an empty tree", [program, "convert", "--keep-going", "--tree", "empty"], column, (1, 80),
+        (1, "row 1: RowZone\n400000 rows with faults"))
+
+
+# ------------------------------------------------------------------ files
+
+def tzif(count):
+    """a file of so many changes between two types, the last of which its TZ string continues"""
+    def block(size, times):
+        kinds = bytes(1 - i % 2 for i in range(times)) if size else b""
+        data = b"".join(struct.pack(">q", 600 * i) for i in range(times)) if size else b""
+        types = struct.pack(">ibb", 0, 0, 0) + (struct.pack(">ibb", 3600, 1, 4) if times else b"")
+        return data + kinds + types + (b"UTC\0EST\0" if times else b"UTC\0")
+
+    def header(times):
+        return b"TZif2" + bytes(15) + struct.pack(">6l", 0, 0, 0, times, 2 if times else 1, 8 if times else 4)
+
+    return header(0) + block(0, 0) + header(count) + block(8, count) + b"\nUTC0\n"
+
+
+def files(program):
+    """many names of one file"""
+    os.mkdir("tree")
+    written("tree/file", [tzif(100_000)])
+    for i in range(200):
+        os.link("tree/file", f"tree/name{i}")
+    column = written("column", (f"name{i},0\n".encode() for i in range(200)))
+    run("200 names of one file of 900 KB", [program, "convert", "--workers", "1", "--tree", "tree"], column, (1, 48), (0, ""))
+
+
 # ------------------------------------------------------------------ records
 
 def records(program):
@@ -87,7 +152,7 @@ def records(program):
 def main():
     program, folder = os.path.abspath(sys.argv[1]), sys.argv[2]
     os.chdir(folder)
-    for part in (sources, records):
+    for part in (sources, names, files, records):
         part(program)
     for difference in differences:
         print(difference, file=sys.stderr)

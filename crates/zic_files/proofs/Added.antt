@@ -1,10 +1,10 @@
 -- Files with one more.
-use Rattle.std.proofs.Common.{◌≡◌, ◌≢◌, ◌<◌, ◌+◌, ℕ, ℤ, true, List, [], ◌∷◌, ◌++◌, length, get_or, Option, Some, None, refl, sym, ap, subst, ◌∙◌, arith, length-append}
-use Rattle.std.specs.Prelude.{All, IfErr, IsSomeAnd, Result, Ok, Err, map}
-use Rattle.std.proofs.Math.Seq.{get_or-append_seam}
+use Rattle.std.proofs.Common.{◌≡◌, ◌≢◌, ◌<◌, ◌+◌, ℕ, ℤ, true, List, [], ◌∷◌, ◌++◌, length, Option, Some, None, refl, sym, ap, subst, ◌∙◌, arith, length-append}
+use Rattle.std.specs.Prelude.{All, IfErr, IsSomeAnd, Result, Ok, Err, map, slice_get}
 use Rattle.std.proofs.lemmas.List.{get_or_append_left, map-append}
 use Rattle.std.proofs.lemmas.List.Elements.{All-head, All-tail, All-push, All-weaker}
 use Rattle.std.proofs.lemmas.List.Quantifiers.{all_pairs_push}
+use Rattle.std.proofs.lemmas.Option.{get_or_from_slice_get, slice_get_within}
 use Rattle.zic_base.specs.State.{Shown}
 use Rattle.zic_words.specs.Limits.{IsWithinLimits}
 use Rattle.zic_words.specs.Name.{is_name}
@@ -63,51 +63,50 @@ kept_more images more entries names kept = record {
 
 -- ---- one more file
 
-file_added : (images : List FileImage) (name : List ℕ) (image : FileImage) (zone : ℕ) → zone ≡ length images
-    → file_of (images ++ image ∷ []) (record { name = name; zone = zone }) ≡ record { name = name; image = image }
-file_added images name image zone last =
-    let is : get_or (images ++ image ∷ []) zone no_image ≡ image =
-    subst (λ (k : ℕ). get_or (images ++ image ∷ []) k no_image ≡ image) (sym last) (get_or-append_seam images image [] no_image) in
-    ap (λ (found : FileImage). let file : File = record { name = name; image = found } in file) is
-
 pub sound_added : (files : List File) (file : File) → AreSoundFiles files → IsSoundFile file → All (λ (f : File). f.name ≢ file.name) files → AreSoundFiles (files ++ file ∷ [])
 sound_added files file sound one others = record {
   each = All-push IsSoundFile files file sound.each one;
   names_differ = all_pairs_push (λ (a b : File). a.name ≢ b.name) files file sound.names_differ others;
 }
 
-module _ (images : List FileImage) (entries : List Entry) (names : NameIndex) (name : List ℕ) (image : FileImage) (zone : ℕ) (kept : AreKept images entries names) (last : zone ≡ length images)
-    (images' : List FileImage) (pushed : images' ≡ images ++ image ∷ []) where
-  abbrev entry : Entry
-  entry = record { name = name; zone = zone }
+module _ (images : List FileImage) (entries : List Entry) (names : NameIndex) (kept : AreKept images entries names) (images' more : List FileImage) (grown : images' ≡ images ++ more) where
+  module _ (name : List ℕ) (image : FileImage) (zone : ℕ) (got : slice_get images' zone ≡ Some image) where
+    abbrev entry : Entry
+    entry = record { name = name; zone = zone }
 
-  abbrev file : File
-  file = record { name = name; image = image }
+    abbrev file : File
+    file = record { name = name; image = image }
 
-  pub files_added : (entries' : List Entry) → entries' ≡ entries ++ entry ∷ [] → map (file_of images') entries' ≡ map (file_of images) entries ++ file ∷ []
-  files_added entries' added =
-      rw (pushed, added) (map-append (file_of (images ++ image ∷ [])) entries (entry ∷ [])
-      ∙ ap (λ (files : List File). files ++ file_of (images ++ image ∷ []) entry ∷ []) (files_more images (image ∷ []) entries kept.zones)
-      ∙ ap (λ (f : File). map (file_of images) entries ++ f ∷ []) (file_added images name image zone last))
+    file_added : file_of images' entry ≡ file
+    file_added =
+        ap (λ (found : FileImage). let made : File = record { name = name; image = found } in made) (get_or_from_slice_get images' zone image no_image got)
 
-  -- the fields with the entry
-  pub kept_added : (entries' : List Entry) (now : NameIndex) (n : ℕ) → entries' ≡ entries ++ entry ∷ [] → IsSoundFile file → All (λ (f : File). f.name ≢ name) (map (file_of images) entries)
-      → n ≡ length entries → AreNumbersUpTo entries' (n + 1) now → AreKept images' entries' now
-  kept_added entries' now n added one others long numbers =
-      let within : zone < length (images ++ image ∷ []) = omega (arith, last, length-append images (image ∷ [])) in
-      record {
-        zones = rw (pushed, added) (All-push (λ (e : Entry). e.zone < length (images ++ image ∷ [])) entries entry (zones_more images (image ∷ []) entries kept.zones) within);
-        numbers = numbers_now entries entry entries' n added long now numbers;
-        sound = subst AreSoundFiles (sym (files_added entries' added)) (sound_added (map (file_of images) entries) file kept.sound one others);
-      }
+    pub files_added : (entries' : List Entry) → entries' ≡ entries ++ entry ∷ [] → map (file_of images') entries' ≡ map (file_of images) entries ++ file ∷ []
+    files_added entries' added =
+        ap (map (file_of images')) added
+        ∙ map-append (file_of images') entries (entry ∷ [])
+        ∙ ap (λ (files : List File). files ++ file_of images' entry ∷ []) (ap (λ (l : List FileImage). map (file_of l) entries) grown ∙ files_more images more entries kept.zones)
+        ∙ ap (λ (f : File). map (file_of images) entries ++ f ∷ []) file_added
+
+    -- the fields with the entry
+    pub kept_added : (entries' : List Entry) (now : NameIndex) (n : ℕ) → entries' ≡ entries ++ entry ∷ [] → IsSoundFile file → All (λ (f : File). f.name ≢ name) (map (file_of images) entries)
+        → n ≡ length entries → AreNumbersUpTo entries' (n + 1) now → AreKept images' entries' now
+    kept_added entries' now n added one others long numbers =
+        let within : zone < length images' = slice_get_within images' zone image got in
+        let before : All (λ (e : Entry). e.zone < length images') entries = rw grown (zones_more images more entries kept.zones) in
+        record {
+          zones = rw added (All-push (λ (e : Entry). e.zone < length images') entries entry before within);
+          numbers = numbers_now entries entry entries' n added long now numbers;
+          sound = subst AreSoundFiles (sym (files_added entries' added)) (sound_added (map (file_of images) entries) file kept.sound one others);
+        }
 
   -- the fields without it
   pub files_refused : (entries' : List Entry) → entries' ≡ entries → map (file_of images') entries' ≡ map (file_of images) entries
-  files_refused entries' same = rw (pushed, same) (files_more images (image ∷ []) entries kept.zones)
+  files_refused entries' same = rw (grown, same) (files_more images more entries kept.zones)
 
   pub kept_refused : (entries' : List Entry) (now : NameIndex) → entries' ≡ entries → AreNumbersOf entries now → AreKept images' entries' now
   kept_refused entries' now same numbers = record {
-    zones = rw (pushed, same) (zones_more images (image ∷ []) entries kept.zones);
+    zones = rw (grown, same) (zones_more images more entries kept.zones);
     numbers = rw same numbers;
     sound = subst AreSoundFiles (sym (files_refused entries' same)) kept.sound;
   }

@@ -1,4 +1,5 @@
 pub mod Numbers
+pub mod SameBytes
 pub mod Added
 pub mod Fits
 pub mod Having

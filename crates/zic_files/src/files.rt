@@ -8,6 +8,7 @@ ghost use Rattle.zic_files.specs.Sound.{IsAlwaysKnown, IsSoundFile, AreSoundFile
 
 use crate::entry::Entry;
 use crate::image::Image;
+use crate::images::Images;
 use crate::name_index::NameIndex;
 use std::alloc::{AllocError, Global};
 use std::marker::Model;
@@ -19,7 +20,7 @@ use zic_words::Name;
 /// A link shares the image of its zone. The names of files differ.
 #[derive(Debug, Drop)]
 pub struct Files {
-    images: Vec<Image>,
+    images: Images,
     entries: Vec<Entry>,
     names: NameIndex,
 }
@@ -31,31 +32,44 @@ impl Model for Files {
 
     ghost Value = { List File };
 
-    ghost view = { λ f. map (file_of f.images.items) f.entries.items };
+    ghost view = { λ f. map (file_of f.images) f.entries.items };
 
-    ghost invariant = { λ f. AreKept f.images.items f.entries.items f.names };
+    ghost invariant = { λ f. AreKept f.images f.entries.items f.names };
 }
 
 impl Files {
     ghost use Rattle.std.specs.Prelude.{map};
     ghost use Rattle.zic_files.specs.File.{file_of};
 
-    /// Returns the files of these entries, each with the image of its zone.
+    /// Returns no files, which are looked up by this key.
+    pub(crate) fn none(alloc: Global, key: u64) -> Files
+        ensures { result ≡ [] }
+    {
+        Files {
+            images: Images::of(alloc, Vec::new(alloc)),
+            entries: Vec::new(alloc),
+            names: NameIndex::new(alloc, key),
+        }
+    }
+
+    /// Returns the files of these entries, each with the image of its zone. They are looked up by the
+    /// key 0.
     pub fn new(alloc: Global, images: Vec<Image>, entries: Vec<Entry>) -> Result<Files, AllocError>
         requires images { All (λ entry. entry.zone < length images.items) entries.items }
         requires sound { AreSoundFiles (map (file_of images.items) entries.items) }
         ensures ok { IfOk result (λ files. files ≡ map (file_of images.items) entries.items) }
         ensures memory { IfErr result (λ _. 0 < length entries.items) }
     {
-        let names = NameIndex::of(alloc, &entries)?;
+        let names = NameIndex::of(alloc, 0, &entries)?;
         Ok(Files {
-            images,
+            images: Images::of(alloc, images),
             entries,
             names,
         })
     }
 
-    /// Adds a file, after all others. The files stay as they are where memory is refused.
+    /// Adds a file, after all others. Files with the same bytes share one image, where that is seen.
+    /// The files stay as they are where memory is refused.
     pub fn add(&mut self, alloc: Global, name: Name, image: Image) -> Result<(), AllocError>
         requires new { All (λ file. file.name ≢ name) self.old }
         requires fit { IsFit image.content }
@@ -64,8 +78,7 @@ impl Files {
         ensures err { IfErr result (λ _. self.new ≡ self.old) }
     {
         file_is_sound(&name, &image);
-        let zone = self.images.len();
-        self.images.push(image)?;
+        let zone = self.images.add(image)?;
         let number = self.entries.len();
         self.entries.push(Entry { name, zone })?;
         match self.names.add(alloc, &self.entries, number) {
@@ -132,8 +145,7 @@ impl Files {
         requires { i < length self.now }
         ensures { IfSome (slice_get self.now i) (λ file. result.now ≡ file.image) }
     {
-        let entry = &self.entries[i];
-        &self.images[entry.zone]
+        self.images.get(self.entries[i].zone)
     }
 }
 

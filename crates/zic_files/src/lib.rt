@@ -4,6 +4,7 @@
 mod entry;
 mod files;
 mod image;
+mod images;
 pub mod laws;
 mod limit;
 mod name_index;

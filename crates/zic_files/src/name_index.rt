@@ -10,32 +10,40 @@ use std::alloc::{AllocError, Global};
 /// that few names share one.
 const BUCKETS: usize = 4096;
 
+/// Makes another key of 0, by which only the last byte of a name would count.
+const KEY_OF_ZERO: u64 = 0x1e35_a7bd;
+
 /// The numbers of files by their names: of each bucket of names the last file, and of each file the
 /// one before it in its bucket. Both are a number from 1, or 0 where there is none. There are at least
 /// as many buckets as names.
+///
+/// Which names share a bucket depends on a key, so that whoever chooses names without knowing it can't
+/// have many of them in one. What is found doesn't depend on it.
 #[derive(Debug, Drop)]
 pub(crate) struct NameIndex {
+    key: u64,
     last: Vec<u32>,
     before: Vec<u32>,
 }
 
 impl NameIndex {
-    /// Returns the index of no file.
-    pub(crate) fn new(alloc: Global) -> NameIndex
+    /// Returns the index of no file, by this key.
+    pub(crate) fn new(alloc: Global, key: u64) -> NameIndex
         ensures { AreNumbersOf [] result }
     {
         NameIndex {
+            key: key ^ KEY_OF_ZERO,
             last: Vec::new(alloc),
             before: Vec::new(alloc),
         }
     }
 
-    /// Returns the index of the files of these entries.
-    pub(crate) fn of(alloc: Global, entries: &[Entry]) -> Result<NameIndex, AllocError>
+    /// Returns the index of the files of these entries, by this key.
+    pub(crate) fn of(alloc: Global, key: u64, entries: &[Entry]) -> Result<NameIndex, AllocError>
         ensures ok { IfOk result (AreNumbersOf entries.now) }
         ensures memory { IfErr result (λ _. 0 < length entries.now) }
     {
-        let mut index = NameIndex::new(alloc);
+        let mut index = NameIndex::new(alloc, key);
         for number in 0..entries.len() {
             index.add(alloc, entries, number)?;
         }
@@ -49,7 +57,7 @@ impl NameIndex {
             (λ i. IsSomeAnd (slice_get entries.now i) (λ entry. entry.name ≡ name.now)) }
         ensures missing { IfNone result (All (λ entry. entry.name ≢ name.now) entries.now) }
     {
-        let mut rest = self.last_in(bucket_of(name, self.last.len()));
+        let mut rest = self.last_in(bucket_of(self.key, name, self.last.len()));
         while rest > 0 {
             let number = rest - 1;
             if entries[number].name.octets() == name {
@@ -87,14 +95,15 @@ impl NameIndex {
             return Err(AllocError);
         }
         if self.last.len() <= number {
-            *self = NameIndex::with_more_buckets(alloc, entries, number)?;
+            *self = NameIndex::with_more_buckets(alloc, self.key, entries, number)?;
         }
         self.link(entries, number)
     }
 
-    /// Makes the index of the first files, with twice as many buckets.
+    /// Makes the index of the first files by this key, with twice as many buckets.
     fn with_more_buckets(
         alloc: Global,
+        key: u64,
         entries: &[Entry],
         count: usize,
     ) -> Result<NameIndex, AllocError>
@@ -104,6 +113,7 @@ impl NameIndex {
         ensures buckets { IfOk result (λ index. 0 < length index.last.items) }
     {
         let mut index = NameIndex {
+            key,
             last: vec![in alloc; 0; BUCKETS.max(2 * count)]?,
             before: Vec::with_capacity(alloc, count)?,
         };
@@ -123,7 +133,7 @@ impl NameIndex {
         ensures err { OnErr result (AreNumbersUpTo entries.now number self.new) }
         ensures buckets { length self.new.last.items ≡ length self.old.last.items }
     {
-        let bucket = bucket_of(entries[number].name.octets(), self.last.len());
+        let bucket = bucket_of(self.key, entries[number].name.octets(), self.last.len());
         self.before.push(self.last[bucket])?;
         self.last[bucket] = (number + 1) as u32;
         Ok(())
@@ -132,20 +142,24 @@ impl NameIndex {
 
 /// Returns the bucket of a name, of this many buckets: the lower bits of its hash, where they are a
 /// power of two.
-fn bucket_of(name: &[u8], buckets: usize) -> usize
-    ensures value { result ≡ bucket_of buckets name.now }
+fn bucket_of(key: u64, name: &[u8], buckets: usize) -> usize
+    ensures value { result ≡ bucket_of key buckets name.now }
     ensures within { 0 < buckets → result < buckets }
 {
-    hash_of(name) as usize & buckets.saturating_sub(1)
+    hash_of(key, name) as usize & buckets.saturating_sub(1)
 }
 
-/// Returns a hash of all bytes of a name.
-fn hash_of(name: &[u8]) -> u64
-    ensures value { result ≡ hash_of name.now }
+/// Returns a hash of all bytes of a name, below 2^33: the value of a polynomial that they are the
+/// coefficients of at the lower 30 bits of the key, modulo the prime 2^31 - 1.
+fn hash_of(key: u64, name: &[u8]) -> u64
+    ensures value { result ≡ hash_of key name.now }
 {
-    let mut hash = 0u64;
+    let point = key % (1 << 30);
+    let mut hash = 1u64;
     for byte in name {
-        hash = (hash * 31 + u64::from(*byte)) % (1 << 32);
+        let next = hash * point + u64::from(*byte);
+        // 2^31 is 1 more than the prime.
+        hash = next % (1 << 31) + next / (1 << 31);
     }
     hash
 }

@@ -29,13 +29,13 @@ impl Model for Names {
 }
 
 impl Names {
-    /// Returns no names.
-    pub(crate) fn new(alloc: Global) -> Names
+    /// Returns no names, which are looked up by this key.
+    pub(crate) fn new(alloc: Global, key: u64) -> Names
         ensures { result ≡ [] }
     {
         Names {
             entries: Vec::new(alloc),
-            index: NameIndex::new(alloc),
+            index: NameIndex::new(alloc, key),
         }
     }
 

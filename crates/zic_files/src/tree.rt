@@ -52,15 +52,14 @@ impl Model for TreeFiles {
 }
 
 impl TreeFiles {
-    /// Returns no files, of a tree that was asked for nothing.
-    pub fn new(alloc: Global) -> TreeFiles
+    /// Returns no files, of a tree that was asked for nothing. Names are looked up by this key: those
+    /// that were chosen without knowing it don't make that slow. What is found doesn't depend on it.
+    pub fn new(alloc: Global, key: u64) -> TreeFiles
         ensures { IsLearntFrom [] result }
     {
-        let asked = Names::new(alloc);
-        match Files::new(alloc, Vec::new(alloc), Vec::new(alloc)) {
-            Ok(files) => TreeFiles { asked, files },
-            // No files need no memory.
-            Err(AllocError) => unreachable!(),
+        TreeFiles {
+            asked: Names::new(alloc, key),
+            files: Files::none(alloc, key),
         }
     }
 

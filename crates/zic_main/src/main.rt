@@ -96,7 +96,7 @@ fn answer<
             } else {
                 Durability::Later
             };
-            let mut disk = Disk::new(rt.alloc(), rt, number_of_run(rt), durability);
+            let mut disk = Disk::new(rt.alloc(), rt, random_number(rt), durability);
             build(rt, &plan, texts, &mut disk, folder.as_str(), links)?;
             disk.sync()
         }
@@ -175,8 +175,9 @@ fn build<R: Files + AllocGlobal + Threads + Wait + Sync>(
     zic_commands::build_linked(rt, alloc, plan, texts, disk, &folder)
 }
 
-/// Returns a number that no other run at the same time has: a random one, or 0 where there is none.
-fn number_of_run<R: RandomSource>(rt: &R) -> u64 {
+/// Returns a random number, which no other run has and nobody knows before, or 0 where the system gives
+/// none.
+fn random_number<R: RandomSource>(rt: &R) -> u64 {
     let mut bytes = [0; 8];
     let _ = rt.fill_bytes(&mut bytes);
     u64::from_le_bytes(bytes)
@@ -222,7 +223,7 @@ fn large_block(alloc: Global) -> Result<Vec<u8>, AllocError> {
 /// Converts standard input to standard output, and tells of the rows. Where the run goes on after
 /// faults, it writes them to a file, if one is named.
 fn convert<
-    R: Files + Input + Print + Clock + AllocGlobal + Threads + Wait + Sync,
+    R: Files + Input + Print + Clock + RandomSource + AllocGlobal + Threads + Wait + Sync,
     E: Write + IsTerminal + Drop,
 >(rt: &R, order: &Conversion, errors: E, texts: &mut Vec<Vec<u8>>) -> Result<(), Failure> {
     keep_memory(rt.alloc());
@@ -249,7 +250,7 @@ fn expect_folder<R: Files>(rt: &R, path: &String) -> Result<(), Failure> {
 /// Converts standard input, and writes the faults of rows to the file of this path. The file is made or
 /// emptied once rows are converted: what stops the run before leaves it as it is.
 fn convert_noted<
-    R: Files + Input + Print + Clock + AllocGlobal + Threads + Wait + Sync,
+    R: Files + Input + Print + Clock + RandomSource + AllocGlobal + Threads + Wait + Sync,
     E: Write + Drop,
 >(
     rt: &R,
@@ -301,7 +302,7 @@ fn faults_of<W: Write>(list: &FaultList<W>) -> Result<(), Failure> {
 
 /// Converts standard input to standard output, tells of the rows, and takes note of faults.
 fn convert_rows<
-    R: Files + Input + Print + Clock + AllocGlobal + Threads + Wait + Sync,
+    R: Files + Input + Print + Clock + RandomSource + AllocGlobal + Threads + Wait + Sync,
     E: Write + Drop,
     W: Write,
 >(
@@ -322,7 +323,12 @@ fn convert_rows<
 }
 
 /// Converts a column by the files of the texts, or by those of a folder. Returns the number of rows.
-fn convert_column<R: Files + AllocGlobal + Threads + Wait + Sync, I: Read, W: Write, L: FaultLog>(
+fn convert_column<
+    R: Files + RandomSource + AllocGlobal + Threads + Wait + Sync,
+    I: Read,
+    W: Write,
+    L: FaultLog,
+>(
     rt: &R,
     order: &Conversion,
     texts: &[Vec<u8>],
@@ -343,7 +349,7 @@ fn convert_column<R: Files + AllocGlobal + Threads + Wait + Sync, I: Read, W: Wr
         }
         Zones::Tree(folder) => {
             let folder = ZoneFolder::new(rt, folder.as_str());
-            let mut zones = TreeZones::new(rt.alloc(), folder);
+            let mut zones = TreeZones::new(rt.alloc(), random_number(rt), folder);
             zic_commands::convert(&conversion, &mut zones, input, output, faults)
         }
     }

@@ -42,14 +42,15 @@ impl<T: ZoneTree> Model for TreeZones<T> {
 }
 
 impl<T: ZoneTree> TreeZones<T> {
-    /// Returns the zones of a tree that was asked for nothing.
-    pub fn new(alloc: Global, tree: T) -> TreeZones<T>
+    /// Returns the zones of a tree that was asked for nothing. Names are looked up by this key: those
+    /// that were chosen without knowing it don't make that slow. No row depends on it.
+    pub fn new(alloc: Global, key: u64, tree: T) -> TreeZones<T>
         ensures tree { result.tree ≡ tree }
         ensures none { IsLearntFrom [] result.learnt }
     {
         TreeZones {
             tree,
-            learnt: TreeFiles::new(alloc),
+            learnt: TreeFiles::new(alloc, key),
             ready: Ready::new(alloc, Expected::ManyRows),
         }
     }

@@ -4,6 +4,6 @@ use Rattle.zic_files.proofs.name_index.hash_of.Given as goal
 
 abbrev pub invariant-loop-byte : goal.invariant-loop-byte
 invariant-loop-byte l = record {
-  few : l.hash < 2 ^ 32;
-  is : l.hash ≡ hash_of (take l.byte-index l.name);
+  few : l.hash < 2 ^ 33;
+  is : l.hash ≡ hash_of l.key (take l.byte-index l.name);
 }

@@ -11,7 +11,7 @@ returns-clause-found c =
     let name = c.args.name.now in
     let found = subst (λ (entries : List Entry). IfSome c.number.result (λ k. IsSomeAnd (slice_get entries k) (λ entry. entry.name ≡ name))) c.deref.ensures.value c.number.ensures.found in
     subst (λ (files : List File). IfSome c.number.result (λ k. IsSomeAnd (slice_get files k) (λ file. file.name ≡ name))) c.self.view_is
-    (file_found i.images.items i.entries.items name c.number.result found)
+    (file_found i.images i.entries.items name c.number.result found)
 
 pub returns-clause-missing : goal.returns-clause-missing
 returns-clause-missing c =
@@ -19,4 +19,4 @@ returns-clause-missing c =
     let name = c.args.name.now in
     let missing = subst (λ (entries : List Entry). IfNone c.number.result (All (λ entry. entry.name ≢ name) entries)) c.deref.ensures.value c.number.ensures.missing in
     subst (λ (files : List File). IfNone c.number.result (All (λ file. file.name ≢ name) files)) c.self.view_is
-    (file_missing i.images.items i.entries.items name c.number.result missing)
+    (file_missing i.images i.entries.items name c.number.result missing)

@@ -3,7 +3,7 @@ use Rattle.std.proofs.lemmas.List.{get_or_default}
 use Rattle.std.proofs.lemmas.Option.{slice_get_read}
 use Rattle.zic_files.specs.declared.entry.Entry.{Entry}
 use Rattle.zic_files.specs.code.NameIndex.{bucket_of}
-use Rattle.zic_files.proofs.Numbers.{numbers_more}
+use Rattle.zic_files.proofs.Numbers.{numbers_more, numbers_same, on_err}
 use Rattle.zic_files.proofs.name_index.NameIndex.link.Goals as goal
 
 pub returns-clause-ok : goal.returns-clause-ok
@@ -18,6 +18,9 @@ returns-clause-ok c =
     let few : bucket < c.len.result = c.bucket_of-bucket.ensures.within (omega (arith, c.requires.some)) in
     let within : bucket < length last = omega (arith, few, buckets) in
     let at = slice_get_read entries (length entries) n entry refl c.requires.within c.index-entries-number.is in
-    let of_name = c.bucket_of-bucket.ensures.value ∙ ap (λ (k : ℕ). bucket_of k c.octets.result.now) buckets ∙ ap (bucket_of (length last)) (c.octets.ensures.octets ∙ ap (λ (x : Entry). x.name) (sym c.index-entries-number.is)) in
+    let of_name = c.bucket_of-bucket.ensures.value ∙ ap (λ (k : ℕ). bucket_of c.args.self.now.key k c.octets.result.now) buckets ∙ ap (bucket_of c.args.self.now.key (length last)) (c.octets.ensures.octets ∙ ap (λ (x : Entry). x.name) (sym c.index-entries-number.is)) in
     let read : c.index.result.now ≡ get_or last bucket 0 = c.index.ensures ∙ get_or_default last bucket c.index.result.now 0 within in
-    numbers_more entries n bucket entry c.args.self.now _ c.requires.numbers within at of_name refl (c.in_ok-push.ensures.items ∙ ap (λ (k : _). before ++ k ∷ []) read)
+    numbers_more entries n bucket entry c.args.self.now _ c.requires.numbers within at of_name refl refl (c.in_ok-push.ensures.items ∙ ap (λ (k : _). before ++ k ∷ []) read)
+
+pub returns-in_err-push-clause-err : goal.returns-in_err-push-clause-err
+returns-in_err-push-clause-err c = on_err c.from_residual.result _ (numbers_same c.args.entries.now c.args.number c.args.self.now _ c.requires.numbers refl refl c.in_err-push.ensures.items)
