@@ -6,9 +6,9 @@ use std::sync::Mutex;
 use zic_rows::RowText;
 
 /// The longest text that is kept, in bytes.
-const LONGEST_KEPT: usize = 4_194_304;
+const LONGEST_KEPT: usize = 1_048_576;
 
-/// Texts whose rows were written, for the rows of later rounds: a text that is new has its room cleared
+/// Texts whose rows were written, for the rows of the next round: a text that is new has its room cleared
 /// first. Several threads may take texts at a time, and none waits for another.
 #[derive(Drop)]
 pub(crate) struct SpareTexts {
@@ -38,12 +38,13 @@ impl SpareTexts {
         texts.pop()
     }
 
-    /// Keeps the texts of rows that were written. A text that is too long for that, or that memory is
-    /// refused for, is given up.
+    /// Keeps the texts of rows that were written in a round, and no others, so that there are never more
+    /// than one round has. A text that is too long for that, or that memory is refused for, is given up.
     pub(crate) fn keep(&self, written: Vec<Rows>) {
         let Some(mut texts) = self.texts.try_lock() else {
             return;
         };
+        texts.clear();
         for rows in written {
             if rows.text.len() <= LONGEST_KEPT && texts.push(rows.text).is_err() {
                 return;
