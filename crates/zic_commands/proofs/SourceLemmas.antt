@@ -12,7 +12,7 @@ use Rattle.zic_plan.specs.declared.layout.Layout.{Layout}
 use Rattle.zic_plan.specs.declared.layout.ZoneFrom.{ZoneFrom}
 use Rattle.zic_plan.specs.declared.layout.ZoneFrom.TheVariants as zone
 use Rattle.zic_commands.specs.Converting.{ConvertsBySource, IsFailureAfterTexts, IsFailureByFiles}
-use Rattle.zic_file_commands.specs.Converting.{Converts, IsFailureOfConvert, IsFailureOfZone, IsFailureOfZones}
+use Rattle.zic_file_commands.specs.Converting.{Converts, IsFailureOfConvert, IsFailureOfZone, IsFailureOfZones, zones_of}
 
 -- the files of a source stay
 abbrev Stays : List File → List File → Type 0
@@ -31,13 +31,13 @@ module _ (files : List File) (sound : AreSoundFiles files) where
   only zones same = (sym same, subst AreSoundFiles (sym same) sound)
 
   module _ {R W : Type 0} (plan : Limits) (layout : Layout) (run : Run R W) (zones zones' : List File) (are : zones ≡ files) where
-    without_zone : (from : ZoneFrom) (failure : Failure) → IsFailureOfZones Stays Stays Only zones zones' from failure
+    without_zone : (from : ZoneFrom) (failure : Failure) → IsFailureOfZones from (zones_of Stays Stays StaysFor Only zones zones') failure
         → (failure ≡ failures.Memory) ⊎ IsFailureOfZone files from failure
     without_zone (zone.Field index) failure none = absurd none
     without_zone (zone.Name name) failure (inl memory) = inl memory.0
     without_zone (zone.Name name) failure (inr none) = inr (none.1 files (only zones' (none.0 ∙ are)))
 
-    pub by_files : (failure : Failure) → IsFailureOfConvert Stays Stays StaysFor Only plan layout run zones zones' failure → IsFailureByFiles plan layout run files failure
+    pub by_files : (failure : Failure) → IsFailureOfConvert plan layout run (zones_of Stays Stays StaysFor Only zones zones') failure → IsFailureByFiles plan layout run files failure
     by_files failure (inl none) = inl (none.untouched, without_zone layout.zone failure none.of_zones)
     by_files failure (inr (inl names)) = inr (inl (record {
       has_zone = names.has_zone files (only zones' (names.grown ∙ are));
@@ -55,7 +55,7 @@ module _ (files : List File) (sound : AreSoundFiles files) where
     all_by_source texts of (Err e) stays all = tt
 
     pub fails_after_texts : (texts : List (List ℕ)) → AreFilesOfTexts texts files → (result : Result ℕ Failure)
-        → IfErr result (IsFailureOfConvert Stays Stays StaysFor Only plan layout run zones zones')
+        → IfErr result (IsFailureOfConvert plan layout run (zones_of Stays Stays StaysFor Only zones zones'))
         → IfErr result (λ failure. (IsFailureAfterTexts texts plan layout run failure))
     fails_after_texts texts of (Ok n) fails = tt
     fails_after_texts texts of (Err e) fails = record { files = files; are_files = of; by_files = by_files e fails }

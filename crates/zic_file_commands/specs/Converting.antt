@@ -38,48 +38,57 @@ pub record IsUntouched {R W : Type 0} (run : Run R W) : Type 0 where
   pub unwritten : run.writer' ≡ run.writer
   pub unnoted : run.output.log' ≡ run.output.log
 
+-- The zones of a conversion, before it and after it: how zones grow as names are asked for and break as memory is refused, what may come of
+-- them where one name alone is asked for, and the files that rows may be made by.
+pub record ZonesAsked (Z : Type 0) : Type 1 where
+  pub grown : Z → Z → Type 0
+  pub broken : Z → Z → Type 0
+  pub asked_for : Z → List ℕ → Z → Type 0
+  pub may_be : Z → List File → Type 0
+  pub zones : Z
+  pub zones' : Z
+
+abbrev pub zones_of : {Z : Type 0} → (Grown Broken : Z → Z → Type 0) → (Z → List ℕ → Z → Type 0) → (Z → List File → Type 0) → Z → Z → ZonesAsked Z
+zones_of Grown Broken AskedFor MayBe zones zones' = record { grown = Grown; broken = Broken; asked_for = AskedFor; may_be = MayBe; zones = zones; zones' = zones' }
+
 -- no zone was asked for but the one that all rows are to be in, if there is to be one
-abbrev pub IsZoneAsked : {Z : Type 0} → (Z → List ℕ → Z → Type 0) → ZoneFrom → Z → Z → Type 0
-IsZoneAsked AsksFor (zone.Field index) old new = new ≡ old
-IsZoneAsked AsksFor (zone.Name name) old new = AsksFor old (string_bytes name) new
+abbrev pub IsZoneAsked : {Z : Type 0} → ZoneFrom → ZonesAsked Z → Type 0
+IsZoneAsked (zone.Field index) asked = asked.zones' ≡ asked.zones
+IsZoneAsked (zone.Name name) asked = asked.asked_for asked.zones (string_bytes name) asked.zones'
 
 -- Why zones have none for all rows: memory was refused as the zone was asked for, or by all files that rows may be made by then, there is
 -- none.
-abbrev pub IsFailureOfZones : {Z : Type 0} → (Grows Breaks : Z → Z → Type 0) → (Z → List File → Type 0) → Z → Z → ZoneFrom → Failure → Type 0
-IsFailureOfZones Grows Breaks MayBe old new (zone.Field index) failure = ⊥
-IsFailureOfZones Grows Breaks MayBe old new (zone.Name name) failure =
-    ((failure ≡ failures.Memory) × Breaks old new)
-    ⊎ (Grows old new × ((files : List File) → MayBe new files → IsFailureOfZone files (zone.Name name) failure))
+abbrev pub IsFailureOfZones : {Z : Type 0} → ZoneFrom → ZonesAsked Z → Failure → Type 0
+IsFailureOfZones (zone.Field index) asked failure = ⊥
+IsFailureOfZones (zone.Name name) asked failure =
+    ((failure ≡ failures.Memory) × asked.broken asked.zones asked.zones')
+    ⊎ (asked.grown asked.zones asked.zones' × ((files : List File) → asked.may_be asked.zones' files → IsFailureOfZone files (zone.Name name) failure))
 
 -- the zones have none for all rows; nothing was read or written, and no other zone was asked for
-pub record IsFailureWithoutZone {R W Z : Type 0} (Grows Breaks : Z → Z → Type 0) (AsksFor : Z → List ℕ → Z → Type 0) (MayBe : Z → List File → Type 0)
-    (layout : Layout) (run : Run R W) (old new : Z) (failure : Failure) : Type 0 where
+pub record IsFailureWithoutZone {R W Z : Type 0} (layout : Layout) (run : Run R W) (asked : ZonesAsked Z) (failure : Failure) : Type 0 where
   pub untouched : IsUntouched run
-  pub asked : IsZoneAsked AsksFor layout.zone old new
-  pub of_zones : IsFailureOfZones Grows Breaks MayBe old new layout.zone failure
+  pub alone : IsZoneAsked layout.zone asked
+  pub of_zones : IsFailureOfZones layout.zone asked failure
 
 -- the zones have one for all rows, if there is to be one, no other zone was asked for, and the writer failed at the line of names
-pub record IsFailureOfNames {R W Z : Type 0} (Grows : Z → Z → Type 0) (AsksFor : Z → List ℕ → Z → Type 0) (MayBe : Z → List File → Type 0) (layout : Layout)
-    (run : Run R W) (old new : Z) (failure : Failure) : Type 0 where
+pub record IsFailureOfNames {R W Z : Type 0} (layout : Layout) (run : Run R W) (asked : ZonesAsked Z) (failure : Failure) : Type 0 where
   pub is : failure ≡ failures.CannotWriteRows
-  pub grown : Grows old new
-  pub asked : IsZoneAsked AsksFor layout.zone old new
-  pub has_zone : (files : List File) → MayBe new files → HasZone files layout.zone
-  pub ends : EndsAtNames layout stop.WriteFailed run new new
+  pub grown : asked.grown asked.zones asked.zones'
+  pub alone : IsZoneAsked layout.zone asked
+  pub has_zone : (files : List File) → asked.may_be asked.zones' files → HasZone files layout.zone
+  pub ends : EndsAtNames layout stop.WriteFailed run asked.zones' asked.zones'
   pub failed : HasFailedSince run.writer' run.writer.failures
 
 -- The conversion of the column ended early. It never ends for a fault of a source, so it doesn't matter how many texts are told.
-pub record IsFailureOfRows {R W Z : Type 0} (Grows Breaks : Z → Z → Type 0) (MayBe : Z → List File → Type 0) (plan : Limits) (layout : Layout) (run : Run R W)
-    (old new : Z) (failure : Failure) : Type 0 where
+pub record IsFailureOfRows {R W Z : Type 0} (plan : Limits) (layout : Layout) (run : Run R W) (asked : ZonesAsked Z) (failure : Failure) : Type 0 where
   pub stop : RunStop
   pub is : failure ≡ run_failure stop 1
   pub cause : IsCauseOf plan.max_bytes run.reader run.reader' run.writer run.writer' stop
-  pub ends : EndsByZones Grows Breaks MayBe old new stop (λ files. HasZone files layout.zone × EndsBy layout plan.max_rows stop run files)
+  pub ends : EndsByZones asked.grown asked.broken asked.may_be asked.zones asked.zones' stop (λ files. HasZone files layout.zone × EndsBy layout plan.max_rows stop run files)
 
 -- why zones don't convert a column by a layout
-abbrev pub IsFailureOfConvert : {R W Z : Type 0} → (Grows Breaks : Z → Z → Type 0) → (Z → List ℕ → Z → Type 0) → (Z → List File → Type 0) → Limits → Layout
-    → Run R W → Z → Z → Failure → Type 0
-IsFailureOfConvert Grows Breaks AsksFor MayBe plan layout run old new failure =
-    IsFailureWithoutZone Grows Breaks AsksFor MayBe layout run old new failure
-    ⊎ IsFailureOfNames Grows AsksFor MayBe layout run old new failure
-    ⊎ IsFailureOfRows Grows Breaks MayBe plan layout run old new failure
+abbrev pub IsFailureOfConvert : {R W Z : Type 0} → Limits → Layout → Run R W → ZonesAsked Z → Failure → Type 0
+IsFailureOfConvert plan layout run asked failure =
+    IsFailureWithoutZone layout run asked failure
+    ⊎ IsFailureOfNames layout run asked failure
+    ⊎ IsFailureOfRows plan layout run asked failure

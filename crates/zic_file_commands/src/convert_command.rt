@@ -4,7 +4,7 @@ ghost use Rattle.std.specs.Prelude.{◌≤◌, ◌+◌, ◌≡◌, List, IfOk, I
 ghost use Rattle.zic_convert.specs.Run.{run_of};
 ghost use Rattle.zic_counted.specs.Counts.{HasFailedSince};
 ghost use Rattle.zic_file_commands.specs.Converting.{Converts, HasZone};
-ghost use Rattle.zic_file_commands.specs.Converting.{IsFailureOfConvert, IsFailureOfZones, IsZoneAsked};
+ghost use Rattle.zic_file_commands.specs.Converting.{IsFailureOfConvert, IsFailureOfZones, IsZoneAsked, zones_of};
 ghost use Rattle.zic_files.specs.File.{File};
 
 use std::alloc::Global;
@@ -46,10 +46,10 @@ pub fn convert<T: Threads + Wait + Sync, G: Gate + Sync, Z: Zones, R: Read, W: W
         (λ _. reader.new.taken ≤ reader.old.taken + conversion.now.plan.now.max_bytes) }
     ensures unfailed { IfOk result (λ _. HasFailedSince reader.new reader.old.failures → ⊥) }
     ensures flushed { IfOk result (λ _. writer.new.failures ≡ writer.old.failures) }
-    ensures err { IfErr result (IsFailureOfConvert Z.grown Z.broken Z.asked_for Z.may_be
-        conversion.now.plan.now conversion.now.layout.now
+    ensures err { IfErr result (IsFailureOfConvert conversion.now.plan.now conversion.now.layout.now
         (run_of R.remaining W.contents L.noted reader.old reader.new writer.old writer.new
-        log.old log.new) zones.old zones.new) }
+        log.old log.new)
+        (zones_of Z.grown Z.broken Z.asked_for Z.may_be zones.old zones.new)) }
 {
     find_zone(conversion.alloc, zones, &conversion.layout.zone)?;
     match convert_column(conversion, zones, reader, writer, log) {
@@ -69,9 +69,10 @@ fn find_zone<Z: Zones>(alloc: Global, zones: &mut Z, zone: &ZoneFrom) -> Result<
     ensures grown { OnOk result (Z.grown zones.old zones.new) }
     ensures ok { (files : List File) → Z.may_be zones.new files
         → OnOk result (HasZone files zone.now) }
-    ensures err { IfErr result
-        (IsFailureOfZones Z.grown Z.broken Z.may_be zones.old zones.new zone.now) }
-    ensures asked { IsZoneAsked Z.asked_for zone.now zones.old zones.new }
+    ensures err { IfErr result (IsFailureOfZones zone.now
+        (zones_of Z.grown Z.broken Z.asked_for Z.may_be zones.old zones.new)) }
+    ensures asked { IsZoneAsked zone.now
+        (zones_of Z.grown Z.broken Z.asked_for Z.may_be zones.old zones.new) }
 {
     let ZoneFrom::Name(name) = zone else {
         return Ok(());

@@ -9,7 +9,7 @@ returns-in_err-find_zone-clause-err g c =
     let p = err_from_is_err_and c.from_residual.result c.from_residual.ensures.1 in
     rw (p.1, p.2) (inl (record {
       untouched = record { unread = refl; unwritten = refl; unnoted = refl };
-      asked = c.in_err-find_zone.ensures.asked;
+      alone = c.in_err-find_zone.ensures.asked;
       of_zones = c.in_err-find_zone.ensures.err;
     }))
 
