@@ -348,16 +348,17 @@ fn ended<R>(
 /// of rows, without the header.
 ///
 /// The layout says which bytes stand between fields, of records and of rows; whether the first
-/// record is a header, which makes no row and isn't counted, and whether one is written; where a row's zone and its instant come
-/// from, and how many fields a record has; and what an instant counts. An instant is an optional `-`
-/// and 1 to 18 digits, and as many more as a fraction of a second has. A row shows local time of its
-/// whole second, rounded down, and with that fraction.
+/// record is a header, which makes no row and isn't counted, and whether one is written; where a
+/// row's zone and its instant come from, and how many fields a record has; and how an instant is
+/// written, and what it counts. An instant is an optional `-` and 1 to 18 digits, and as many more as
+/// a fraction of a second has; or, by the layout's `from`, a date and a time of day with a UT offset.
+/// A row shows local time of its whole second, rounded down, and with that fraction.
 ///
 /// A row begins with the name and the instant, or with the record's own bytes as they stand in the
 /// column, as the layout's `start` says. Where it begins with the name and a header is written, the line
 /// `zone,instant,local,offset,daylight,abbreviation`, with the layout's delimiter, is written before
-/// the column is read. Where it begins with the record, the column's own header comes first, with
-/// the names `local`, `offset`, `daylight` and `abbreviation` added.
+/// the column is read. Where it begins with the record and a header is written, the column's own
+/// header comes first, with the names `local`, `offset`, `daylight` and `abbreviation` added.
 ///
 /// As the layout's `at_fault` says, the first row with a fault ends the conversion, or rows with
 /// faults are written. Such a row has empty fields in the place of local time, and the instant as

@@ -28,7 +28,8 @@ use Rattle.zic_states.specs.Zone.{Zone, Shows}
 use Rattle.zic_words.specs.declared.clock.ClockForm.{ClockForm}
 use Rattle.zic_words.specs.declared.clock.ClockForm.TheVariants.{Wall, Standard, Universal}
 
--- In this year the form seeks this weekday among seven days, of which this day of the month is the last: zic(8), ON
+-- In this year the form seeks this weekday among seven days, of which this day of the month is the last, counted on past the month's end:
+-- zic(8), ON
 abbrev pub Seeks : On → ℤ → ℕ → ℕ → ℕ → Type 0
 Seeks (Day day) year month weekday last = ⊥
 Seeks (Last x) year month weekday last = (weekday ≡ x) × (last ≡ days_in_month year month)
@@ -47,8 +48,9 @@ IsPlainDay on day shift = (of_month number : ℕ) × (on ≡ Day of_month) × (d
 abbrev pub IsInLastWeek : ℕ → On → DayRule → ℤ → Type 0
 IsInLastWeek month on day shift = (weekday : ℕ) × SeeksLast month on weekday × (day ≡ M month 5 weekday) × (shift ≡ pos 0)
 
--- Another weekday is of the weeks 1 to 4, which are the days 7w - 6 to 7w of the month: so many days after the week come the days among
--- which it is sought. The week is the last that doesn't begin after them, and week 1 where each does.
+-- Any other weekday goes by one of the weeks 1 to 4; week w is the days 7w - 6 to 7w of the month. The seven days among which it is sought
+-- lie `shift` days after that week, or before it where `shift` is below 0. The week is the last that begins no later than they do, and
+-- week 1 where each begins later.
 pub record IsInWeek (month : ℕ) (on : On) (day : DayRule) (shift : ℤ) : Type 0 where
   pub weekday : ℕ
   pub last : ℕ
@@ -61,8 +63,9 @@ pub record IsInWeek (month : ℕ) (on : On) (day : DayRule) (shift : ℤ) : Type
   pub is_last : (week ≡ 4) ⊎ (shift ≤ℤ pos 6)
   pub says : day ≡ M month week (weekday_before weekday shift)
 
--- How a string says the day of a rule: by a day so many days after which, in every year, the day comes that the rule names (zic(8), ON;
--- POSIX TZ). Which of the days that do is an own choice.
+-- How a string says the day of a rule: in every year the day that the rule names (zic(8), ON) comes `shift` days after the day that the
+-- string names (POSIX TZ), or before it where `shift` is below 0. Several pairs of day and shift would do: which one is taken is an own
+-- choice.
 pub record SaysDay (month : ℕ) (on : On) (day : DayRule) (shift : ℤ) : Type 0 where
   pub means : (year : ℤ) → IsDayOf year month on (day_in year day +ℤ shift)
   pub way : IsPlainDay on day shift ⊎ IsInLastWeek month on day shift ⊎ IsInWeek month on day shift
@@ -74,8 +77,7 @@ wall_time Wall standard saved at = at
 wall_time Standard standard saved at = at +ℤ saved
 wall_time Universal standard saved at = at +ℤ standard +ℤ saved
 
--- The edge at which a rule takes over, where this is saved before it: its day, and the time by the wall clocks before it, to which the
--- days after that day are added.
+-- The edge at which a rule takes over, where this is saved before it: its day, and the time by the wall clocks before it, plus `shift` days.
 pub record IsEdgeOf (standard : ℤ) (rule : TailRule) (saved : ℤ) (edge : Edge) : Type 0 where
   pub shift : ℤ
   pub day : SaysDay rule.moment.month rule.moment.on edge.day shift
@@ -106,7 +108,7 @@ pub record IsPair (tails : List TailRule) (starting ending : TailRule) : Type 0 
 abbrev pub IsWide : Edge → Type 0
 IsWide edge = unsigned_abs edge.time < (MAX_WIDE_HOURS + 1) * 3600
 
--- the edge of a rule can be said
+-- the edge of a rule is within 167:59:59 either way
 abbrev pub HasWideEdge : ℤ → TailRule → ℤ → Type 0
 HasWideEdge standard rule saved = (edge : Edge) × IsEdgeOf standard rule saved edge × IsWide edge
 
