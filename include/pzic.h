@@ -65,7 +65,7 @@ enum {
     PZIC_NO_SUCH = 7,
     /* A row of the column has a fault. */
     PZIC_BAD_ROW = 8,
-    /* The local time is within 25:59:59 of an end of 64 bits, so its instants may be outside. */
+    /* The local time is nearer than 25:59:59 to an end of 64 bits, so its instants may be outside. */
     PZIC_OUT_OF_RANGE = 9,
     /* The local time is in a gap, which PZIC_REJECT refuses. */
     PZIC_GAP = 10,
@@ -373,7 +373,7 @@ static inline int32_t pzic_name_of_reason(uint32_t reason, uint8_t *room, size_t
  * written meanwhile: such a call takes what the handle holds, reads it through a shared reference, and
  * puts the same pointer back, so that the handle is in the end as it was. That is proved. So a reading
  * call of this header copies the handle, a pointer and a kind, and has the copy read: nothing that is
- * shared is written. Languages that have no use for the functions of this header do the same.
+ * shared is written but atomic counts, by pzic_share and pzic_zone_of. Languages that have no use for the functions of this header do the same.
  */
 int32_t pzic_raw_zone_read(const uint8_t *bytes, size_t length, pzic_handle *zone, uint32_t *reason);
 int32_t pzic_raw_share(pzic_handle *handle, pzic_handle *other);

@@ -1,5 +1,5 @@
 // pzic.hpp: local time by the files of the time zone database, for C++17: the calls of pzic.h with
-// handles that free what they hold. Nothing throws. pzic.h tells what each call answers.
+// handles that free what they hold. Nothing of its own throws. pzic.h tells what each call answers.
 #ifndef PZIC_HPP
 #define PZIC_HPP
 

@@ -55,7 +55,7 @@ static inline int pzic_is_name_(const char *name) {
 static inline int32_t pzic_load_(const char *path, uint8_t *bytes, size_t *length) {
     struct stat about;
     ssize_t got = 1;
-    int file = open(path, O_RDONLY | O_NONBLOCK | O_CLOEXEC);
+    int why, file = open(path, O_RDONLY | O_NONBLOCK | O_NOCTTY | O_CLOEXEC);
     *length = 0;
     if (file < 0)
         return errno == ENOENT || errno == ENOTDIR || errno == ENAMETOOLONG || errno == ELOOP ||
@@ -74,7 +74,9 @@ static inline int32_t pzic_load_(const char *path, uint8_t *bytes, size_t *lengt
         }
         if (got > 0) *length += (size_t)got;
     }
+    why = errno;
     close(file);
+    errno = why;
     return got < 0 ? PZIC_UNREADABLE : PZIC_OK;
 }
 
@@ -84,7 +86,7 @@ static inline int32_t pzic_tree_zone(const char *folder, const char *name, pzic_
     uint8_t *bytes;
     size_t length;
     int32_t status;
-    int count;
+    int count, why;
     pzic_free(zone);
     if (!pzic_is_name_(name)) return PZIC_NO_SUCH;
     count = snprintf(path, sizeof path, "%s/%s", folder, name);
@@ -93,7 +95,9 @@ static inline int32_t pzic_tree_zone(const char *folder, const char *name, pzic_
     if (bytes == NULL) return PZIC_NO_MEMORY;
     status = pzic_load_(path, bytes, &length);
     if (status == PZIC_OK) status = pzic_zone_read(bytes, length, zone, reason);
+    why = errno;
     free(bytes);
+    errno = why;
     return status;
 }
 

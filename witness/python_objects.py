@@ -422,6 +422,11 @@ def use_pandas(tree):
     check(numpy.isnat(instants).all() and statuses.tolist() == [pzic.FOLD, pzic.UNSPECIFIED, pzic.GAP], "NaT", instants)
     instants, statuses = tree["Europe/Dublin"].instant_array(locals, "later")
     check(instants[[0, 2]].astype("int64").tolist() == [1729992600, 1711848600], "datetime64", instants)
+    given = bytearray(3)
+    instants, statuses = tree["Europe/Dublin"].instant_array(locals, "later", statuses=given)
+    check(statuses is given and list(given) == [0, pzic.UNSPECIFIED, 0], "statuses in bytes", given)
+    check(numpy.isnat(instants).tolist() == [False, True, False], "statuses in bytes", instants)
+    refuses(ValueError, tree["Europe/Dublin"].instant_array, locals.dt.tz_localize("UTC"))
     compare_columns(tree, numpy, pandas)
     return "numpy and pandas"
 

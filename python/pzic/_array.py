@@ -68,6 +68,8 @@ def instant_array(
     owned: Owned, choice: int, locals: Any, instants: Any, statuses: Any
 ) -> Tuple[Any, Any]:
     """Tell the instants of local times by a zone, as :meth:`Zone.instant_array` tells."""
+    if _has_zone(locals):
+        raise ValueError("a local time has no time zone")
     values, missing = _plain(locals)
     count = len(_view(values, "ql", 8))
     are_times = values is not locals and instants is None and _kind(locals) == "M"
@@ -83,8 +85,10 @@ def instant_array(
     if missing is not None:
         _write_missing(missing, views, UNSPECIFIED)
     if are_times:
+        import numpy
+
         instants = instants.view("datetime64[s]")
-        instants[statuses != 0] = "NaT"
+        instants[numpy.asarray(statuses) != 0] = "NaT"
     return instants, statuses
 
 
@@ -102,6 +106,11 @@ def _views(values: Any, *rooms: memoryview) -> List[memoryview]:
 def _kind(values: Any) -> Any:
     """Return the kind of what has numpy's types."""
     return getattr(getattr(values, "dtype", None), "kind", None)
+
+
+def _has_zone(times: Any) -> bool:
+    """Return whether these are pandas' times in a time zone."""
+    return getattr(getattr(times, "dtype", None), "tz", None) is not None
 
 
 def _plain(instants: Any) -> Tuple[Any, Any]:

@@ -3,6 +3,7 @@
 from __future__ import annotations
 
 import ctypes
+import errno
 import os
 import stat
 from functools import lru_cache
@@ -19,6 +20,8 @@ _Path = Union[str, "os.PathLike[str]"]
 
 #: The most bytes of a file of a zone.
 _MOST_BYTES = 1 << 20
+#: Why a file cannot be opened that isn't there, or isn't one.
+_NOT_THERE = (errno.ENOENT, errno.ENOTDIR, errno.ENAMETOOLONG, errno.ELOOP, errno.ENXIO)
 
 
 class _Zones(Mapping[str, Zone]):
@@ -110,10 +113,11 @@ class Tree(_Zones):
             raise BadName(name)
         try:
             # To open a pipe would wait for its writer.
-            number = os.open(os.path.join(self._folder, *parts), os.O_RDONLY | os.O_NONBLOCK)
-        except PermissionError:
-            raise
-        except OSError:
+            path = os.path.join(self._folder, *parts)
+            number = os.open(path, os.O_RDONLY | os.O_NONBLOCK | os.O_NOCTTY)
+        except OSError as error:
+            if error.errno not in _NOT_THERE:
+                raise
             raise NoSuchZone(name) from None
         try:
             if not stat.S_ISREG(os.fstat(number).st_mode):
