@@ -16,6 +16,6 @@ abbrev pub is_negative : List ℕ → Bool
 is_negative [] = false
 is_negative (byte ∷ bytes) = byte == 45
 
--- what a text without a sign says; after a `-`, below 0
+-- the number that a text without a sign spells; after a `-`, that of the rest, negated
 abbrev pub signed : (List ℕ → Option ℕ) → List ℕ → Option ℤ
 signed unsigned text = if is_negative text then option_map (λ n. neg_ℤ (pos n)) (unsigned (drop 1 text)) else option_map pos (unsigned text)

@@ -169,7 +169,7 @@ impl RecordScan {
         }
     }
 
-    /// Returns what the byte after the next, which ends no record, is after, as a reader of CSV has it.
+    /// Returns the place in the record after this byte, which ends no record, as a CSV reader has it.
     fn place_after(&mut self, byte: u8) -> Place {
         let ends_line = byte == b'\r' || byte == b'\n';
         match self.place {

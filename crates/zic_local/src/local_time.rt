@@ -25,8 +25,8 @@ impl Model for LocalTime {
 }
 
 impl LocalTime {
-    /// Returns the local time of so many seconds, or `None` in the first and the last 26 hours of 64
-    /// bits.
+    /// Returns the local time with this number of seconds, or `None` within 93,599 seconds of either
+    /// end of 64 bits.
     pub fn new(seconds: i64) -> Option<LocalTime>
         ensures just { IsSome result ↔ IsInRange seconds }
         ensures some { IfSome result (λ local. local ≡ seconds) }

@@ -46,10 +46,11 @@ struct Asked {
 #[derive(Drop)]
 pub struct ListedSource<'a> {
     source: &'a Source,
-    /// The occurrences of sets on whose lines standard time has different UT offsets, by the number
-    /// of the set's first rule. `None` of other rules and sets, and where memory ran out.
+    /// By the number of a set's first rule, its occurrences, if the lines that name the set have
+    /// different standard UT offsets. `None` for other rules and sets, and if memory ran out.
     listings: Vec<Option<Listing>>,
-    /// The same of sets on whose lines it has one, with their instants.
+    /// The same for sets whose lines have one standard UT offset, with the instants of the
+    /// occurrences.
     timed: Vec<Option<TimedListing>>,
 }
 

@@ -1,6 +1,6 @@
 //! How a column is read, and what its rows are.
 
-ghost use Rattle.std.specs.Prelude.{◌≡◌, IsTrue};
+ghost use Rattle.std.specs.Prelude.{◌≡◌};
 ghost use Rattle.zic_plan.specs.Layout.{HasPlainRows, has_count};
 
 use crate::delimiter::Delimiter;
@@ -123,20 +123,5 @@ impl Layout {
             start: RowStart::Fields,
             at_fault: AtFault::End,
         }
-    }
-
-    /// Returns whether the records and the rows are those of plain columns, with a header or
-    /// without.
-    pub fn has_plain_rows(&self) -> bool
-        ensures { IsTrue result → HasPlainRows self.now }
-    {
-        let zone = matches!(&self.zone, ZoneFrom::Field(0));
-        let from = matches!(self.from, TimeFrom::Count);
-        let count = matches!(self.count, FieldCount::Exactly(2));
-        let unit = matches!(self.unit, Unit::Second);
-        let start = matches!(self.start, RowStart::Fields);
-        let at_fault = matches!(self.at_fault, AtFault::End);
-        let fields = zone && self.time == 1 && count && unit && self.delimiter.byte() == b',';
-        fields && from && start && at_fault
     }
 }

@@ -5,7 +5,8 @@ use Rattle.std.proofs.lemmas.Bool.{leb-true, le-leb, lt-ltb, ltb-true, and_parts
 use Rattle.std.proofs.lemmas.List.{take_at, drop_at, take-append-drop, length-take-le}
 use Rattle.std.proofs.lemmas.List.Sums.{prefix_len-le-length}
 use Rattle.std.proofs.lemmas.List.Elements.{All-head, All-tail}
-use Rattle.zic_posix.specs.Grammar.{is_digit, decimal, SpellsNumber}
+use Rattle.zic_base.specs.Number.{decimal_value}
+use Rattle.zic_posix.specs.Grammar.{is_digit, SpellsNumber}
 use Rattle.zic_posix.specs.code.Reading.{number_at}
 use Rattle.zic_posix.proofs.Steps.{guard_some, NotFirst, BeginsWith}
 use Rattle.zic_posix.proofs.FrontLemmas.{prefix_len_front, front_passes}
@@ -20,7 +21,7 @@ digit_range b digit =
     (leb-true 48 b parts.0, leb-true b 57 parts.1)
 
 -- two digits stand for a number below 100
-pub decimal_small : (text : List ℕ) → length text ≤ 2 → AreDigits text → decimal text < 100
+pub decimal_small : (text : List ℕ) → length text ≤ 2 → AreDigits text → decimal_value text < 100
 decimal_small [] short digits = omega arith
 decimal_small (a ∷ []) short digits =
     let first = digit_range a (All-head (λ b. is_digit b ≡ true) a [] digits) in
@@ -41,8 +42,8 @@ pub number_again : (longest least most n : ℕ) (text rest : List ℕ) → Spell
 unfolding number_at
 number_again longest least most n text rest spells ends =
     let some = lt-ltb 0 (length text) (omega (arith, spells.some)) in
-    let low = le-leb least (decimal text) (subst (λ (k : ℕ). least ≤ k) spells.value spells.at_least) in
-    let high = le-leb (decimal text) most (subst (λ (k : ℕ). k ≤ most) spells.value spells.at_most) in
+    let low = le-leb least (decimal_value text) (subst (λ (k : ℕ). least ≤ k) spells.value spells.at_least) in
+    let high = le-leb (decimal_value text) most (subst (λ (k : ℕ). k ≤ most) spells.value spells.at_most) in
     rw (digits_front longest text rest spells.short spells.digits ends, take_at text rest (length text) refl, drop_at text rest (length text) refl, some, low, high) (ap (λ (k : ℕ). Some (k, rest)) (sym spells.value))
 
 -- what is read is spelled
@@ -50,7 +51,7 @@ pub number_takes : (longest least most : ℕ) (text : List ℕ) (n : ℕ) (rest 
 unfolding number_at
 number_takes longest least most text n rest e =
     let k = min (prefix_len is_digit text) longest in
-    let v = decimal (take k text) in
+    let v = decimal_value (take k text) in
     let g = guard_some (ltb 0 k && leb least v && leb v most) (v, drop k text) (n, rest) e in
     let tests = and_parts (ltb 0 k && leb least v) (leb v most) g.0 in
     let lower = and_parts (ltb 0 k) (leb least v) tests.0 in

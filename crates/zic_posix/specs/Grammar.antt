@@ -1,9 +1,10 @@
 -- The grammar of POSIX TZ strings: POSIX.1-2017, TZ; RFC 9636, 3.3.1, for the wider times of version 3. Own choices: how many digits a
 -- number may have (hours, minutes, seconds and a month two, hours of version 3 and a day three, week and weekday one), and that a
 -- daylight part without edges is refused, since POSIX leaves its meaning open.
-use Rattle.std.specs.Prelude.{◌≡◌, ℕ, ◌+◌, ◌-◌, ◌*◌, ◌<◌, ◌≤◌, ℤ, pos, neg_ℤ, ◌+ℤ◌, Bool, ◌||◌, ◌&&◌, nat_le, List, [], ◌∷◌, ◌++◌, ◌⊎◌, length, fold, unsigned_abs, IsTrue, All}
+use Rattle.std.specs.Prelude.{◌≡◌, ℕ, ◌+◌, ◌-◌, ◌*◌, ◌<◌, ◌≤◌, ℤ, pos, neg_ℤ, ◌+ℤ◌, Bool, ◌||◌, ◌&&◌, nat_le, List, [], ◌∷◌, ◌++◌, ◌⊎◌, length, unsigned_abs, IsTrue, All}
 use Rattle.std.specs.Option.{MatchOption}
 use Rattle.zic_base.specs.Byte.{is_abbreviation_byte}
+use Rattle.zic_base.specs.Number.{decimal_value}
 use Rattle.zic_posix.specs.declared.footer.DayRule.{DayRule}
 use Rattle.zic_posix.specs.declared.footer.DayRule.TheVariants.{J, N, M}
 use Rattle.zic_posix.specs.declared.footer.Dst.{Dst}
@@ -25,16 +26,12 @@ pub record SpellsName (text name : List ℕ) : Type 0 where
   pub form : ((text ≡ name) × All (λ b. IsTrue (is_letter b)) name)
       ⊎ ((text ≡ 60 ∷ (name ++ 62 ∷ [])) × All (λ b. IsTrue (is_abbreviation_byte b)) name)
 
--- the number that decimal digits stand for
-abbrev pub decimal : List ℕ → ℕ
-decimal digits = fold (λ n b. n * 10 + (b - 48)) 0 digits
-
 -- from one to `longest` digits for a number from `least` to `most`. POSIX TZ
 pub record SpellsNumber (longest least most : ℕ) (text : List ℕ) (n : ℕ) : Type 0 where
   pub some : 1 ≤ length text
   pub short : length text ≤ longest
   pub digits : All (λ b. IsTrue (is_digit b)) text
-  pub value : n ≡ decimal text
+  pub value : n ≡ decimal_value text
   pub at_least : least ≤ n
   pub at_most : n ≤ most
 

@@ -4,7 +4,8 @@
 ghost use Rattle.std.specs.Prelude.{◌≡◌, ◌≤◌, IsTrue, All, length, IfSome};
 ghost use Rattle.std.specs.List.{prefix_len};
 ghost use Rattle.zic_base.specs.Byte.{is_abbreviation_byte};
-ghost use Rattle.zic_posix.specs.Grammar.{is_letter, is_digit, decimal};
+ghost use Rattle.zic_base.specs.Number.{decimal_value};
+ghost use Rattle.zic_posix.specs.Grammar.{is_letter, is_digit};
 ghost use Rattle.zic_posix.specs.code.Reading.{Reads, after, plain_name_at, quoted_name_at, name_at, number_at};
 
 use crate::limit::SHORTEST_NAME;
@@ -76,11 +77,11 @@ pub(crate) fn number_at(longest: usize, least: u16, most: u16, text: &[u8]) -> O
 fn decimal(digits: &[u8]) -> u16
     requires short { length digits.now ≤ 3 }
     requires digits { All (λ b. IsTrue (is_digit b)) digits.now }
-    ensures { result ≡ decimal digits.now }
+    ensures { result ≡ decimal_value digits.now }
 {
     let mut number = 0;
     for digit in digits {
-        number = number * 10 + u16::from(digit - b'0');
+        number = 10 * number + u16::from(digit - b'0');
     }
     number
 }

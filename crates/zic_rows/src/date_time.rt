@@ -28,8 +28,9 @@ pub fn parse_local_time(field: &[u8], unit: Unit) -> Option<i128>
 }
 
 /// Returns the instant of a field as RFC 3339 writes it, as a count of units from
-/// 1970-01-01T00:00:00 UT: a local time as [`parse_local_time`] reads it, and after it a `Z` or a UT
-/// offset, as `+02:00` or `-00:00`. RFC 3339, 5.6, but for the second 60.
+/// 1970-01-01T00:00:00 UT: a local time as [`parse_local_time`] reads it, followed by `Z` or a UT
+/// offset such as `+02:00` or `-00:00`. RFC 3339, 5.6, without the second 60, the year 0, lower-case
+/// letters, and fractions finer than the unit.
 #[tactic(auto, unfolding(crate::specs::DateTime::rfc3339_count_of))]
 pub fn parse_rfc3339(field: &[u8], unit: Unit) -> Option<i128>
     ensures { result ≡ rfc3339_count_of unit field.now }

@@ -52,8 +52,8 @@ pub record IsTailBy (zone : Zone) (standard year : ℤ) (tails : List TailRule) 
   pub rules : AreTailRules zone.source.rules line numbers tails
   pub several : 2 ≤ length numbers
 
--- At t the zone shows what the last occurrence of the set that isn't after t begins, on this standard offset. The occurrence is of this
--- year or a later one, and of one of the rules of these numbers; the tail has that rule at the place of its number.
+-- At t the zone shows what the set's last occurrence at or before t begins, on this standard offset. The occurrence is of this year or a
+-- later one, and of one of the rules with these numbers; the tail lists the rules in the order of their numbers.
 pub record ShowsLast (zone : Zone) (set : RuleSet) (standard year : ℤ) (numbers : List ℕ) (tails : List TailRule) (t : ℤ) : Type 0 where
   pub occurrence : Occurrence
   pub instant : ℤ

@@ -59,13 +59,13 @@ open_line source = last_until (zone_lines_of source)
 abbrev pub is_open : SourceLines → Bool
 is_open source = is_some (open_line source)
 
--- the last of the first k statements goes on; no statements don't
+-- Statement k, counted from 1, goes on. For k = 0 there is no such statement, and this is false.
 abbrev pub goes_on_after : List Statement → ℕ → Bool
 goes_on_after statements zero = false
 goes_on_after statements (suc k) = option_map_or goes_on (slice_get statements k) false
 
--- A continuation line stands just where it has to: statement k + 1 continues a zone exactly if statement k goes on, and the first
--- doesn't. After the last, a continuation line still has to follow exactly if the last goes on.
+-- A continuation line stands where it has to, and nowhere else: the first statement continues no zone, and statement k + 1, counted
+-- from 1, continues one exactly if statement k goes on. After the last, a continuation line still has to follow exactly if it goes on.
 pub record AreContinued (statements : List Statement) (still : Bool) : Type 0 where
   pub each : (k : ℕ) (statement : Statement) → slice_get statements k ≡ Some statement → continues statement ≡ goes_on_after statements k
   pub last : still ≡ goes_on_after statements (length statements)

@@ -13,7 +13,7 @@ sixtieths text = do
   n ← number 2 text
   if nat_lt n 60 then Some n else None
 
--- the decimals after a point, one to nine of them, in billionths; none are 0
+-- the decimals after a point, one to nine of them, in billionths; without a point, 0
 unfoldable pub decimals : Option (List ℕ) → Option ℕ
 decimals None = Some 0
 decimals (Some text) = option_map (λ n. n * 10 ^ (MAX_DIGITS - length text)) (number MAX_DIGITS text)
@@ -46,17 +46,17 @@ time_of_parts (h ∷ m ∷ s ∷ part ∷ parts) = None
 unfoldable pub magnitude : List ℕ → Option ℕ
 magnitude text = time_of_parts (slice_split (λ byte. byte == 58) text)
 
--- s is the nearest whole second to n billionths, and the even one of two that are as near
+-- s is the whole second nearest to n billionths; of two equally near, the even one
 pub record IsNearestSecond (n s : ℕ) : Type 0 where
   pub below : 2 * n ≤ 10 ^ 9 * (2 * s + 1)
   pub above : 10 ^ 9 * (2 * s) ≤ 2 * n + 10 ^ 9
   pub even : (2 * n ≡ 10 ^ 9 * (2 * s + 1)) ⊎ (10 ^ 9 * (2 * s) ≡ 2 * n + 10 ^ 9) → s % 2 ≡ 0
 
--- that second, computed
+-- that second, by arithmetic
 unfoldable pub nearest_second : ℕ → ℕ
 nearest_second n = (2 * n + 10 ^ 9 - 1 + n / 10 ^ 9 % 2) / (2 * 10 ^ 9)
 
--- A time without its sign in whole seconds. Rounding comes first, and then the limit.
+-- a time without its sign in whole seconds, at most the limit after rounding
 unfoldable pub whole_seconds : ℕ → List ℕ → Option ℕ
 whole_seconds limit text = do
   time ← option_map nearest_second (magnitude text)
@@ -66,7 +66,7 @@ whole_seconds limit text = do
 abbrev pub IsWithin : ℕ → ℤ → Type 0
 IsWithin limit seconds = unsigned_abs seconds ≤ limit
 
--- a time in whole seconds, after a `-` below 0, at most the limit either way
+-- a time in whole seconds, negated after a `-`, at most the limit either way
 unfoldable pub signed_seconds : ℕ → List ℕ → Option ℤ
 signed_seconds limit text = signed (whole_seconds limit) text
 

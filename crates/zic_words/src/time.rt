@@ -117,7 +117,7 @@ fn magnitude(text: &[u8]) -> Option<Time>
     })
 }
 
-/// Returns the whole second that is nearest to a time, and of two that are as near the even one.
+/// Returns the whole second nearest to a time; of two equally near, the even one.
 fn nearest_second(time: Time) -> u64
     requires seconds { time.seconds < 10 ^ 13 }
     requires billionths { time.billionths < 10 ^ 9 }
@@ -131,7 +131,7 @@ fn nearest_second(time: Time) -> u64
     }
 }
 
-/// Returns a time without a sign in whole seconds, where it is within the limit.
+/// Returns a time without a sign in whole seconds, if it is within the limit.
 #[tactic(auto, using(crate::proofs::Seconds::nearest_is), unfolding(crate::specs::Time::whole_seconds))]
 fn whole_seconds(limit: u32, text: &[u8]) -> Option<u32>
     ensures value { result ≡ whole_seconds limit text.now }
@@ -146,7 +146,7 @@ fn whole_seconds(limit: u32, text: &[u8]) -> Option<u32>
     }
 }
 
-/// Returns a time in whole seconds, below 0 after a `-`, where it is within the limit either way.
+/// Returns a time in whole seconds, negated after a `-`, if it is within the limit either way.
 #[tactic(auto, unfolding(crate::specs::Time::signed_seconds))]
 pub(crate) fn signed_seconds(limit: u32, text: &[u8]) -> Option<i32>
     requires { limit < 2 ^ 31 }

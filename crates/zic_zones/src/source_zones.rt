@@ -28,11 +28,11 @@ enum Rounds {
     None,
     One,
     Several,
-    /// One of them begins with an instant of an era after the first.
+    /// One of them has, near its start, an instant of an era after the first.
     Late,
 }
 
-/// How many of the first bytes of a round are searched for an instant: those of some records.
+/// How many of the first bytes of a round are searched for an instant: those of a few records.
 const FIRST_BYTES: usize = 128;
 
 impl<'a> Model for SourceZones<'a> {

@@ -4,8 +4,9 @@ use Rattle.std.specs.Simd.Lanes.{fold_l}
 use Rattle.zic_files.specs.declared.entry.Entry.{Entry}
 use Rattle.zic_files.specs.declared.name_index.NameIndex.{NameIndex}
 
--- A polynomial of the bytes of a name at the key, modulo 2 ^ 31 - 1, which is prime: two names of at most 255 bytes have one hash for at
--- most 255 of the 2 ^ 30 keys, up to the representative. What is found is the same for each key.
+-- One step of a name's hash: the polynomial with its bytes as coefficients, at the key, modulo the prime 2 ^ 31 - 1 (a number below
+-- 2 ^ 32 that stands for the remainder). Two different names of at most 255 bytes have the same remainder for at most 255 of the 2 ^ 30
+-- keys. What is found doesn't depend on the key.
 abbrev pub hash_more : ℕ → ℕ → ℕ → ℕ
 hash_more key hash byte = (hash * key + byte) % 2 ^ 31 + (hash * key + byte) / 2 ^ 31
 

@@ -2,6 +2,7 @@
 use Rattle.std.specs.Prelude.{◌≡◌, ℕ, ◌+◌, ◌*◌, ℤ, pos, neg_ℤ, ◌+ℤ◌, Bool, false, true, nat_le, nat_lt, ◌==◌, ◌&&◌, min, if◌then◌else◌, Option, Some, None, List, [], ◌∷◌, length, take, drop}
 use Rattle.std.specs.List.{prefix_len}
 use Rattle.zic_base.specs.Byte.{is_abbreviation_byte}
+use Rattle.zic_base.specs.Number.{decimal_value}
 use Rattle.zic_base.specs.Option.{◌>>=◌}
 use Rattle.zic_posix.specs.declared.footer.DayRule.{DayRule}
 use Rattle.zic_posix.specs.declared.footer.DayRule.TheVariants.{J, N, M}
@@ -9,7 +10,7 @@ use Rattle.zic_posix.specs.declared.footer.Dst.{Dst}
 use Rattle.zic_posix.specs.declared.footer.Edge.{Edge}
 use Rattle.zic_posix.specs.declared.limit.TheConstants.{SHORTEST_NAME, MAX_HOURS, MAX_WIDE_HOURS, MAX_MINUTES_OR_SECONDS, LAST_DAY, USUAL_TIME, USUAL_SAVING}
 use Rattle.zic_posix.specs.Footer.{TzString}
-use Rattle.zic_posix.specs.Grammar.{is_letter, is_digit, decimal}
+use Rattle.zic_posix.specs.Grammar.{is_letter, is_digit}
 
 -- a function returned what is read, apart from where it lies in memory
 abbrev pub Reads : {X Y : Type 0} → (X → Y) → Option X → Option Y → Type 0
@@ -44,7 +45,7 @@ name_at (b ∷ rest) = if b == 60 then quoted_name_at rest else plain_name_at (b
 unfoldable pub number_at : ℕ → ℕ → ℕ → List ℕ → Option (ℕ × List ℕ)
 number_at longest least most text =
     let n = min (prefix_len is_digit text) longest in
-    let number = decimal (take n text) in
+    let number = decimal_value (take n text) in
     if nat_lt 0 n && nat_le least number && nat_le number most then Some (number, drop n text) else None
 
 -- minutes or seconds after a colon, or 0 where there is no colon
