@@ -1,6 +1,6 @@
 //! Types and texts that all crates share: places of lines, faults of sources, zones and rows, why a
 //! run ends early, short texts, the bytes of abbreviations, digits, states, limits, and the word for
-//! standard input.
+//! standard input. The rows of `witness/rows` test it.
 #![tactic(auto)]
 
 mod byte;

@@ -1,5 +1,5 @@
 //! Explains why the program gave up: shows the line or the record at fault, and says what is expected
-//! there. This is help for people: no contract says what the texts are. Tests compare them.
+//! there. This is help for people: no contract says what the texts are. `.ci/program.sh` compares them.
 #![tactic(auto)]
 
 mod column;

@@ -1,4 +1,5 @@
-//! The footer of a TZif file: a POSIX TZ string that says what a zone shows for ever.
+//! The footer of a TZif file: a POSIX TZ string that says what a zone shows for ever. The rows
+//! of `witness/rows` test it.
 #![tactic(auto)]
 
 mod edges;

@@ -1,5 +1,5 @@
 //! Lines of time zone source text: each is one Rule, Zone, continuation or Link line, or has a
-//! first fault.
+//! first fault. The rows of `witness/rows` test it.
 //!
 //! The input format is that of zic(8); `docs/DEFINITIONS.md` lists where each rule is stated.
 #![tactic(auto)]
