@@ -9,7 +9,7 @@ set -euo pipefail
 shopt -s inherit_errexit
 folder=$(realpath -e -- "${1:-.}")
 cd -P "$(dirname "${BASH_SOURCE[0]}")/.."
-. .ci/build.sh
+. tests/common.sh
 # The launcher proves and builds the program if necessary.
 [ -e "$BUILT/zic_main" ] || ./pzic check - </dev/null
 program=crates/zic_main/out/zic_main

@@ -1,4 +1,4 @@
-//! Prints what the kit's `jiff` shows for a TZif file, for `.ci/trees.sh`. The only word names the
+//! Prints what the kit's `jiff` shows for a TZif file, for `tests/outside/trees.sh`. The only word names the
 //! file. For each instant on standard input, one on a line, it prints a line `OFFSET FLAG
 //! ABBREVIATION`. For a file that `jiff` refuses it prints `refused`.
 

@@ -1,5 +1,5 @@
 //! Reads source text from standard input and prints what each zone shows before its explicit end,
-//! for `.ci/tzdata.sh`. For each zone it prints a line `NAME - OFFSET FLAG ABBREVIATION` with the
+//! for `tests/outside/tzdata.sh`. For each zone it prints a line `NAME - OFFSET FLAG ABBREVIATION` with the
 //! first state, a line `NAME INSTANT OFFSET FLAG ABBREVIATION` for each change, and a line `NAME
 //! end INSTANT`. If the only word is a number, for `bench/parts.sh`, it makes the timelines of
 //! all zones that number of times, and prints only the number of changes.

@@ -1,5 +1,5 @@
 //! Reads source text from standard input and prints the numbers of its Rule, Zone, continuation and
-//! Link lines, for `.ci/tzdata.sh` and `bench/source.sh`. An optional word is the number of times
+//! Link lines, for `tests/outside/tzdata.sh` and `bench/source.sh`. An optional word is the number of times
 //! that the text is read, by default 1. With 0, nothing is counted.
 
 use crate::input::{read_text, read_times};

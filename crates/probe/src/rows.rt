@@ -1,4 +1,4 @@
-//! Calls public functions and prints what they answer, for `.ci/rows.sh`. Each line of standard
+//! Calls public functions and prints what they answer, for `tests/worked`. Each line of standard
 //! input is a call: a module of `rows`, the name of a call there, and its arguments. An argument is
 //! a word or, after a colon, a text in hexadecimal digits. The answer is some lines and then a line
 //! with a period. If a fault is found, the last line before it is `text TEXT line LINE: KIND`. A

@@ -1,5 +1,5 @@
 //! Claims, by examples worked by hand, in one thread and in two. If a growth of memory is refused,
-//! as `.ci/refusals.sh` does, the claims are made again.
+//! as `tests/faults/refusals.sh` does, the claims are made again.
 
 ghost use Rattle.std.specs.Prelude.{◌≡◌, ◌+◌, ◌<◌, ◌≤◌};
 ghost use Rattle.zic_pieces.specs.Passes.{IsOf};

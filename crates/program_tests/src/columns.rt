@@ -1,5 +1,5 @@
 //! Columns of readers and to writers that fail or are slow, and workers that wait for each other at
-//! the gate. Rows and faults are in witness/calls/columns.txt.
+//! the gate. Rows and faults are in tests/program/columns.txt.
 
 use crate::files::built;
 use crate::samples::{Defect, Device, Hold, Sink, expect, expect_text, must};

@@ -1,5 +1,5 @@
-//! Words of the command line that ask for something. Wrong ones are in witness/calls/words.txt, and
-//! words for instants in .ci/program.sh.
+//! Words of the command line that ask for something. Wrong ones are in tests/program/words.txt, and
+//! words for instants in tests/program/commands.sh.
 
 use crate::samples::{expect_text, must, words_of};
 use std::alloc::Global;

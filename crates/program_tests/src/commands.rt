@@ -1,5 +1,5 @@
 //! The commands over readers and writers that fail. What they tell of sources and files is in
-//! witness/checks.txt and witness/calls.
+//! tests/program/sources.txt and tests/program.
 
 mod converting;
 mod folder;

@@ -1,5 +1,5 @@
 //! What `--explain` tells of faults that the program doesn't meet. The others are in
-//! witness/calls/places.txt.
+//! tests/program/places.txt.
 
 use crate::samples::{expect_text, must};
 use zic_base::{Kind, RowKind};

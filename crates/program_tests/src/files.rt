@@ -1,5 +1,5 @@
 //! Builds of files, by workers that wait for each other at the gate. Which files sources have is in
-//! witness/calls/trees.txt, and in which order they stand, and how they are found, in .ci/library.c.
+//! tests/program/trees.txt, and in which order they stand, and how they are found, in tests/library/library.c.
 
 use crate::samples::{Hold, copy_of, expect, must};
 use std::alloc::Global;

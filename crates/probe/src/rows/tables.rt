@@ -1,4 +1,4 @@
-//! Tables of zones, and the files of tables. witness/library.py has the files of zones.
+//! Tables of zones, and the files of tables. tests/library/library.py has the files of zones.
 
 use super::call::{Call, Refusal};
 use crate::answers::Answers;

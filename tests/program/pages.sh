@@ -2,7 +2,7 @@
 # Compares the pages for users with the program:
 # - runs each command in the `console` blocks of README.md, docs/USING.md, docs/ZIC.md and
 #   docs/SCALE.md as it is printed, and compares the output with the lines below it. A block after a
-#   comment `<!-- needs: COMMAND.. -->` is left out if one of the commands is missing;
+#   comment `<!-- needs: COMMAND.. -->` is skipped if one of the commands is missing;
 # - tries each example of docs/errors.txt, and compares docs/ERRORS.md and the texts of `explain`
 #   with what is made of it;
 # - looks for each command and option of docs/help in the manual page and in the completions, and
@@ -10,15 +10,11 @@
 # - compares docs/INDEX.md with what is made of the sources, and looks for public functions without an
 #   edit or a test;
 # - checks links, the length of README.md, and the names in docs/PROOF.md.
+# Needs: tzdata. Parts need: parallel, zsh, psql, sqlite3, man
 set -euo pipefail
-cd "$(dirname "${BASH_SOURCE[0]}")/.."
-. .ci/release.sh
+cd "$(dirname "${BASH_SOURCE[0]}")/../.."
+. tests/common.sh
 build zic_main check -
-# The recipes for GNU parallel, and the completions of zsh.
-for tool in parallel zsh; do
-    command -v $tool >"$work/log" || install $tool 2>"$work/log" || echo "pages: no $tool"
-done
-unset -f install
 repository=$PWD
 work=${work:?}
 log=$work/differences
@@ -128,7 +124,8 @@ run_page() (
         block:*) wanted+=$line$'\n' ;;
         esac
     done <"$repository/$page"
-    echo "pages: $commands commands of $page are run${left_out:+; left out are blocks that need$left_out}"
+    [ ! "$left_out" ] || echo "skipped: blocks of $page that need$left_out"
+    echo "pages: $commands commands of $page are run"
 )
 
 # ------------------------------------------------------------------ examples of errors
@@ -238,7 +235,7 @@ for page in docs/help/*.txt; do
         done
     done
 done
-if has_commands man; then
+if has 'how man shows the manual page' man; then
     man --warnings -l man/pzic.1 >"$work/page" 2>"$work/warnings" ||
         differ 'man can not show man/pzic.1'
     [ ! -s "$work/warnings" ] || differ "man/pzic.1: $(head -n 3 "$work/warnings")"
@@ -257,7 +254,7 @@ for name in check build convert show dump explain; do
 done
 words=$(completed pzic '')
 [ "$words" = $'build\ncheck\nconvert\ndump\nexplain\nshow' ] || differ "bash completes 'pzic' by '$words'"
-! has_commands zsh || zsh -n completions/_pzic || differ 'zsh can not read completions/_pzic'
+! has 'the completions of zsh' zsh || zsh -n completions/_pzic || differ 'zsh can not read completions/_pzic'
 
 # ------------------------------------------------------------------ the pages themselves
 

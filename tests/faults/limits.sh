@@ -2,11 +2,11 @@
 # Gives the program small versions of inputs that were made to cost it time or memory: sources whose
 # lines name one large set, names that share a place of a table, many names of one file, stray quotes
 # and long lines, also with `--explain`. Checks that each stays within a bound of processor time and
-# memory. Needs `python3` 3.9 or later.
+# memory.
 set -euo pipefail
-cd "$(dirname "${BASH_SOURCE[0]}")/.."
-. .ci/build.sh
+cd "$(dirname "${BASH_SOURCE[0]}")/../.."
+. tests/common.sh
 
 build zic_main check -
 mkdir "$work/limits"
-python3 witness/limits.py crates/zic_main/out/zic_main "$work/limits" | sed 's/^/limits: /'
+python3 tests/faults/limits.py crates/zic_main/out/zic_main "$work/limits" | sed 's/^/limits: /'

@@ -1,11 +1,11 @@
 #!/usr/bin/env bash
 # Checks that the system's release of the tz database is accepted. Compares the numbers of its Rule,
 # Zone, continuation and Link lines with those that awk counts. Then compares the changes of every
-# zone, up to its explicit end, with the files that the system's zic makes. Needs `python3` 3.9 or
-# later.
+# zone, up to its explicit end, with the files that the system's zic makes.
+# Needs: tzdata, zic
 set -euo pipefail
-cd "$(dirname "${BASH_SOURCE[0]}")/.."
-. .ci/release.sh
+cd "$(dirname "${BASH_SOURCE[0]}")/../.."
+. tests/common.sh
 
 fail() {
     echo "tzdata.zi: got '$1', and not '$2'" >&2
@@ -22,7 +22,7 @@ echo "tzdata.zi: $got"
 
 crates/probe/out/probe changes <"$release" >"$work/changes" || fail "$(tail -n 1 "$work/changes")" "the changes of all zones"
 zic -b fat -d "$work/files" "$release"
-got=$(python3 witness/changes.py "$work/changes" "$work/files") || fail "$got" "0 differences"
+got=$(python3 tests/outside/changes.py "$work/changes" "$work/files") || fail "$got" "0 differences"
 want=$(awk '/^Z /{z++} END {printf "%d zones\n", z}' "$release")
 [ "${got%%,*}" = "$want" ] || fail "$got" "$want"
 echo "tzdata.zi: $got from $(zic --version)"

@@ -1,19 +1,19 @@
 #!/usr/bin/env bash
 # Checks the messages, statuses, files and rows of the built program: the sources of
-# witness/checks.txt, the calls of witness/calls, usage, paths that can't be read or written,
+# tests/program/sources.txt, the calls of tests/program, usage, paths that can't be read or written,
 # outputs that fail, limits, columns, little memory, and builds that are killed. As root, it tries a read-only folder as the
-# user nobody. Compares rows also with Python's zoneinfo over the files of the system's zic. Needs
-# `python3` 3.9 or later.
+# user nobody. Compares rows also with Python's zoneinfo over the files of the system's zic.
+# Needs: zic. Parts need: root
 set -euo pipefail
-cd "$(dirname "${BASH_SOURCE[0]}")/.."
-. .ci/release.sh
+cd "$(dirname "${BASH_SOURCE[0]}")/../.."
+. tests/common.sh
 build zic_main check -
 program=$PWD/crates/zic_main/out/zic_main
-table=$PWD/witness/checks.txt
-columns=$PWD/witness/records.py
+table=$PWD/tests/program/sources.txt
+columns=$PWD/tests/program/records.py
 help=$PWD/docs/help
-tables=("$PWD"/witness/calls/*.txt)
-caller=$PWD/witness/calls.py
+tables=("$PWD"/tests/program/[!s]*.txt)
+caller=$PWD/tests/calls.py
 cd "$work"
 mkdir asked
 cd asked
@@ -144,7 +144,7 @@ done < <(sed 's/^= /=/' "$table" && echo)
 
 # ------------------------------------------------------------------ tables of calls
 
-python3 "$caller" "$program" "${tables[@]}" | sed 's/^/program: /' || differ 'answers to the calls of witness/calls differ'
+python3 "$caller" "$program" "${tables[@]}" | sed 's/^/program: /' || differ 'answers to the calls of tests/program differ'
 
 # ------------------------------------------------------------------ limits
 
@@ -210,7 +210,7 @@ for word in --version -V; do
     expect 0 "$(cat "$help/version.txt")" '' $word
 done
 expect_usage help
-# what errors mean: .ci/pages.sh compares the texts with the pages
+# what errors mean: tests/program/pages.sh compares the texts with the pages
 for word in keyword 'Keyword ' '' --workers; do expect_usage explain "$word"; done
 expect_usage explain Keyword Name
 ask explain

@@ -3,10 +3,11 @@
 # faults that are another file of the command, runs that stop before their rows, names that look like
 # leftovers of `build`, symbolic links that would lead to no file, control characters in words, and
 # trees with pipes and devices. It checks too that `build --sync` syncs each file and folder, by `strace`,
-# and how the program is linked, by `readelf`, where these are installed. As root, it makes leftovers of another user.
+# and how the program is linked, by `readelf`. As root, it makes leftovers of another user.
+# Parts need: strace, readelf, root
 set -euo pipefail
-cd "$(dirname "${BASH_SOURCE[0]}")/.."
-. .ci/build.sh
+cd "$(dirname "${BASH_SOURCE[0]}")/../.."
+. tests/common.sh
 
 build zic_main check -
 program=$PWD/crates/zic_main/out/zic_main
@@ -212,7 +213,7 @@ fsync(<./new/traced>)'
     told 'pzic build' 0 '' ''
     holds <(grep sync ../calls) ''
 else
-    echo "safe: there is no strace that can trace here, so the syncs of build --sync aren't looked at" >&2
+    echo "skipped: the syncs of build --sync: there is no strace that can trace here"
 fi
 
 # ------------------------------------------------------------------ control characters in words
@@ -252,14 +253,12 @@ grep -qxF -- '--> special/Pipe: not a regular file' ../err || differ "convert --
 
 # ------------------------------------------------------------------ how the program is linked
 
-if command -v readelf >/dev/null; then
+if has 'how the program is linked' readelf; then
     parts=$(readelf -hldW "$program")
     for part in 'Type: +DYN' ' GNU_RELRO ' 'BIND_NOW' 'GNU_STACK .* RW +0'; do
         calls=$((calls + 1))
         grep -qE -- "$part" <<<"$parts" || differ "readelf shows no '$part' of the program"
     done
-else
-    echo "safe: there is no readelf, so how the program is linked isn't looked at" >&2
 fi
 
 if [ "$differences" != 0 ]; then

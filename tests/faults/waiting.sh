@@ -1,14 +1,13 @@
 #!/usr/bin/env bash
 # Converts columns that come through a pipe, in short and long lines, in bursts of about 64 KiB and
 # after a byte order mark that comes byte by byte, and checks that each row comes out within two
-# seconds, without a further line, by each option that changes how a column is read. Needs
-# `python3` 3.9 or later, and Linux.
+# seconds, without a further line, by each option that changes how a column is read.
 set -euo pipefail
-cd "$(dirname "${BASH_SOURCE[0]}")/.."
-. .ci/build.sh
+cd "$(dirname "${BASH_SOURCE[0]}")/../.."
+. tests/common.sh
 
 build zic_main check -
 program=crates/zic_main/out/zic_main
 echo 'Zone Z 0 - UTC' >"$work/source"
 "$program" build "$work/tree" "$work/source"
-python3 witness/waiting.py "$program" "$work/source" "$work/tree" | sed 's/^/waiting: /'
+python3 tests/faults/waiting.py "$program" "$work/source" "$work/tree" | sed 's/^/waiting: /'

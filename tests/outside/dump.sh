@@ -1,10 +1,10 @@
 #!/usr/bin/env bash
 # Compares what `dump` lists with the system's `zdump -i`, for each file of the system's release of
 # the tz database, from 1800 to 2100; and for some without `--from` and `--to`.
+# Needs: tzdata, zdump
 set -euo pipefail
-cd "$(dirname "${BASH_SOURCE[0]}")/.."
-. .ci/release.sh
-command -v zdump >"$work/log" || install libc-bin
+cd "$(dirname "${BASH_SOURCE[0]}")/../.."
+. tests/common.sh
 
 build zic_main check -
 program=$PWD/crates/zic_main/out/zic_main

@@ -4,9 +4,10 @@
 # each kind. No run may fail. Each file must be whole, of the one source or the other, also while the runs write, and
 # nothing may be left over, even if a run before them was killed. Half of the pairs start with an
 # existing tree.
+# Needs: tzdata
 set -euo pipefail
-cd "$(dirname "${BASH_SOURCE[0]}")/.."
-. .ci/release.sh
+cd "$(dirname "${BASH_SOURCE[0]}")/../.."
+. tests/common.sh
 
 build zic_main check -
 program=$PWD/crates/zic_main/out/zic_main

@@ -3,8 +3,8 @@
 # 1,000 rules from the year 1 to 9000, and it changes at each occurrence but the first. Checks that a
 # column of 30,000,000 bytes is converted within 64 MiB, with pieces of 65,536 rows.
 set -euo pipefail
-cd "$(dirname "${BASH_SOURCE[0]}")/.."
-. .ci/build.sh
+cd "$(dirname "${BASH_SOURCE[0]}")/../.."
+. tests/common.sh
 build probe counts
 build zic_main check -
 # A rule every eight hours, with standard time and saved time in turn.

@@ -1,7 +1,7 @@
 """Runs the examples of the library's page: `examples.py PAGE WORK LIBRARY TREE`.
 
 Each block of C, C++, Go, Python, Rust or SQL is compiled and run, and must print what the page shows after it. Those in a
-language that isn't there are left out by name, and so are those with pandas where it is missing.
+language that isn't there are skipped by name, and so are those with pandas where it is missing.
 """
 
 import importlib.util
@@ -73,7 +73,7 @@ for i, (language, text) in enumerate(blocks):
     if language not in TOOLS:
         continue
     if is_missing(language, text):
-        print(f"library: an example for {language} is left out: something that it needs isn't there")
+        print(f"skipped: an example for {language}: something that it needs isn't there")
         continue
     got = run_block(language, text)
     want = "3600 IST\n" if language == "rust" else text_after(i)

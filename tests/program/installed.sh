@@ -5,11 +5,11 @@
 # manual page, the completions, the library from C and from Python, the notices, and the links of the
 # pages. As root the program runs by `chroot`, with nothing there but the package and the files of
 # libc6 that the program is linked with.
+# Needs: tzdata, dpkg-deb, cc, pkg-config. Parts need: root, man, zsh
 set -euo pipefail
-cd "$(dirname "${BASH_SOURCE[0]}")/.."
-. .ci/release.sh
+cd "$(dirname "${BASH_SOURCE[0]}")/../.."
+. tests/common.sh
 build zic_main check -
-unset -f install
 work=${work:?} release=${release:?}
 root=$work/root
 differences=0
@@ -49,6 +49,7 @@ if [ "$(id -u)" = 0 ]; then
     pzic=(env -i "$(command -v chroot)" "$root" /usr/bin/pzic)
 else
     how='dpkg-deb -x'
+    echo "skipped: the package by dpkg and chroot: this isn't root"
     dpkg-deb -x "$package" "$root"
     pzic=(env -i "$root/usr/bin/pzic")
 fi
@@ -88,9 +89,9 @@ completed() {
         printf "%s\n" "${COMPREPLY[@]}"' bash "$share/bash-completion/completions/pzic" "$1"
 }
 
-if command -v man >"$work/log"; then expect '       pzic' manual_name; fi
+if has 'how man shows the manual page' man; then expect '       pzic' manual_name; fi
 expect $'complete -o filenames -F _pzic pzic\nshow' completed sh
-! command -v zsh >"$work/log" || expect '' zsh -n "$share/zsh/vendor-completions/_pzic"
+! has 'the completions of zsh' zsh || expect '' zsh -n "$share/zsh/vendor-completions/_pzic"
 # README.md names each library whose notice is in the package.
 named=$(sed -n '/^## .*licence/,$p' README.md)
 for crate in $(sed -n 's/^---- //p' "$share/doc/pzic/copyright"); do

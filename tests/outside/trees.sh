@@ -2,11 +2,11 @@
 # Builds trees of the system's release of the tz database with several numbers of workers and sizes
 # of pieces, and of the release cut into three texts, and checks that they are equal. Does the same
 # for the largest source. Then reads the trees with glibc, Python's zoneinfo and the kit's jiff.
-# That the files show what zic's do is checked by .ci/files.sh. Needs `python3` 3.9 or later, and
-# glibc.
+# That the files show what zic's do is checked by tests/outside/files.sh.
+# Needs: tzdata
 set -euo pipefail
-cd "$(dirname "${BASH_SOURCE[0]}")/.."
-. .ci/release.sh
+cd "$(dirname "${BASH_SOURCE[0]}")/../.."
+. tests/common.sh
 
 build zic_main check -
 build probe counts
@@ -85,7 +85,7 @@ for kind in hard hard symlink symlink copy symlink hard copy; do
 done
 echo "trees: $(wc -l <"$work/ends") links are copies, hard links or symbolic links of the same bytes, over each other"
 
-"$program" build "$work/worked" witness/worked.zi
+"$program" build "$work/worked" tests/outside/worked.zi
 for tree in worked release; do
-    python3 witness/trees.py "$work/$tree" crates/probe/out/probe | sed "s/^/trees, $tree: /"
+    python3 tests/outside/trees.py "$work/$tree" crates/probe/out/probe | sed "s/^/trees, $tree: /"
 done

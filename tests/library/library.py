@@ -159,8 +159,9 @@ def answer(call, *words):
 
 def compare_compiled():
     """Compare the files of sources, what they show, and the first faults with those of compiled.txt."""
-    folder = Path(__file__).resolve().parent
-    blocks = [block for name in ("rows/files.txt", "compiled.txt") for block in worked_rows.blocks_of(folder / name)]
+    folder = Path(__file__).resolve().parent.parent
+    paths = folder / "worked/files.txt", folder / "library/compiled.txt"
+    blocks = [block for path in paths for block in worked_rows.blocks_of(path)]
     named, count = {}, 0
     for block in blocks:
         if block.head[0] == "@":
@@ -183,7 +184,7 @@ def name_of(call, number):
 
 def compare_names():
     """Compare the names by number with those of the page of errors, which the gate tries on the program."""
-    page = os.path.join(os.path.dirname(os.path.abspath(__file__)), "../docs/errors.txt")
+    page = os.path.join(os.path.dirname(os.path.abspath(__file__)), "../../docs/errors.txt")
     with open(page, encoding="utf-8") as file:
         printed = re.findall(r"^## (\w+)$", file.read(), re.M)
     got = [name_of(c.name_of_fault, number) for number in range(40)]

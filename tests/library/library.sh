@@ -3,11 +3,12 @@
 # addresses and of undefined behaviour and under that of threads, beside the C library's own reader;
 # the extension of SQLite; the Python package beside Python's zoneinfo, its objects, its types, and as
 # pip installs it; and the examples of docs/LIBRARY.md in each language.
+# Needs: tzdata, cc, c++, nm, pkg-config
+# Parts need: clang, sqlite3ext.h, sqlite3, valgrind, pandas, test_zoneinfo, mypy, pip, go, rustc
 set -euo pipefail
-cd "$(dirname "${BASH_SOURCE[0]}")/.."
-. .ci/release.sh
+cd "$(dirname "${BASH_SOURCE[0]}")/../.."
+. tests/common.sh
 built=$work/library tree=$work/zones
-echo '#include <sqlite3ext.h>' | cc -E - >"$work/log" 2>&1 || install libsqlite3-dev || echo 'library: no sqlite3ext.h'
 ./make-library "$built"
 build zic_main check -
 crates/zic_main/out/zic_main build "$tree" "$release"
@@ -19,7 +20,7 @@ strict=(-Wall -Wextra -Wconversion -pedantic -Werror -I include -fsyntax-only)
 for header in pzic.h pzic_tree.h; do
     echo "#include \"$header\"" >"$work/alone.c"
     for compiler in cc clang; do
-        command -v "$compiler" >"$work/log" || { echo "library: no $compiler"; continue; }
+        has "the headers by $compiler" "$compiler" || continue
         for standard in c99 c11; do
             "$compiler" "-std=$standard" -D_POSIX_C_SOURCE=200809L "${strict[@]}" "$work/alone.c"
         done
@@ -37,16 +38,16 @@ zones=(Europe/Dublin America/New_York Africa/Casablanca Asia/Gaza America/Nuuk A
 wrap=(-Wl,--wrap=malloc -Wl,--wrap=realloc)
 for tools in 'cc address,undefined' 'cc thread' 'clang thread'; do
     read -r compiler sanitizers <<<"$tools"
-    command -v "$compiler" >"$work/log" || { echo "library: no $compiler"; continue; }
+    has "the calls from C by $tools" "$compiler" || continue
     "$compiler" -std=gnu11 -O1 -g -Wall -Wextra -Wconversion -Werror "-fsanitize=$sanitizers" \
-        -fno-sanitize-recover=all -I include .ci/library.c "$built/lib/libpzic.a" "${wrap[@]}" -lpthread -o "$work/calls"
+        -fno-sanitize-recover=all -I include tests/library/library.c "$built/lib/libpzic.a" "${wrap[@]}" -lpthread -o "$work/calls"
     got=$("$work/calls" "$tree" "${zones[@]}")
     [ "$got" = "${#zones[@]} zones" ] || { echo "library: $tools: got '$got'" >&2; exit 1; }
     echo "library: C, $tools: $got"
 done
 
 # The stack that each call uses.
-cc -std=gnu11 -O1 -Wall -Wextra -Wconversion -Werror -I include .ci/library_stack.c "$built/lib/libpzic.a" -lpthread \
+cc -std=gnu11 -O1 -Wall -Wextra -Wconversion -Werror -I include tests/library/library_stack.c "$built/lib/libpzic.a" -lpthread \
     -o "$work/stack"
 "$work/stack" "$tree/America/New_York" | sed 's/^/library: /'
 
@@ -56,24 +57,22 @@ sed -n 's/^\(int32_t\|uint32_t\|void\) \(pzic_[a-z_]*\)(.*/\2/p' include/pzic.h 
 diff "$work/declared" "$work/names"
 
 # Python. Debian's own may have numpy and pandas.
-export PZIC_LIBRARY=$built/lib/libpzic.so PYTHONPATH=$PWD/python PYTHONDONTWRITEBYTECODE=1
+export PZIC_LIBRARY=$built/lib/libpzic.so PYTHONPATH=$PWD/python:$PWD/tests
 python=python3
 if [ -x /usr/bin/python3 ]; then
     python=/usr/bin/python3
-    "$python" -c 'import pandas' 2>"$work/log" || install python3-pandas 2>"$work/log" || echo 'library: no pandas'
 fi
-"$python" witness/library.py "$tree"
-"$python" witness/python_objects.py "$tree"
+"$python" -c 'import pandas' 2>"$work/log" || echo "skipped: arrays and columns of numpy and pandas: pandas isn't there"
+"$python" tests/library/library.py "$tree"
+"$python" tests/library/python_objects.py "$tree"
 
 # The extension of SQLite, from Python, and from its own program under valgrind.
 extension=$built/lib/pzic_sqlite.so
 if [ ! -e "$extension" ]; then
-    echo 'library: no extension of SQLite'
+    echo "skipped: the extension of SQLite: sqlite3ext.h isn't there"
 else
-    "$python" witness/sqlite_local.py "$tree" "$extension"
-    command -v sqlite3 >"$work/log" || install sqlite3 2>"$work/log" || true
-    command -v valgrind >"$work/log" || install valgrind 2>"$work/log" || true
-    if command -v sqlite3 >"$work/log" && command -v valgrind >"$work/log"; then
+    "$python" tests/library/sqlite_local.py "$tree" "$extension"
+    if has 'the extension of SQLite, under valgrind' sqlite3 valgrind; then
         cat >"$work/asked.sql" <<END
 .load ${extension%.so}
 SELECT pzic_open('$tree') = '$tree';
@@ -88,8 +87,6 @@ END
         grep -q 'no such zone' "$work/log" && [ "$status" -ne 9 ] || { cat "$work/log" >&2; exit 1; }
         head -n 3 "$work/answered" | diff - <(printf '1\n2024-07-03 10:46:40|32400|UTC\n1729992600|\n')
         echo 'library: the extension of SQLite, under valgrind'
-    else
-        echo 'library: no sqlite3 or no valgrind'
     fi
 fi
 
@@ -98,18 +95,13 @@ tests='from test.test_zoneinfo import test_zoneinfo'
 for tester in "$python" python3 none; do
     ! "$tester" -c "$tests" 2>"$work/log" || break
 done
-if [ "$tester" = none ] && install "lib$(basename "$(readlink -f "$(command -v "$python")")")-testsuite" 2>"$work/log"; then
-    tester=$python
-fi
-if [ "$tester" = none ]; then echo 'library: no test_zoneinfo'; else "$tester" witness/zoneinfo_tests.py; fi
+if [ "$tester" = none ]; then echo "skipped: CPython's tests of zoneinfo: test_zoneinfo isn't there"; else "$tester" tests/library/zoneinfo_tests.py; fi
 
 # The types, for the oldest Python and for this one.
-if command -v mypy >"$work/log" || install mypy 2>"$work/log"; then
+if has 'the types of the Python package' mypy; then
     for version in 3.8 "$("$python" -c 'import sys; print("%d.%d" % sys.version_info[:2])')"; do
         mypy --strict --python-version "$version" --cache-dir "$work/mypy" python/pzic | sed 's/^/library: mypy: /'
     done
-else
-    echo 'library: no mypy'
 fi
 
 # As pip installs it, from its folder and as a wheel, each into a new environment, without a network.
@@ -141,11 +133,8 @@ print(pzic.__version__, pzic.__file__.startswith(sys.prefix), pzic.Tree.open(sys
     [ "$got" -lt 40 ] || { echo "library: importing pzic takes $got ms" >&2; exit 1; }
     echo "library: Python, as pip installs it, imported within $got ms"
 }
-has_pip || for name in python3-pip python3-setuptools python3-wheel python3-venv; do
-    install "$name" 2>"$work/log" || break
-done
-if has_pip; then install_by_pip; else echo 'library: no pip'; fi
+if has_pip; then install_by_pip; else echo "skipped: the Python package as pip installs it: pip isn't there"; fi
 
 # The examples of the page.
 export PKG_CONFIG_PATH=$built/lib/pkgconfig LD_LIBRARY_PATH=$built/lib
-"$python" witness/examples.py docs/LIBRARY.md "$work" "$built" "$tree"
+"$python" tests/library/examples.py docs/LIBRARY.md "$work" "$built" "$tree"

@@ -1,0 +1,19 @@
+#!/usr/bin/env bash
+# Converts columns of 100,000 rows over all zones and links of the system's release of the tz
+# database, by its source and by trees of its files. Compares each row with Python's zoneinfo, over the
+# program's files and over those of the system's zic, and with tests/outside/reader.py. Compares what
+# `show --local` prints near changes with zoneinfo too.
+# Needs: tzdata, zic
+set -euo pipefail
+cd "$(dirname "${BASH_SOURCE[0]}")/../.."
+. tests/common.sh
+
+build zic_main check -
+program=crates/zic_main/out/zic_main
+"$program" build "$work/ours" "$release"
+zic -b fat -d "$work/fat" "$release"
+zic -b slim -d "$work/slim" "$release"
+python3 tests/outside/columns.py "$program" "$release" "$work" | sed 's/^/columns: /'
+python3 tests/outside/layouts.py "$program" "$release" "$work" | sed 's/^/columns: /'
+python3 tests/outside/local_times.py "$program" "$work" | sed 's/^/columns: /'
+python3 tests/outside/tree_columns.py "$program" "$release" "$work" | sed 's/^/columns: /'
