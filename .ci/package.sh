@@ -124,6 +124,7 @@ install -d "$share/man/man1" "$pages/docs"
 gzip -9n <man/pzic.1 >"$share/man/man1/pzic.1.gz"
 install -m 644 README.md "$pages"
 install -m 644 docs/*.md docs/*.txt "$pages/docs"
+docs/make-index.py >"$pages/docs/INDEX.md"
 # The sources aren't in the package, so its pages have no links to them.
 sed -i 's,\[\([^]]*\)\](\.\./[^)]*),\1,g' {"$pages/docs/INDEX.md","$pages/docs/LIBRARY.md"}
 copyright >"$pages/copyright"

@@ -7,8 +7,8 @@
 #   with what is made of it;
 # - looks for each command and option of docs/help in the manual page and in the completions, and
 #   tries the completions in bash;
-# - compares docs/INDEX.md with what is made of the sources, and looks for public functions without an
-#   edit or a test;
+# - prints the index of promises and public functions, and looks for functions without an edit or a
+#   test;
 # - checks links, the length of README.md, and the names in docs/PROOF.md.
 # Needs: tzdata. Parts need: parallel, zsh, psql, sqlite3, man
 set -euo pipefail
@@ -290,9 +290,14 @@ grep -oE "\`($verbs)[A-Za-z]*\`" docs/PROOF.md | tr -d '`' | sort -u |
 for crate in $(sed -n 's/^\(zic_[a-z_]*\).*:.*/\1/p' crates.txt); do
     grep -q "^\*\*$crate\*\*" docs/PROOF.md || differ "docs/PROOF.md tells nothing of $crate"
 done
-cmp -s <(docs/make-index.py) docs/INDEX.md ||
-    differ 'docs/INDEX.md is not what docs/make-index.py makes'
+docs/make-index.py >"$work/INDEX.md" || differ 'docs/make-index.py can not print the index'
+for link in $(grep -oE '\]\([^): ]+' "$work/INDEX.md" | cut -c 3- | sort -u); do
+    [ -e "docs/${link%%#*}" ] || differ "the index links to $link, which isn't there"
+done
 docs/make-index.py --check >"$work/lacks" || differ "docs/make-index.py finds: $(cat "$work/lacks")"
+
+comm -23 <(tests/run --list | sort) <(sort docs/TESTING.md) >"$work/unlisted"
+[ ! -s "$work/unlisted" ] || differ "docs/TESTING.md lacks what tests/run --list prints: $(head -n 1 "$work/unlisted")"
 
 echo "pages: $(wc -l <"$log") differences"
 [ ! -s "$log" ]
