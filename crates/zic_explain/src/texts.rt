@@ -509,10 +509,10 @@ It prints:
 Right:
   $ names 64 | pzic check -
 ?  A generated source with a different abbreviation for each change.
-@RowFields?A record doesn't have two fields.?  A record doesn't have two fields. With `--zone`: not one. With
-  `--zone-field` or `--time-field`: not as many as these say. With `--append`:
-  fewer than are read. With `--keep-going` the record is written as it stands,
-  the run goes on, and `N rows with faults` is printed at the end.
+@RowFields?A record has too few or too many fields.?  A record has too few or too many fields. There must be two, or one with
+  `--zone`; with `--zone-field`, `--time-field` or `--append` as many as are
+  read, or more. With `--keep-going` the record is written as it stands,
+  without empty fields of local time.
 ?  `NAME,SECONDS` with one comma.
 ?
 The examples use:
@@ -1041,8 +1041,8 @@ Right:
 ?  A name of another release or of `backward`: `pzic check` lists all names of a
   source. With `--tree`, list the folder.
 @out of memory?The system refused memory.?  The system refused memory. Status 4.
-?  A few MB for a release of the tz database, and at most some 60 MB for a
-  column with 4 threads.
+?  A few MB for a release of the tz database, some 60 MB for a column with 4
+  threads, and up to three times the longest record of it.
 ?
 The examples use:
   $ echo 'Zone Etc/UTC 0 - UTC' >utc.zi
