@@ -10,12 +10,6 @@ awk '
         return name
     }
 
-    # the first sentence of a text
-    function first(text, end) {
-        end = index(text, ". ")
-        return end ? substr(text, 1, end) : text
-    }
-
     # a text of one or more lines, each with its end
     function show(name, word, text) {
         if (!((name, word) in texts)) return
@@ -36,15 +30,12 @@ awk '
 
     END {
         print "# Errors\n"
-        print "Every error by name: what it means, an example that causes it, the correct form, what is expected, and the usual cause. `pzic explain NAME` prints the same.\n"
-        print "This page is generated from [errors.txt](errors.txt) by `docs/make-errors.sh`. The gate runs every example.\n"
-        print "| Name | Meaning |\n|---|---|"
+        print "Every error by name: what it means, an example that causes it, the correct form, what is expected, and the usual cause. `pzic explain NAME` prints the same, and `pzic explain` a list with the meaning of each. This page is generated from [errors.txt](errors.txt) by `docs/make-errors.sh`, and the tests run every example."
         for (i = 1; i <= count; i++) {
-            if (names[i] in is_part) continue
-            text = texts[names[i], "says"]
-            gsub(/\n/, " ", text)
-            printf "| [%s](#%s) | %s |\n", names[i], place(names[i]), first(text)
+            if (names[i] in is_part) printf "\n- %s:", names[i]
+            else printf "%s[%s](#%s)", (names[i - 1] in is_part ? " " : ", "), names[i], place(names[i])
         }
+        print ""
         for (i = 1; i <= count; i++) {
             name = names[i]
             printf "\n%s %s\n", name in is_part ? "##" : "###", name
