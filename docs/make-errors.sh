@@ -17,9 +17,12 @@ awk '
         printf "%s\n", texts[name, word]
     }
 
-    function show_example(name, word, text) {
+    # the lines of an example, indented as Markdown has code
+    function show_example(name, word, text, lines) {
         if (!((name, word) in texts)) return
-        printf "\n%s\n\n```%s\n%s\n```\n", text, texts[name, word] ~ /^[$] / ? "console" : "text", texts[name, word]
+        lines = texts[name, word]
+        gsub(/\n/, "\n    ", lines)
+        printf "\n%s\n\n    %s\n", text, lines
     }
 
     /^;/ || /^$/ { next }
