@@ -55,6 +55,10 @@ impl Gate for Counter {
     }
 }
 
+/// Nine zones.
+const NINE_NAMES: &str = "Zone Z/1 0 - AAA\nZone Z/2 0 - AAA\nZone Z/3 0 - AAA\nZone Z/4 0 - AAA\nZone Z/5 0 - AAA\n\
+Zone Z/6 0 - AAA\nZone Z/7 0 - AAA\nZone Z/8 0 - AAA\nZone Z/9 0 - AAA\n";
+
 /// Nine zones. The fourth and the eighth have a fault.
 const NINE: &str =
     "Zone Z/1 0 - AAA\nZone Z/2 0 - AAA\nZone Z/3 0 - AAA\nZone Z/4 1:00 1:00 XXX\nZone Z/5 0 - AAA\n\
@@ -82,4 +86,15 @@ fn two_workers_are_at_the_gate_at_once(rt: HostRuntime) {
     expect(&rt, whole, "the files");
     expect(&rt, files.find(b"Etc/UTC") == Some(1), "a name");
     expect(&rt, !gate.is_late(), "two workers at once");
+}
+
+#[test]
+fn files_are_found_by_each_key(rt: HostRuntime) {
+    for key in [0, 1, 0x1e35_a7bd, u64::MAX] {
+        let files = must(&rt, built(&rt, rt.alloc(), NINE_NAMES, 1, &Open));
+        let files = must(&rt, files.with_key(rt.alloc(), key));
+        expect(&rt, files.len() == 9, "all files");
+        expect(&rt, files.find(b"Z/9") == Some(8), "the last name");
+        expect(&rt, files.find(b"Z/0").is_none(), "no other name");
+    }
 }

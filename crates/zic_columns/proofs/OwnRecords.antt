@@ -10,6 +10,7 @@ use Rattle.csv.specs.declared.parser.Action.TheVariants as act
 use Rattle.csv.specs.declared.parser.State.{State}
 use Rattle.csv.specs.declared.parser.State.TheVariants as st
 use Rattle.zic_columns.specs.Column.{column_records, ends_line}
+use Rattle.zic_columns.specs.Ends.{BeginsWithin}
 use Rattle.zic_columns.specs.Own.{CsvRecord, beside, own_from, own_texts, csv_records}
 use Rattle.zic_columns.specs.Record.{first_fields, whole_of}
 use Rattle.zic_columns.proofs.CutLaw.{in_record, stays}
@@ -21,7 +22,23 @@ use Rattle.zic_columns.proofs.StepFacts.{records-cons, records-nil}
 
 -- ---- the rest of a record
 
--- The machine, in a record, reads the bytes up to an end of its own bytes, which end the record too where nothing follows.
+-- The machine reads all these bytes, which are the rest of one record.
+abbrev ReadsAll : State → List (List ℕ) → List ℕ → List ℕ → Type 0
+ReadsAll s fields field bytes = (all : List (List ℕ)) × (next_record default_config s fields field bytes ≡ took all st.StartRecord [])
+
+read_letter : (s : State) (fields : List (List ℕ)) (field : List ℕ) → in_record s ≡ true → ReadsAll s fields field (120 ∷ [])
+unfolding next_record
+read_letter st.StartRecord fields field is = absurd (cc is)
+read_letter st.AfterCr fields field is = absurd (cc is)
+read_letter st.StartField fields field is = (fields ++ (field ++ 120 ∷ []) ∷ [], refl)
+read_letter st.InField fields field is = (fields ++ (field ++ 120 ∷ []) ∷ [], refl)
+read_letter st.InQuoted fields field is = (fields ++ (field ++ 120 ∷ []) ∷ [], refl)
+read_letter st.AfterQuote fields field is = (fields ++ (field ++ 120 ∷ []) ∷ [], refl)
+read_letter st.InEscape fields field is = (fields ++ (field ++ 120 ∷ []) ∷ [], refl)
+read_letter st.InComment fields field is = absurd (cc is)
+
+-- The machine, in a record, reads the bytes up to an end of its own bytes, which end the record too where nothing follows. Where a letter
+-- follows, it is of the record.
 pub record IsRead (s : State) (fields : List (List ℕ)) (field own bytes : List ℕ) : Type 0 where
   pub front : List ℕ
   pub all : List (List ℕ)
@@ -30,6 +47,7 @@ pub record IsRead (s : State) (fields : List (List ℕ)) (field own bytes : List
   pub owns : own_from default_config s own bytes ≡ (own ++ front) ∷ own_from default_config after [] rest
   pub reads : next_record default_config s fields field bytes ≡ took all after rest
   pub alone : next_record default_config s fields field front ≡ took all st.StartRecord []
+  pub more : ReadsAll s fields field (front ++ 120 ∷ [])
 
 read_last : (s : State) (fields : List (List ℕ)) (field : List ℕ) → in_record s ≡ true
     → next_record default_config s fields field [] ≡ took (fields ++ field ∷ []) st.StartRecord []
@@ -51,6 +69,7 @@ read_on s fields field own [] is = record {
   owns = own_last s own is ∙ ap (λ (b : List ℕ). b ∷ []) (sym (append-nil own)) ∙ ap (λ (t : List (List ℕ)). (own ++ []) ∷ t) (sym own_nil);
   reads = read_last s fields field is;
   alone = read_last s fields field is;
+  more = read_letter s fields field is;
 }
 read_on s fields field own (byte ∷ bytes) is =
     let to = step default_config s byte in
@@ -63,6 +82,7 @@ read_on s fields field own (byte ∷ bytes) is =
       owns = own_then s byte own bytes ends ∙ ap (λ (b : List ℕ). b ∷ own_from default_config to.0 [] bytes) (sym (append-nil own));
       reads = next_ends s byte fields field bytes ends ∙ ap (λ (f : List (List ℕ)). took f to.0 bytes) (end_fields to.1 fields field ends);
       alone = read_last s fields field is;
+      more = read_letter s fields field is;
     })
     (λ (goes : is_end to.1 ≡ false).
     let later = read_on to.0 (fields_after to.1 fields field) (field_after to.1 byte field) (own ++ byte ∷ []) bytes (stays s byte is goes) in
@@ -75,17 +95,22 @@ read_on s fields field own (byte ∷ bytes) is =
           ∙ ap (λ (b : List ℕ). b ∷ own_from default_config later.after [] later.rest) (append_assoc own (byte ∷ []) later.front);
       reads = next_goes s byte fields field bytes goes ∙ later.reads;
       alone = next_goes s byte fields field later.front goes ∙ later.alone;
+      more = (later.more.0, next_goes s byte fields field (later.front ++ 120 ∷ []) goes ∙ later.more.1);
     })
     (cases_Bool (is_end to.1))
 
 -- ---- a whole record
 
--- the first record has these own bytes, which are that record alone, and the rest have the others
+abbrev IsTrimmed : List ℕ → Type 0
+IsTrimmed own = BeginsWithin own × (length (column_records (own ++ 120 ∷ [])) ≡ 1)
+
+-- the first record has these own bytes, which are that record alone and have no line end around them, and the rest have the others
 pub record IsFirstOwn (bytes own rest : List ℕ) : Type 0 where
   pub fields : List (List ℕ)
   pub owns : own_texts bytes ≡ own ∷ own_texts rest
   pub reads : column_records bytes ≡ fields ∷ column_records rest
   pub alone : column_records own ≡ fields ∷ []
+  pub trimmed : IsTrimmed own
 
 read_first : (byte : ℕ) (bytes : List ℕ) → ends_line byte ≡ false
     → (own : List ℕ) × (rest : List ℕ) × (length rest < length (byte ∷ bytes)) × IsFirstOwn (byte ∷ bytes) own rest
@@ -99,6 +124,8 @@ read_first byte bytes within =
     Machine.starts byte bytes [] [] within ∙ next_goes s byte [] [] bytes goes ∙ later.reads in
     let alone : next_record default_config st.StartRecord [] [] own ≡ took later.all st.StartRecord [] =
     Machine.starts byte later.front [] [] within ∙ next_goes s byte [] [] later.front goes ∙ later.alone in
+    let more : next_record default_config st.StartRecord [] [] (own ++ 120 ∷ []) ≡ took later.more.0 st.StartRecord [] =
+    Machine.starts byte (later.front ++ 120 ∷ []) [] [] within ∙ next_goes s byte [] [] (later.front ++ 120 ∷ []) goes ∙ later.more.1 in
     let left : Leaves (length (byte ∷ bytes)) (took later.all later.after later.rest) = subst (Leaves (length (byte ∷ bytes))) reads (leaves st.StartRecord [] [] (byte ∷ bytes)) in
     let others = column_records later.rest in (
       own,
@@ -110,6 +137,7 @@ read_first byte bytes within =
         reads = only (byte ∷ bytes) (later.all ∷ others)
             (records-cons st.StartRecord later.after (byte ∷ bytes) later.rest later.all others reads (Machine.before_record later.after later.rest others left.0 (are_read later.rest)));
         alone = only own (later.all ∷ []) (records-cons st.StartRecord st.StartRecord own [] later.all [] alone records-nil);
+        trimmed = (within, ap length (only (own ++ 120 ∷ []) (later.more.0 ∷ []) (records-cons st.StartRecord st.StartRecord (own ++ 120 ∷ []) [] later.more.0 [] more records-nil)));
       },
     )
 
@@ -121,6 +149,7 @@ IsAlone w = column_records w.own ≡ w.fields ∷ []
 record AreAlone (bytes : List ℕ) : Type 0 where
   pub each : All IsAlone (csv_records bytes)
   pub same : csv_records bytes ≡ map whole_of (own_texts bytes)
+  pub trimmed : All IsTrimmed (own_texts bytes)
 
 wholes_first : (bytes own rest : List ℕ) (is : IsFirstOwn bytes own rest) → csv_records bytes ≡ record { own = own; fields = is.fields } ∷ csv_records rest
 wholes_first bytes own rest is =
@@ -135,13 +164,14 @@ alone_first bytes own rest is later =
       same = all ∙ ap (λ (w : List CsvRecord). first ∷ w) later.same
           ∙ ap (λ (r : List (List (List ℕ))). record { own = own; fields = first_fields r } ∷ map whole_of (own_texts rest)) (sym is.alone)
           ∙ ap (map whole_of) (sym is.owns);
+      trimmed = subst (All IsTrimmed) (sym is.owns) (All-cons IsTrimmed own (own_texts rest) is.trimmed later.trimmed);
     }
 
 alone_up_to : (n : ℕ) (bytes : List ℕ) → length bytes < n → AreAlone bytes
 alone_up_to zero bytes few = absurd (omega (arith, few))
 alone_up_to (suc n) [] few =
     let none : csv_records [] ≡ [] = ap (λ (t : List (List ℕ)). beside t (column_records [])) own_nil in
-    record { each = subst (All IsAlone) (sym none) (All-nil IsAlone); same = none ∙ ap (map whole_of) (sym own_nil) }
+    record { each = subst (All IsAlone) (sym none) (All-nil IsAlone); same = none ∙ ap (map whole_of) (sym own_nil); trimmed = subst (All IsTrimmed) (sym own_nil) (All-nil IsTrimmed) }
 alone_up_to (suc n) (byte ∷ bytes) few = ⊎_elim
     (λ (ends : ends_line byte ≡ true).
     let later = alone_up_to n bytes (omega (arith, few)) in
@@ -150,6 +180,7 @@ alone_up_to (suc n) (byte ∷ bytes) few = ⊎_elim
     record {
       each = subst (All IsAlone) (sym same) later.each;
       same = same ∙ later.same ∙ ap (map whole_of) (sym (own_end byte bytes ends));
+      trimmed = subst (All IsTrimmed) (sym (own_end byte bytes ends)) later.trimmed;
     })
     (λ (within : ends_line byte ≡ false).
     let first = read_first byte bytes within in
@@ -161,6 +192,9 @@ are_alone bytes = alone_up_to (length bytes + 1) bytes (omega arith)
 
 pub each_alone : (bytes : List ℕ) → All (λ (w : CsvRecord). column_records w.own ≡ w.fields ∷ []) (csv_records bytes)
 each_alone bytes = (are_alone bytes).each
+
+pub each_trimmed : (bytes : List ℕ) → All (λ own. BeginsWithin own × (length (column_records (own ++ 120 ∷ [])) ≡ 1)) (own_texts bytes)
+each_trimmed bytes = (are_alone bytes).trimmed
 
 pub of_own_bytes : (bytes : List ℕ) → csv_records bytes ≡ map whole_of (own_texts bytes)
 of_own_bytes bytes = (are_alone bytes).same

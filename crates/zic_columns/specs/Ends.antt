@@ -1,5 +1,5 @@
 -- Texts that stand in bytes with line ends between them: RFC 4180, 2, has a line end after each record; that there may be more is own choice.
-use Rattle.std.specs.Prelude.{◌≡◌, ℕ, true, List, [], ◌∷◌, ◌++◌, All}
+use Rattle.std.specs.Prelude.{◌≡◌, ℕ, true, false, List, [], ◌∷◌, ◌++◌, All}
 use Rattle.zic_columns.specs.Column.{ends_line}
 
 -- each byte is a carriage return or a line feed
@@ -10,6 +10,11 @@ AreLineEnds bytes = All (λ byte. ends_line byte ≡ true) bytes
 abbrev pub BeginsWithEnd : List ℕ → Type 0
 BeginsWithEnd [] = Unit {0}
 BeginsWithEnd (byte ∷ bytes) = ends_line byte ≡ true
+
+-- there is a byte, and the first is neither a carriage return nor a line feed
+abbrev pub BeginsWithin : List ℕ → Type 0
+BeginsWithin [] = ⊥
+BeginsWithin (byte ∷ bytes) = ends_line byte ≡ false
 
 -- The bytes are line ends and these texts, in order: line ends alone stand before the first and after the last, and one at least between
 -- two of them.

@@ -3,7 +3,7 @@ use Rattle.std.specs.Prelude.{◌≡◌, ℕ, List, [], ◌∷◌, ◌++◌, All
 use Rattle.csv.specs.Reading.{strip_bom}
 use Rattle.csv.specs.Writing.{default_writer, row_text, with_delimiter}
 use Rattle.zic_columns.specs.Column.{AreColumnRecords, AreWholeRecords, HasNoQuote, StandsBeforeRecord, column_records, plain_records}
-use Rattle.zic_columns.specs.Ends.{AreBetweenEnds}
+use Rattle.zic_columns.specs.Ends.{AreBetweenEnds, BeginsWithin}
 use Rattle.zic_columns.specs.Exchange.{AreDelimitedRecords, CanDelimit, exchanged}
 use Rattle.zic_columns.specs.Own.{CsvRecord, beside, delimited_texts, own_texts, csv_records}
 use Rattle.zic_columns.specs.Record.{whole_of}
@@ -75,6 +75,11 @@ RowsAreExchanged = (delimiter : ℕ) (fields : List (List ℕ)) → CanDelimit d
 -- Each record's own bytes alone are that record.
 abbrev pub OwnBytesAreRecords : Type 0
 OwnBytesAreRecords = (bytes : List ℕ) → All (λ (w : CsvRecord). column_records w.own ≡ w.fields ∷ []) (csv_records bytes)
+
+-- Own bytes have no line end around them: each record's begin with another byte, and with a letter added they are still one record, which
+-- they aren't after a line end.
+abbrev pub OwnBytesAreTrimmed : Type 0
+OwnBytesAreTrimmed = (bytes : List ℕ) → All (λ own. BeginsWithin own × (length (column_records (own ++ 120 ∷ [])) ≡ 1)) (own_texts bytes)
 
 -- So the records of a column are those of their own bytes, each by itself.
 abbrev pub RecordsAreOfOwnBytes : Type 0

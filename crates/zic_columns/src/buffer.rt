@@ -1,6 +1,6 @@
 //! The bytes of a column in hand.
 
-ghost use Rattle.std.specs.Prelude.{◌≡◌, ◌+◌, ◌*◌, ◌^◌, ◌<◌, ◌≤◌, ℕ, List, [], ◌++◌, length, max, min, take, drop, vec_len, IfOk, OnOk, OnErr};
+ghost use Rattle.std.specs.Prelude.{◌≡◌, ◌+◌, ◌*◌, ◌/◌, ◌^◌, ◌<◌, ◌≤◌, ℕ, List, [], ◌++◌, length, max, min, take, drop, vec_len, IfOk, OnOk, OnErr};
 ghost use Rattle.std.specs.Io.KnownBytes.{Consumes, IsAtEnd, Keeps};
 ghost use Rattle.zic_columns.specs.code.Bounded.{GivesWithin, bytes_left};
 ghost use Rattle.zic_columns.specs.declared.buffer.TheConstants.{FIRST_ROOM};
@@ -12,19 +12,19 @@ use std::io::{self, Read};
 /// The number of bytes that there is room for at first.
 const FIRST_ROOM: usize = 64 * 1024;
 
-/// Returns the length that a buffer grows to: four times its length, but not above `wanted`, or
-/// twice its length where it has that many bytes. It is at least `FIRST_ROOM`.
+/// Returns the length that a buffer grows to: four times its length, but not above `wanted`, or an
+/// eighth more if it has that many bytes. It is at least `FIRST_ROOM`.
 fn longer_len(len: usize, wanted: usize) -> usize
     requires { len < 2 ^ 63 }
     ensures more { len < result }
     ensures grown { min (4 * len) wanted ≤ result }
     ensures most { len < wanted → result ≤ max FIRST_ROOM wanted }
-    ensures twice { wanted ≤ len → result ≤ max FIRST_ROOM (2 * len) }
+    ensures eighth { wanted ≤ len → result ≤ max FIRST_ROOM (len + len / 8) }
 {
     let longer = if len < wanted {
         len.saturating_mul(4).min(wanted)
     } else {
-        2 * len
+        len + len / 8
     };
     longer.max(FIRST_ROOM)
 }
@@ -101,7 +101,7 @@ impl Window {
 
     /// Makes room for a read: moves the bytes in hand to the front, and leaves the rest of the buffer
     /// as room. A buffer that the last read filled grows four times as long, but not above `wanted`
-    /// bytes. Beyond that it grows only where the bytes in hand fill it: it doubles.
+    /// bytes. Beyond that it grows only if the bytes in hand fill it, by an eighth.
     ///
     /// The bytes that were taken may be overwritten.
     ///
@@ -115,7 +115,7 @@ impl Window {
         ensures grown { OnOk result (room self.old ≡ 0
             → min (4 * vec_len self.old.bytes) wanted ≤ vec_len self.new.bytes) }
         ensures most { vec_len self.new.bytes ≤ max (vec_len self.old.bytes)
-            (max FIRST_ROOM (max wanted (2 * length (held_bytes self.old)))) }
+            (max FIRST_ROOM (max wanted (length (held_bytes self.old) + length (held_bytes self.old) / 8))) }
     {
         let len = self.bytes.len();
         let is_full = self.end == len;

@@ -4,7 +4,7 @@ ghost use Rattle.zic_columns.specs.Laws.{ColumnRecordsAreRead, PlainRecordsAreRe
 ghost use Rattle.zic_columns.specs.Laws.{DelimitedRecordsAreOne, RecordsAreExchanged, RecordsAreOne};
 ghost use Rattle.zic_columns.specs.Laws.{RowsAreExchanged};
 ghost use Rattle.zic_columns.specs.Laws.{BesideIsKept, OwnTextsAreOfRecords, PiecesHaveRecords};
-ghost use Rattle.zic_columns.specs.Laws.{ColumnIsOwnBytes, OwnBytesAreRecords, RecordsAreOfOwnBytes};
+ghost use Rattle.zic_columns.specs.Laws.{ColumnIsOwnBytes, OwnBytesAreRecords, OwnBytesAreTrimmed, RecordsAreOfOwnBytes};
 ghost use Rattle.zic_columns.specs.Laws.{TextsAreCounted, TextsAreExchanged, WholeRecordsAreCut};
 
 /// States that a CSV reader gives bytes their records.
@@ -78,6 +78,11 @@ pub fn rows_are_exchanged()
 /// States that the own bytes of a record are, by themselves, that record alone.
 pub fn own_bytes_are_records()
     ensures { OwnBytesAreRecords }
+{}
+
+/// States that a record's own bytes neither begin nor end with a line end around the record.
+pub fn own_bytes_are_trimmed()
+    ensures { OwnBytesAreTrimmed }
 {}
 
 /// States that the records of a column are those of their own bytes, each by itself.

@@ -53,7 +53,7 @@ impl Files {
     }
 
     /// Returns the files of these entries, each with the image of its zone. They are looked up by the
-    /// key 0.
+    /// key 0, until [`with_key`](Files::with_key) gives another.
     pub fn new(alloc: Global, images: Vec<Image>, entries: Vec<Entry>) -> Result<Files, AllocError>
         requires images { All (λ entry. entry.zone < length images.items) entries.items }
         requires sound { AreSoundFiles (map (file_of images.items) entries.items) }
@@ -64,6 +64,20 @@ impl Files {
         Ok(Files {
             images: Images::of(alloc, images),
             entries,
+            names,
+        })
+    }
+
+    /// Returns the same files, which are looked up by this key: who chose the names without knowing it
+    /// can't have made many of them share a bucket. Refuses if memory runs out.
+    pub fn with_key(self, alloc: Global, key: u64) -> Result<Files, AllocError>
+        ensures ok { IfOk result (λ files. files ≡ self) }
+        ensures memory { IfErr result (λ _. 0 < length self) }
+    {
+        let names = NameIndex::of(alloc, key, &self.entries)?;
+        Ok(Files {
+            images: self.images,
+            entries: self.entries,
             names,
         })
     }

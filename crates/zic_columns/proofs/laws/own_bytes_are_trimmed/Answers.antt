@@ -1,0 +1,5 @@
+use Rattle.zic_columns.proofs.OwnRecords.{each_trimmed}
+use Rattle.zic_columns.proofs.laws.own_bytes_are_trimmed.Goals as goal
+
+pub returns : goal.returns
+returns c = each_trimmed
