@@ -1,5 +1,5 @@
 #!/usr/bin/env bash
-# Makes the package of .ci/package.sh twice, and checks that the bytes are the same. Installs it
+# Makes the package of make-package twice, and checks that the bytes are the same. Installs it
 # into a folder of its own and removes it at the end: as root by `dpkg --root`, over a list of
 # packages that has only libc6, else by `dpkg-deb -x`. Tries what was installed: each command, the
 # manual page, the completions, the library from C and from Python, the notices, and the links of the
@@ -31,8 +31,8 @@ expect() {
 # ------------------------------------------------------------------ installing
 
 mkdir "$work/again" "$root"
-package=$(.ci/package.sh "$work")
-cmp "$package" "$(.ci/package.sh "$work/again")" >&2 || differ 'two packages of the same tree differ'
+package=$(./make-package "$work")
+cmp "$package" "$(./make-package "$work/again")" >&2 || differ 'two packages of the same tree differ'
 # Images of containers often configure dpkg to leave out documents.
 in_root=(dpkg --root="$root" --log="$work/dpkg.log" --path-include='/*')
 if [ "$(id -u)" = 0 ]; then

@@ -97,7 +97,7 @@ run_page() (
     page=$1 state=text needs='' command='' wanted='' status=0 commands=0 left_out='' stop_postgres=()
     trap '[ "${#stop_postgres[@]}" = 0 ] || "${stop_postgres[@]}" >>"$work/postgres.log" 2>&1' EXIT
     enter_home "${page##*/}" || exit
-    ln -s "$repository"/{.ci,crates,man,completions,docs,witness} .
+    ln -s "$repository"/{make-package,crates,man,completions,docs} .
     ln -s crates/zic_main/out/zic_main pzic
     make_tzdata
     while IFS= read -r line || [ "$line" ]; do
