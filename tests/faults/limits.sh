@@ -1,8 +1,7 @@
 #!/usr/bin/env bash
-# Gives the program small versions of inputs that were made to cost it time or memory: sources whose
-# lines name one large set, names that share a place of a table, many names of one file, stray quotes
-# and long lines, also with `--explain`. Checks that each stays within a bound of processor time and
-# memory.
+# Gives the program small versions of inputs that were made to cost it time or memory, and checks that it stays within bounds.
+# They are sources whose lines name one large set, names that share a place of a table, many names of one file, stray quotes and
+# long lines, also with `--explain`. The bounds are of processor time and memory.
 set -euo pipefail
 cd "$(dirname "${BASH_SOURCE[0]}")/../.."
 . tests/common.sh

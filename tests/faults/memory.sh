@@ -1,7 +1,7 @@
 #!/usr/bin/env bash
-# Checks that a zone with 8,999,999 changes is compiled within 512 MiB of address space. Its set has
-# 1,000 rules from the year 1 to 9000, and it changes at each occurrence but the first. Checks that a
-# column of 30,000,000 bytes is converted within 64 MiB, with pieces of 65,536 rows.
+# Checks that nine million changes are compiled within 512 MiB, and three million rows converted within 64 MiB.
+# The zone has 8,999,999 changes: its set has 1,000 rules from the year 1 to 9000, and it changes at each occurrence but the first.
+# The column has 30,000,000 bytes, and pieces of 65,536 rows.
 set -euo pipefail
 cd "$(dirname "${BASH_SOURCE[0]}")/../.."
 . tests/common.sh

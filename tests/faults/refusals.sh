@@ -1,14 +1,12 @@
 #!/usr/bin/env bash
-# Refuses each growth of memory of a run in turn, and then all starts of threads from the first on,
-# from the second on, and so forth. The runs are tests of tasks of five pieces and of claims, which
-# must still pass, one row of nearly each call of tests/worked, and commands of the program, with several
-# numbers of workers and sizes of pieces. If a growth is refused, the answers to rows end there, but for
-# lists that are given up without memory, and a command says `out of memory`, or reports the fault that it reports otherwise; it may give its whole answer only if the
-# growth was for the start of a worker, or for one of the few things that are given up without memory. If threads are
-# refused, it gives its whole answer. It never
-# leaves files or rows that aren't part of its whole answer. A `convert` of one zone and of a column
-# of one round starts its workers, all but the calling thread, once, and once more for the rows
-# before a fault.
+# Refuses each growth of memory in turn, and all starts of threads from the first on, from the second on, and so forth.
+# The runs are tests of tasks of five pieces and of claims, which must still pass, one row of nearly each call of tests/worked, and
+# commands of the program, with several numbers of workers and sizes of pieces. If a growth is refused, the answers to rows end
+# there, but for lists that are given up without memory, and a command says `out of memory`, or reports the fault that it reports
+# otherwise; it may give its whole answer only if the growth was for the start of a worker, or for one of the few things that are
+# given up without memory. If threads are refused, it gives its whole answer. It never leaves files or rows that aren't part of its
+# whole answer. A `convert` of one zone and of a column of one round starts its workers, all but the calling thread, once, and once
+# more for the rows before a fault.
 # Needs: cc
 set -euo pipefail
 cd "$(dirname "${BASH_SOURCE[0]}")/../.."
@@ -47,7 +45,7 @@ pass program_tests claims::a_pass_sees_the_report_of_another
 
 build probe counts
 # But for the calls that change or cut a source in every place, and those that grow nothing.
-python3 tests/worked_rows.py --calls tests/worked/*.txt |
+python3 tests/tables.py --calls tests/worked/*.txt |
     grep -vE '^(calendar|sources changed|sources fronts|strings spans) ' >"$work/calls"
 crates/probe/out/probe rows <"$work/calls" >"$work/answers"
 spare=0

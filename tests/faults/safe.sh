@@ -1,9 +1,9 @@
 #!/usr/bin/env bash
-# Checks that the program overwrites nothing by surprise: standard streams that are closed, lists of
-# faults that are another file of the command, runs that stop before their rows, names that look like
-# leftovers of `build`, symbolic links that would lead to no file, control characters in words, and
-# trees with pipes and devices. It checks too that `build --sync` syncs each file and folder, by `strace`,
-# and how the program is linked, by `readelf`. As root, it makes leftovers of another user.
+# Checks that the program overwrites nothing by surprise.
+# It has standard streams that are closed, lists of faults that are another file of the command, runs that stop before their rows,
+# names that look like leftovers of `build`, symbolic links that would lead to no file, control characters in words, and trees
+# with pipes and devices. It checks too that `build --sync` syncs each file and folder, by `strace`, and how the program is linked,
+# by `readelf`. As root, it makes leftovers of another user.
 # Parts need: strace, readelf, root
 set -euo pipefail
 cd "$(dirname "${BASH_SOURCE[0]}")/../.."

@@ -1,9 +1,8 @@
 #!/usr/bin/env bash
-# Has two runs of the program build trees of two sources into one folder at the same time, 200
-# times: the system's release of the tz database, and the same with other abbreviations, with links of
-# each kind. No run may fail. Each file must be whole, of the one source or the other, also while the runs write, and
-# nothing may be left over, even if a run before them was killed. Half of the pairs start with an
-# existing tree.
+# Has two runs of the program build trees of two sources into one folder at the same time, 200 times.
+# The sources are the system's release of the tz database, and the same with other abbreviations, with links of each kind. No run may
+# fail. Each file must be whole, of the one source or the other, also while the runs write, and nothing may be left over, even if a
+# run before them was killed. Half of the pairs start with an existing tree.
 # Needs: tzdata
 set -euo pipefail
 cd "$(dirname "${BASH_SOURCE[0]}")/../.."

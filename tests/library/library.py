@@ -2,7 +2,7 @@
 
 Every zone of the tree is asked from 1900 to 2100: at each change, one second before and one after,
 from an instant to local time and back, at either fold; and a column of random instants. The witness
-reads the same files. The sources of compiled.txt have the files that stand there.
+reads the same files.
 """
 
 import array
@@ -13,10 +13,8 @@ import sys
 import threading
 import zoneinfo
 from datetime import datetime, timedelta, timezone
-from pathlib import Path
 
 import pzic
-import worked_rows
 from pzic import _library as c
 
 UTC = timezone.utc
@@ -138,42 +136,6 @@ def compile_texts(folder):
     check(list(pzic.Tree.compile(path)) == ["A"], "a path")
 
 
-def answer(call, *words):
-    """Return the answer to a call of compiled.txt, in lines."""
-    texts = [bytes.fromhex(word[1:]) for word in words if word[0] == ":"]
-    numbers = [int(word) for word in words if word[0] != ":"]
-    try:
-        made = pzic.Compiled(*texts)
-    except pzic.BadSource as fault:
-        return [f"text {fault.text} line {fault.line}: {fault.kind}"]
-    names = list(made)
-    if call == "at":
-        states = [made[names[0]].at(instant) for instant in numbers]
-        return [f"{instant} {state.offset} {state.daylight:d} {state.name}" for instant, state in zip(numbers, states)]
-    data = made.data(names[numbers[0] if numbers else 0])
-    if call == "bytes":
-        return [data.hex()]
-    check(call == "image", call)
-    return [f"{len(data)} bytes, version {data[4]:c} and {data[55]:c}", data.split(b"\n")[-2].decode("ascii")]
-
-
-def compare_compiled():
-    """Compare the files of sources, what they show, and the first faults with those of compiled.txt."""
-    folder = Path(__file__).resolve().parent.parent
-    paths = folder / "worked/files.txt", folder / "library/compiled.txt"
-    blocks = [block for path in paths for block in worked_rows.blocks_of(path)]
-    named, count = {}, 0
-    for block in blocks:
-        if block.head[0] == "@":
-            named[block.head[2:]], = worked_rows.texts_of(named, block)
-        elif "compiled.txt" in block.place:
-            for row in worked_rows.rows_of(named, "compiled", block):
-                got = answer(*row.call.split()[1:])
-                check(got == row.answer, row.place, got)
-                count += 1
-    check(count > 10, count, "rows")
-
-
 def name_of(call, number):
     """Return the name of a number, or None where none has it."""
     try:
@@ -221,7 +183,6 @@ def main():
         compare_column(name, tree[name], theirs, 200)
     refuse(tree)
     compile_texts(folder)
-    compare_compiled()
     compare_names()
     use_threads(tree["Europe/Dublin"])
     print(f"library: Python: {len(names)} zones, {count} changes, {compare_numpy(tree)}")

@@ -1,8 +1,8 @@
 #!/usr/bin/env bash
-# Tests the library: the headers as C99, C11 and C++17; the calls from C, under the sanitizers of
-# addresses and of undefined behaviour and under that of threads, beside the C library's own reader;
-# the extension of SQLite; the Python package beside Python's zoneinfo, its objects, its types, and as
-# pip installs it; and the examples of docs/LIBRARY.md in each language.
+# Tests the library from C, C++, Go, Python, Rust and SQLite, beside other readers.
+# It tests the headers as C99, C11 and C++17; the calls from C, under the sanitizers of addresses and of undefined behaviour and under
+# that of threads, beside the C library's own reader; the extension of SQLite; the Python package beside Python's zoneinfo, its
+# objects, its types, and as pip installs it; and the examples of docs/LIBRARY.md in each language.
 # Needs: tzdata, cc, c++, nm, pkg-config
 # Parts need: clang, sqlite3ext.h, sqlite3, valgrind, pandas, test_zoneinfo, mypy, pip, go, rustc
 set -euo pipefail
@@ -57,7 +57,7 @@ sed -n 's/^\(int32_t\|uint32_t\|void\) \(pzic_[a-z_]*\)(.*/\2/p' include/pzic.h 
 diff "$work/declared" "$work/names"
 
 # Python. Debian's own may have numpy and pandas.
-export PZIC_LIBRARY=$built/lib/libpzic.so PYTHONPATH=$PWD/python:$PWD/tests
+export PZIC_LIBRARY=$built/lib/libpzic.so PYTHONPATH=$PWD/python
 python=python3
 if [ -x /usr/bin/python3 ]; then
     python=/usr/bin/python3

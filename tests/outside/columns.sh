@@ -1,8 +1,7 @@
 #!/usr/bin/env bash
-# Converts columns of 100,000 rows over all zones and links of the system's release of the tz
-# database, by its source and by trees of its files. Compares each row with Python's zoneinfo, over the
-# program's files and over those of the system's zic, and with tests/outside/reader.py. Compares what
-# `show --local` prints near changes with zoneinfo too.
+# Converts columns of 100,000 rows over all zones of the release, and compares each row with zoneinfo and reader.py.
+# It converts by the source and by trees of its files, over the program's files and those of the system's zic, by each option for
+# other columns. It compares what `show --local` prints near changes with zoneinfo too.
 # Needs: tzdata, zic
 set -euo pipefail
 cd "$(dirname "${BASH_SOURCE[0]}")/../.."

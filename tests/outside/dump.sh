@@ -1,6 +1,6 @@
 #!/usr/bin/env bash
-# Compares what `dump` lists with the system's `zdump -i`, for each file of the system's release of
-# the tz database, from 1800 to 2100; and for some without `--from` and `--to`.
+# Compares what `dump` lists for each file of the release with the system's `zdump -i`.
+# It does so from 1800 to 2100; and for some files without `--from` and `--to`.
 # Needs: tzdata, zdump
 set -euo pipefail
 cd "$(dirname "${BASH_SOURCE[0]}")/../.."

@@ -1,7 +1,5 @@
 #!/usr/bin/env bash
-# Builds the files of the system's release of the tz database. Compares these files, and what the
-# library reads from files, with the system's zic, with Python's zoneinfo and with
-# tests/outside/reader.py.
+# Compares the files of the release, and what the library reads of files, with zic, zoneinfo and reader.py.
 # Needs: tzdata, zic, cc
 set -euo pipefail
 cd "$(dirname "${BASH_SOURCE[0]}")/../.."

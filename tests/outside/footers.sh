@@ -1,7 +1,7 @@
 #!/usr/bin/env bash
-# Compares the meaning of footers, by `parse` and `Footer::state`, with what glibc and Python's
-# zoneinfo show around each edge from 1970 to 2500. The footers are those that the system's zic
-# makes for all zones of the system's release of the tz database, and those of tests/outside/footers.txt.
+# Compares the meaning of footers with what glibc and Python's zoneinfo show around each edge from 1970 to 2500.
+# They are asked of `parse` and `Footer::state`. The footers are those that the system's zic makes for all zones of the release, and
+# those of footers.txt.
 # Needs: tzdata, zic
 set -euo pipefail
 cd "$(dirname "${BASH_SOURCE[0]}")/../.."

@@ -1,8 +1,7 @@
 #!/usr/bin/env bash
-# Builds trees of the system's release of the tz database with several numbers of workers and sizes
-# of pieces, and of the release cut into three texts, and checks that they are equal. Does the same
-# for the largest source. Then reads the trees with glibc, Python's zoneinfo and the kit's jiff.
-# That the files show what zic's do is checked by tests/outside/files.sh.
+# Checks that trees are the same by all numbers of workers and with links of each kind, and reads them with glibc, zoneinfo and jiff.
+# The trees are of the release, of the release cut into three texts, and of the largest source. That the files show what zic's do is
+# checked by files.sh.
 # Needs: tzdata
 set -euo pipefail
 cd "$(dirname "${BASH_SOURCE[0]}")/../.."

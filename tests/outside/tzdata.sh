@@ -1,7 +1,6 @@
 #!/usr/bin/env bash
-# Checks that the system's release of the tz database is accepted. Compares the numbers of its Rule,
-# Zone, continuation and Link lines with those that awk counts. Then compares the changes of every
-# zone, up to its explicit end, with the files that the system's zic makes.
+# Compares the changes of all zones of the release, up to their explicit ends, with the files of the system's zic.
+# It compares the numbers of Rule, Zone, continuation and Link lines with those that awk counts too.
 # Needs: tzdata, zic
 set -euo pipefail
 cd "$(dirname "${BASH_SOURCE[0]}")/../.."

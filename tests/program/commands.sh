@@ -1,19 +1,16 @@
 #!/usr/bin/env bash
-# Checks the messages, statuses, files and rows of the built program: the sources of
-# tests/program/sources.txt, the calls of tests/program, usage, paths that can't be read or written,
-# outputs that fail, limits, columns, little memory, and builds that are killed. As root, it tries a read-only folder as the
-# user nobody. Compares rows also with Python's zoneinfo over the files of the system's zic.
+# Checks messages, statuses, files and rows of the program where a table can't say how it is run.
+# It tries usage, paths that can't be read or written, outputs that fail, limits, columns, little memory, and builds that are
+# killed. As root, it tries a read-only folder as the user nobody. It compares rows with Python's zoneinfo over the files of the
+# system's zic too.
 # Needs: zic. Parts need: root
 set -euo pipefail
 cd "$(dirname "${BASH_SOURCE[0]}")/../.."
 . tests/common.sh
 build zic_main check -
 program=$PWD/crates/zic_main/out/zic_main
-table=$PWD/tests/program/sources.txt
 columns=$PWD/tests/program/records.py
 help=$PWD/docs/help
-tables=("$PWD"/tests/program/[!s]*.txt)
-caller=$PWD/tests/calls.py
 cd "$work"
 mkdir asked
 cd asked
@@ -76,75 +73,6 @@ expect_tree() {
     got=$(listing "$1")
     [ "$got" = "$2" ] || differ "$1: $(printf '%s' "$got" | head -c 300), and not $(printf '%s' "$2" | head -c 300)"
 }
-
-# ------------------------------------------------------------------ the table
-
-begin_block() {
-    rm -rf tree text.*
-    texts=1 lines='' fault='' shows=() rows='' answered=
-    : >text.1
-}
-
-ask_block() {
-    local show file instant
-    if [ "$fault" ]; then status=1; else status=0; fi
-    local wanted=$status
-    if [ "$texts" = 1 ]; then
-        expect "$wanted" "$lines" "$fault" check text.1
-        input=text.1
-        expect "$wanted" "$lines" "$fault" check -
-        cut -d , -f 1,2 <<<"$rows" >column
-        input=column
-        expect "$wanted" "$rows" "$fault" convert text.1
-        input=/dev/null
-    fi
-    expect "$wanted" '' "$fault" build --workers 8 --zone-piece 1 tree text.*
-    expect_tree tree "$(printf '%s' "$lines" | sort)"
-    if [ ! "$lines" ] && [ -e tree ]; then differ 'a folder was made for no file'; fi
-    for show in "${shows[@]}"; do
-        read -r file instant show <<<"$show"
-        expect 0 "$show" '' show -- "tree/$file" "$instant"
-    done
-}
-
-begin_block
-while IFS= read -r line; do
-    case $line in
-    ';'*) continue ;;
-    '') ;;
-    --)
-        texts=$((texts + 1))
-        : >"text.$texts"
-        continue
-        ;;
-    =*)
-        lines=$lines${lines:+$'\n'}${line#=} answered=1
-        continue
-        ;;
-    '! '*)
-        fault=${line#! } answered=1
-        continue
-        ;;
-    '> '*)
-        rows=$rows${rows:+$'\n'}${line#> }
-        continue
-        ;;
-    '? '*)
-        shows+=("${line#? }")
-        continue
-        ;;
-    *)
-        printf '%s\n' "$line" >>"text.$texts"
-        continue
-        ;;
-    esac
-    if [ "$answered" ]; then ask_block; fi
-    begin_block
-done < <(sed 's/^= /=/' "$table" && echo)
-
-# ------------------------------------------------------------------ tables of calls
-
-python3 "$caller" "$program" "${tables[@]}" | sed 's/^/program: /' || differ 'answers to the calls of tests/program differ'
 
 # ------------------------------------------------------------------ limits
 

@@ -1,10 +1,9 @@
 #!/usr/bin/env bash
-# Makes the package of make-package twice, and checks that the bytes are the same. Installs it
-# into a folder of its own and removes it at the end: as root by `dpkg --root`, over a list of
-# packages that has only libc6, else by `dpkg-deb -x`. Tries what was installed: each command, the
-# manual page, the completions, the library from C and from Python, the notices, and the links of the
-# pages. As root the program runs by `chroot`, with nothing there but the package and the files of
-# libc6 that the program is linked with.
+# Makes the Debian package, installs it into a folder of its own, and tries what was installed.
+# It makes the package twice, and checks that the bytes are the same. It installs it as root by `dpkg --root`, over a list of packages
+# that has only libc6, else by `dpkg-deb -x`, and removes it at the end. It tries each command, the manual page, the completions, the
+# library from C and from Python, the notices, and the links of the pages. As root the program runs by `chroot`, with nothing there
+# but the package and the files of libc6 that the program is linked with.
 # Needs: tzdata, dpkg-deb, cc, pkg-config. Parts need: root, man, zsh
 set -euo pipefail
 cd "$(dirname "${BASH_SOURCE[0]}")/../.."

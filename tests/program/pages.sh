@@ -1,5 +1,6 @@
 #!/usr/bin/env bash
-# Compares the pages for users with the program:
+# Compares the pages for users with the program, and pages with what they are made of.
+# It
 # - runs each command in the `console` blocks of README.md, docs/USING.md, docs/ZIC.md and
 #   docs/SCALE.md as it is printed, and compares the output with the lines below it. A block after a
 #   comment `<!-- needs: COMMAND.. -->` is skipped if one of the commands is missing;
