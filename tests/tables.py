@@ -26,13 +26,13 @@ Who answers the calls is said in the head of the table, after `Calls of`; see AN
 file NAME TEXT   a file of this text, or one more part of it, with the lines < below it; it lasts until the end of the table
 input TEXT       the same for the standard input of the block's calls, which is a file; `input*N` for N such texts
 pipe TEXT        the same, where standard input is a pipe
-N LINE           of the answer: the status, where it is not 0, and the first line of standard error
+N LINE           of the answer: the status, and the first line of standard error; `0` alone is an answer of nothing
 | LINE           of the answer: one more line of standard error; `| ...` stands for any lines from there on
 = PATH FILE      of the answer: a file that stands below the folder `tree` then, with the bytes of this other file
 
 In the words of such a call * after an option stands for each value that the option has in VALUES, and {A|B|C} for each of its
 parts, in turn; '' is an empty word. The message of status 2 has the text of its line somewhere in it, and nowhere the name of the
-program's file. Each other answer is compared as a whole. All calls begin in a folder of the table's own. Before each call the
+program's file, but after `2= LINE`. Each other answer is compared as a whole. All calls begin in a folder of the table's own. Before each call the
 folder `tree` is removed, and made anew if files of the block stand in it.
 """
 import itertools
@@ -134,9 +134,10 @@ class Answer:
     out: list = field(default_factory=list)
     told: list = field(default_factory=list)
     tree: dict = field(default_factory=dict)
+    is_whole: bool = True
 
     def fits(self, wanted, name):
-        if wanted.status == 2:
+        if not wanted.is_whole:
             is_told = self.told != [] and wanted.told[0] in b'\n'.join(self.told) and name not in b'\n'.join(self.told)
         else:
             is_told = are_lines(self.told, wanted.told)
@@ -184,7 +185,8 @@ class Row:
                 path, _, name = rest.partition(' ')
                 wanted.tree[path] = (folder / name).read_bytes()
             else:
-                wanted.status, wanted.told = int(word), [unescaped(rest)]
+                wanted.status, wanted.is_whole = int(word[0]), word != '2'
+                wanted.told = [unescaped(rest)] if wanted.status or rest else []
         return wanted
 
 
@@ -211,7 +213,7 @@ class Block:
                 self.rows.append(Row(place, self.rows[-1].head, Text()))
                 self.at = self.rows[-1].text
             self.at.lines.append(line)
-        elif word in ('>', '|', '=') or re.fullmatch('[1-9]', word):
+        elif word in ('>', '|', '=') or re.fullmatch('[0-9]', word):
             self.rows[-1].answer.append(line)
         else:
             raise ValueError(f'{place}: {line}')
@@ -332,7 +334,10 @@ class Folder:
         return Answer(done.returncode, lines_of(done.stdout), lines_of(done.stderr))
 
     def tree(self):
+        """Returns the files of the tree. An empty one has a file that no answer has."""
         tree = self.path / 'tree'
+        if tree.exists() and not any(tree.iterdir()):
+            return {'(a folder for no file)': b''}
         return {str(path.relative_to(tree)): path.read_bytes() for path in tree.glob('**/*') if path.is_file()}
 
 
@@ -390,8 +395,6 @@ def checked(folder, names, _):
     """Returns what `check` answers, or for more texts the list of the files that `build` makes. Other commands must agree with it."""
     built = folder.run(['build', '--workers', '8', '--zone-piece', '1', 'tree', *names])
     listed = [b'%s %d %s' % (name.encode(), len(octets), octets.split(b'\n')[-2]) for name, octets in sorted(folder.tree().items())]
-    if (folder.path / 'tree').exists() != (listed != []):
-        return Answer(9, [b'a folder was made for no file'])
     if len(names) > 1:
         return Answer(built.status, listed, built.told) if built.out == [] else built
     text = (folder.path / names[0]).read_bytes()

@@ -1,7 +1,8 @@
 #!/usr/bin/env bash
 # Checks that nine million changes are compiled within 512 MiB, and three million rows converted within 64 MiB.
 # The zone has 8,999,999 changes: its set has 1,000 rules from the year 1 to 9000, and it changes at each occurrence but the first.
-# The column has 30,000,000 bytes, and pieces of 65,536 rows.
+# The column has 30,000,000 bytes, and pieces of 65,536 rows. It checks too that `check` and `convert` say `out of memory` or give
+# their whole answer in each address space from the least in which the program starts up to the one that it needs.
 set -euo pipefail
 cd "$(dirname "${BASH_SOURCE[0]}")/../.."
 . tests/common.sh
@@ -35,3 +36,69 @@ if [ "$(xargs <<<"$got")" != '3000000 Etc/UTC,0,1970-01-01T00:00:00,+00:00:00,0,
     exit 1
 fi
 echo 'a column of 3,000,000 rows: all of them within 64 MiB'
+
+# ------------------------------------------------------------------ little memory
+
+columns=$PWD/tests/outside/records.py
+enter
+echo 'Zone Etc/UTC 0 - UTC' >plain
+printf '%s\n' 'Rule US 2007 max - Mar Sun>=8 2:00 1:00 D' 'Rule US 2007 max - Nov Sun>=1 2:00 0 S' 'Zone Z/NY -5:00 US E%sT' \
+    'Zone Etc/UTC 0 - UTC' 'Zone Z/I 5:30 - %z' >eastern
+python3 "$columns" plain >column.plain
+"$program" convert eastern <column.plain >rows.plain
+
+# within KIBIBYTES WORD...: runs the program within this many KiB of address space.
+within() {
+    status=0
+    (ulimit -v "$1" && exec "$program" "${@:2}") <"$input" >../out 2>../err || status=$?
+}
+
+truncate -s 67108864 large
+within 60000 check large
+told 'pzic check large, within 60,000 KiB' 4 '' 'out of memory'
+# From the least address space in which the program starts up to the one that it needs.
+awk 'BEGIN { for (i = 0; i < 2000; i++) printf "Zone Z/%d %d:%02d - %%z\n", i, i / 60 % 24, i % 60 }' >many
+listed=$("$program" check many)
+kilobytes=1000
+within $kilobytes check -
+while [ "$status" != 0 ]; do
+    kilobytes=$((kilobytes * 21 / 20))
+    within $kilobytes check -
+done
+for ((good = 0; good < 3;)); do
+    within $kilobytes check many
+    if [ "$status" = 0 ]; then
+        good=$((good + 1))
+        told "pzic check many, within $kilobytes KiB" 0 "$listed" ''
+    else
+        told "pzic check many, within $kilobytes KiB" 4 '' 'out of memory'
+    fi
+    kilobytes=$((kilobytes * 21 / 20))
+done
+
+# The column needs memory after the source is compiled.
+kilobytes=1000
+input=/dev/null
+within $kilobytes convert plain
+while [ "$status" != 0 ]; do
+    kilobytes=$((kilobytes * 21 / 20))
+    within $kilobytes convert plain
+done
+input=column.plain
+words=(convert --workers 8 --row-piece 65536 eastern)
+for ((good = 0; good < 3;)); do
+    within $kilobytes "${words[@]}"
+    cp ../out rows
+    : >../out
+    if [ "$status" = 0 ]; then
+        good=$((good + 1))
+        told "pzic ${words[*]}, within $kilobytes KiB" 0 '' ''
+        cmp rows rows.plain >&2 || differ "within $kilobytes KiB the rows differ"
+    else
+        told "pzic ${words[*]}, within $kilobytes KiB" 4 '' 'out of memory'
+        cmp rows <(head -c "$(wc -c <rows)" rows.plain) >&2 || differ "within $kilobytes KiB the rows differ"
+    fi
+    kilobytes=$((kilobytes * 21 / 20))
+done
+input=/dev/null
+leave memory

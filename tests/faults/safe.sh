@@ -9,28 +9,7 @@ set -euo pipefail
 cd "$(dirname "${BASH_SOURCE[0]}")/../.."
 . tests/common.sh
 
-build zic_main check -
-program=$PWD/crates/zic_main/out/zic_main
-cd "$work"
-mkdir asked
-cd asked
-calls=0
-differences=0
-
-differ() {
-    echo "$1" >&2
-    differences=$((differences + 1))
-}
-
-# told CALL STATUS OUT ERR: compares the last call's status, its output (../out) and its messages
-# (../err) with the expected ones.
-told() {
-    calls=$((calls + 1))
-    printf '%s' "${3:+$3$'\n'}" >../out.wanted
-    printf '%s' "${4:+$4$'\n'}" >../err.wanted
-    [ "$status" != "$2" ] || ! cmp -s ../out ../out.wanted || ! cmp -s ../err ../err.wanted || return 0
-    differ "$1: status $status, '$(head -c 200 ../out)', '$(head -c 200 ../err)', and not $2, '$3', '$4'"
-}
+enter
 
 # holds FILE TEXT: compares a file with what it has to hold.
 holds() {
@@ -261,8 +240,4 @@ if has 'how the program is linked' readelf; then
     done
 fi
 
-if [ "$differences" != 0 ]; then
-    echo "safe: $differences of $calls calls differ" >&2
-    exit 1
-fi
-echo "safe: $calls calls with closed streams, lists of faults, leftovers, links, control characters, pipes and devices overwrite nothing by surprise"
+leave safe

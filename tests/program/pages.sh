@@ -204,8 +204,13 @@ done
 pzic=crates/zic_main/out/zic_main
 sed -n 's/^## //p' docs/errors.txt | cmp -s - <("$pzic" explain | cut -d : -f 1) ||
     differ '`pzic explain` has other names than docs/errors.txt'
+"$pzic" explain >"$work/listed"
+for line in 'NotAscii: A byte outside a comment is .*' 'RowZone: The source has no zone or link of that name\.'; do
+    grep -qx -- "$line" "$work/listed" || differ "\`pzic explain\` has no line '$line'"
+done
 while IFS= read -r name; do
-    "$pzic" explain "$name" >"$work/explained" || differ "$name is not explained"
+    "$pzic" explain "$name" >"$work/explained" 2>"$work/told" || differ "$name is not explained"
+    [ ! -s "$work/told" ] || differ "explain $name says '$(cat "$work/told")'"
     [ "$(head -n 1 "$work/explained")" = "$name" ] || differ "the explanation of $name has another name"
     awk -v "name=$name" '/^#/ { here = substr($0, 4) == name } here && /^  / { print }' docs/errors.txt |
         grep -vxFf "$work/explained" >"$work/unsaid" || true
@@ -226,7 +231,19 @@ options_of() {
 sed 's/\\-/-/g' man/pzic.1 >"$work/manual"
 for page in docs/help/*.txt; do
     name=$(basename "$page" .txt)
-    [ "$name" = version ] || grep -q '^Example:$' "$page" || differ "$page has no example"
+    if [ "$name" = version ]; then
+        for word in --version -V; do
+            "$pzic" $word | cmp -s - "$page" || differ "pzic $word prints another text than $page"
+        done
+    else
+        grep -q '^Example:$' "$page" || differ "$page has no example"
+        # The program prints the pages too that the launcher prints before anything is built.
+        for word in --help -h; do
+            # shellcheck disable=SC2086
+            "$pzic" ${name/#pzic/} $word >"$work/out" 2>"$work/told" && status=0 || status=$?
+            [ "$status" = 2 ] && [ ! -s "$work/out" ] && cmp -s "$work/told" "$page" || differ "pzic $name $word prints another page"
+        done
+    fi
     for file in "$work/manual" completions/pzic.bash completions/_pzic; do
         [ "$name" = pzic ] || grep -qw -- "$name" "$file" ||
             differ "${file##*/} doesn't have the command $name"

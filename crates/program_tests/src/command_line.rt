@@ -1,5 +1,5 @@
 //! Words of the command line that ask for something. Wrong ones are in tests/program/words.txt, and
-//! words for instants in tests/program/commands.sh.
+//! words for instants in tests/program/usage.txt.
 
 use crate::samples::{expect_text, must, words_of};
 use std::alloc::Global;

@@ -1,0 +1,147 @@
+#!/usr/bin/env bash
+# Checks messages and statuses where inputs can't be read and outputs fail: closed streams, full disks, pipes without a reader.
+# It has folders in place of files and files in place of folders, links, a disk that is full after some bytes, and a folder that may
+# not be written. As root, it tries that folder as the user nobody.
+# Parts need: root
+set -euo pipefail
+cd "$(dirname "${BASH_SOURCE[0]}")/../.."
+. tests/common.sh
+enter
+echo 'Zone Etc/UTC 0 - UTC' >plain
+"$program" build tree plain
+file=tree/Etc/UTC
+
+# ------------------------------------------------------------------ inputs that can't be read
+
+input=.
+expect 3 '' 'cannot read -' check -
+expect 3 '' 'cannot read -' build none plain -
+[ ! -e none ] || differ 'a folder was made for sources that cannot be read'
+input=/
+expect 3 '' 'cannot read column' convert plain
+expect 3 '' 'cannot read column' convert --progress plain
+expect 3 '' 'cannot read nowhere' convert nowhere
+"$program" build zones.tree plain
+expect 3 '' 'cannot read column' convert --tree zones.tree
+input=/dev/null
+status=0
+"$program" convert plain <&- >../out 2>../err || status=$?
+told 'pzic convert plain <&-' 3 '' 'cannot read column'
+# The source is compiled before the column is read.
+echo Zonk >faulty
+printf x >column
+rest=$({ "$program" convert faulty 2>../err || cat; } <column)
+[ "$rest" = x ] || differ "of the column of a faulty source only '$rest' is left"
+
+# ------------------------------------------------------------------ outputs that fail
+
+# Standard error goes to ../err, where `told` reads it; `told` also needs the status.
+: >../out
+for command in 'check plain' "show $file 0" "dump $file"; do
+    status=0
+    "$program" $command >&- 2>../err || status=$?
+    told "pzic $command >&-" 3 '' 'cannot write output'
+    status=0
+    "$program" $command >/dev/full 2>../err || status=$?
+    told "pzic $command >/dev/full" 3 '' 'cannot write output'
+    # A pipe that has no reader any more.
+    mkfifo pipe
+    exec 3<>pipe 4>pipe 3>&-
+    status=0
+    "$program" $command >&4 2>../err || status=$?
+    exec 4>&-
+    rm pipe
+    told "pzic $command into a closed pipe" 3 '' 'cannot write output'
+done
+: >../err
+status=0
+"$program" check nowhere 2>&- >../out || status=$?
+told 'pzic check nowhere 2>&-' 3 '' ''
+
+# Rows, and a header.
+for ((i = 0; i < 5000; i++)); do echo "Etc/UTC,$i"; done >column
+for words in '>&-' '>/dev/full' 'into a closed pipe'; do
+    status=0
+    case $words in
+    '>&-') "$program" convert plain <column >&- 2>../err || status=$? ;;
+    '>/dev/full') "$program" convert plain <column >/dev/full 2>../err || status=$? ;;
+    *)
+        mkfifo pipe
+        exec 3<>pipe 4>pipe 3>&-
+        "$program" convert plain <column >&4 2>../err || status=$?
+        exec 4>&-
+        rm pipe
+        ;;
+    esac
+    told "pzic convert plain $words" 3 '' 'cannot write rows'
+done
+status=0
+"$program" convert --header plain </dev/null >/dev/full 2>../err || status=$?
+: >../out
+told 'pzic convert --header plain >/dev/full' 3 '' 'cannot write rows'
+status=0
+head -n 1 column | "$program" convert --tree zones.tree >/dev/full 2>../err || status=$?
+told 'pzic convert --tree zones.tree >/dev/full' 3 '' 'cannot write rows'
+
+# ------------------------------------------------------------------ files that can't be written
+
+rm -rf tree
+printf 'Zone A 0 - AAA\nZone A/B 0 - AAA\n' >below
+expect 3 '' 'cannot write tree/A/B' build tree below
+expect_tree tree 'A 111 AAA0'
+echo text >taken
+expect 3 '' 'cannot write taken/Etc/UTC' build taken plain
+mkdir -p tree/Etc/UTC/kept
+expect 3 '' 'cannot write tree/Etc/UTC' build tree plain
+expect_tree tree 'A 111 AAA0'
+# A link in the place of a file is replaced, and the link's target is kept.
+rm -rf tree/Etc
+mkdir tree/Etc
+ln -s ../../taken tree/Etc/UTC
+expect 0 '' '' build tree plain
+expect_tree tree $'A 111 AAA0\nEtc/UTC 111 UTC0'
+[ "$(cat taken)" = text ] || differ 'a file was written through a link'
+# A link can't take the place of a folder, and leaves nothing over.
+printf 'Link A Alias/B\nZone A 0 - AAA\n' >linked
+mkdir -p links/Alias/B/kept
+for kind in hard symlink; do
+    expect 3 '' 'cannot write links/Alias/B' build --links $kind links linked
+    expect_tree links 'A 111 AAA0'
+    [ "$(find links -mindepth 1 | sort | xargs)" = 'links/A links/Alias links/Alias/B links/Alias/B/kept' ] || differ "--links $kind leaves files over"
+done
+chmod 400 tree/A
+echo 'Zone A 0 - BBB' >other
+expect 0 '' '' build tree other
+expect_tree tree $'A 111 BBB0\nEtc/UTC 111 UTC0'
+# A full disk: no file can be written that has more than 0 bytes, and then 1,024 bytes.
+awk 'BEGIN {
+    print "Rule B 1900 1999 - Jan 1 0 1:00 D\nRule B 1900 1999 - Jul 1 0 0 S"
+    print "Zone A 0 - AAA\nZone B 0 B B%sT\nZone C 0 - CCC"
+}' >big
+: >../out
+for kilobytes in 0 1; do
+    rm -rf tree
+    status=0
+    text=$(
+        trap '' XFSZ
+        ulimit -f "$kilobytes"
+        "$program" build tree big 2>&1
+    ) || status=$?
+    echo "$text" >../err
+    if [ "$kilobytes" = 0 ]; then name=A wanted=; else name=B wanted='A 111 AAA0'; fi
+    told "pzic build tree big, with at most $kilobytes KiB a file" 3 '' "cannot write tree/$name"
+    expect_tree tree "$wanted"
+done
+# A folder that may not be written.
+rm -rf tree
+mkdir tree
+chmod 755 . ..
+chmod 555 tree
+run=()
+if [ "$(id -u)" = 0 ]; then run=(setpriv --reuid 65534 --regid 65534 --clear-groups); fi
+status=0
+"${run[@]}" "$program" build tree plain >../out 2>../err || status=$?
+told 'pzic build into a folder that may not be written' 3 '' 'cannot write tree/Etc/UTC'
+chmod 755 tree
+
+leave outputs
