@@ -1,4 +1,4 @@
-//! Runs the tool that the first word names, for the scripts of .ci/ and bench/. The words after it
+//! Runs the tool that the first word names, for the scripts of tests/ and bench/. The words after it
 //! are arguments of the tool.
 #![tactic(auto)]
 
