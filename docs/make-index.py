@@ -34,7 +34,7 @@ the definition that states it. [PROOF.md](PROOF.md) explains the promises, crate
 - A definition of std, as that of `length`, isn't named. A cell is empty where clauses cite none of this repository.
 - A function in which no edit stands has one of a private function that it calls, and that function is named.
 - A function may have more tests: the one that calls the fewest other functions is named. Those of `tests/worked` are
-  files of rows ([TESTING.md](TESTING.md#worked-rows)).
+  files of rows ([TESTING.md](TESTING.md#tables-of-calls)).
 - A function without an edit or a test stands in [index-exceptions.txt](index-exceptions.txt) with the reason.
 
 `docs/make-index.py` prints this page. It looks names up in the sources."""
