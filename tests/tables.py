@@ -378,12 +378,13 @@ def program(table, blocks, named):
 
 def sources(table, blocks, named):
     """Yields for each row what the program's commands answer to the texts of a source: `source`, what `check` and `build` answer;
-    `show NAME INSTANT..`, what `show` answers of a file that is built; and `convert RECORD..`, the rows of a column."""
+    `show NAME INSTANT..`, what `show` answers of a file that is built; and `convert RECORD..`, the rows of a column. A call without a text
+    has that of the row before it."""
     with tempfile.TemporaryDirectory() as path:
-        folder = Folder(path)
+        folder, last = Folder(path), [b'']
         for row in (row for block in blocks for row in block.rows):
             for words, texts in row.calls(named):
-                texts = [text + b'\n' * (text != b'') for text in texts or [b'']]
+                texts = last = [text + b'\n' * (text != b'') for text in texts] or last
                 names = [f'text.{number}' for number in range(1, len(texts) + 1)]
                 folder.write(dict(zip(names, texts)))
                 command, *rest = words.split()
