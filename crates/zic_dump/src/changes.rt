@@ -69,8 +69,9 @@ fn push_changes(
     Ok(())
 }
 
-/// Returns whether two answers are the same.
-fn are_same(one: &Answer<'_>, other: &Answer<'_>) -> bool
+/// Returns whether two answers are the same: the same offset, flag and abbreviation, or that local
+/// time is left open.
+pub fn are_same(one: &Answer<'_>, other: &Answer<'_>) -> bool
     ensures { IsTrue result ↔ (answered one.now ≡ answered other.now) }
 {
     match (one, other) {

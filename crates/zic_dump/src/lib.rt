@@ -7,5 +7,5 @@ pub mod laws;
 mod line;
 mod years;
 
-pub use changes::dump;
+pub use changes::{are_same, dump};
 pub use years::{FIRST_YEAR, LAST_YEAR, Years};

@@ -1,5 +1,6 @@
 pub mod AnswerLemmas
 pub mod Gaps
+pub mod LastTransitions
 pub mod Passed
 pub mod ReadAgree
 pub mod ReadChecks

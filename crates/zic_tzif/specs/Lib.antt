@@ -4,6 +4,7 @@ pub mod code
 pub mod Content
 pub mod Designation
 pub mod Header
+pub mod LastTransition
 pub mod Laws
 pub mod Reading
 pub mod Reason

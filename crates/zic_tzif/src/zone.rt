@@ -13,6 +13,7 @@ use std::marker::Model;
 use zic_base::State;
 use zic_posix::{Footer, PreparedFooter};
 
+mod last_transition;
 mod span;
 mod states;
 

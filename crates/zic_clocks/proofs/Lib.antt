@@ -1,0 +1,5 @@
+pub mod Dates
+pub mod Euclid
+pub mod Forever
+pub mod Found
+pub mod Walks
