@@ -28,7 +28,8 @@ the definitions that they cite, an edit of its code that the prover refuses, and
 the definition that states it. [PROOF.md](PROOF.md) explains the promises, crate by crate.
 
 - What is read and written is promised for readers and writers whose bytes are known, and what is placed in a tree, or
-  read of one, for trees that tell it ([PROOF.md](PROOF.md#what-isnt-proved)). A failure is one that was counted.
+  read of one, for trees that tell it ([PROOF.md](PROOF.md#what-isnt-proved)). A failure is one that was counted; the
+  count stays at its greatest value. A beginning may be empty.
 - `ensures` is a clause without a name.
 - A trait's method stands with each type that has it, and its clauses are also the ghost items, as `from_gives`.
 - A definition of std, as that of `length`, isn't named. A cell is empty where clauses cite none of this repository.

@@ -371,7 +371,7 @@ static inline int32_t pzic_name_of_reason(uint32_t reason, uint8_t *room, size_t
 /*
  * What the library exports. These calls are given no NULL at all, and pointers to handles that are
  * written meanwhile: such a call takes what the handle holds, reads it through a shared reference, and
- * puts the same pointer back, so that the handle is in the end as it was. That is proved. So a reading
+ * puts the same pointer back. That the handle is in the end as it was is proved. So a reading
  * call of this header copies the handle, a pointer and a kind, and has the copy read: nothing that is
  * shared is written but atomic counts, by pzic_share and pzic_zone_of. Languages that have no use for the functions of this header do the same.
  */

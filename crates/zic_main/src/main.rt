@@ -248,7 +248,8 @@ fn expect_folder<R: Files>(rt: &R, path: &String) -> Result<(), Failure> {
 }
 
 /// Converts standard input, and writes the faults of rows to the file of this path. The file is made or
-/// emptied once rows are converted: what stops the run before leaves it as it is.
+/// emptied at the first fault, or at the end: a fault of the source, an unknown zone or lack of memory
+/// before the first fault leaves it as it is.
 fn convert_noted<
     R: Files + Input + Print + Clock + RandomSource + AllocGlobal + Threads + Wait + Sync,
     E: Write + Drop,
@@ -279,7 +280,8 @@ fn convert_noted<
     }
 }
 
-/// Tells whether what a run without faults of rows ended with stopped it before its rows.
+/// Returns whether a run without faults of rows ended for a reason that leaves an earlier list of
+/// faults as it is: a fault of the source, an unknown zone, or lack of memory or threads.
 fn is_before_rows(converted: &Result<(), Failure>) -> bool {
     match converted {
         Err(Failure::Line { .. } | Failure::TextLine { .. } | Failure::UnknownZone(_)) => true,
