@@ -2,7 +2,6 @@
 # Checks messages and statuses where inputs can't be read and outputs fail: closed streams, full disks, pipes without a reader.
 # It has folders in place of files and files in place of folders, links, a disk that is full after some bytes, and a folder that may
 # not be written. As root, it tries that folder as the user nobody.
-# Parts need: root
 set -euo pipefail
 cd "$(dirname "${BASH_SOURCE[0]}")/../.."
 . tests/common.sh

@@ -129,6 +129,8 @@ kept='~pzic ~pzic12x'
 if [ "$(id -u)" = 0 ]; then
     chown nobody 'leftovers/~pzic34'
     kept='~pzic ~pzic12x ~pzic34'
+else
+    echo "skipped: leftovers of another user: this isn't root"
 fi
 echo 'Zone UTC 0 - UTC' | "$program" build leftovers -
 calls=$((calls + 1))
