@@ -9,19 +9,25 @@ pub enum RowKind {
     RowFields = 35,
     /// No file has the name.
     RowZone = 36,
-    /// The second field is no instant.
+    /// The field of the instant is none.
     RowInstant = 37,
     /// The instant is before 0001-01-02 or after 9999-12-30, UT.
     RowRange = 38,
     /// A record follows the last that there may be.
     TooManyRows = 39,
+    /// The field of the local time is none.
+    RowLocal = 40,
+    /// Clocks pass over the local time.
+    RowSkipped = 41,
+    /// Clocks show the local time more than once.
+    RowRepeated = 42,
 }
 
 impl RowKind {
     ghost use Rattle.std.specs.Prelude.{◌≢◌, MatchOption};
     ghost use Rattle.zic_base.specs.RowFault.{row_kind_number, row_kind_word};
 
-    /// Returns the number of the kind, 35 to 39: own choice.
+    /// Returns the number of the kind, 35 to 42: own choice.
     pub fn number(self) -> u8
         ensures { result ≡ row_kind_number self }
     {
@@ -38,6 +44,9 @@ impl RowKind {
             RowKind::RowInstant => "RowInstant",
             RowKind::RowRange => "RowRange",
             RowKind::TooManyRows => "TooManyRows",
+            RowKind::RowLocal => "RowLocal",
+            RowKind::RowSkipped => "RowSkipped",
+            RowKind::RowRepeated => "RowRepeated",
         }
     }
 
@@ -52,6 +61,9 @@ impl RowKind {
             37 => RowKind::RowInstant,
             38 => RowKind::RowRange,
             39 => RowKind::TooManyRows,
+            40 => RowKind::RowLocal,
+            41 => RowKind::RowSkipped,
+            42 => RowKind::RowRepeated,
             _ => return None,
         })
     }

@@ -142,4 +142,4 @@ pub own_line_delimited : (layout : Layout) → TextsAreExchanged → is_delimite
 own_line_delimited layout own_law is column =
     let d = layout.delimiter in
     let texts = own_texts (strip_bom (exchanged d column)) in
-    ap (header_of layout.start d) (header_put d layout.header texts ∙ ap (own_header layout.header) (sym (own_law d column (can_delimit d is))))
+    ap (header_of layout.start layout.from d) (header_put d layout.header texts ∙ ap (own_header layout.header) (sym (own_law d column (can_delimit d is))))

@@ -30,3 +30,4 @@ pub mod Totals
 pub mod Wholes
 pub mod Writings
 pub mod QuickRows
+pub mod Meant

@@ -1,6 +1,6 @@
 -- A column that is converted round by round, by zones that are made ready before each round.
-use Rattle.std.proofs.Common.{◌≡◌, ◌+◌, ◌++◌, ℕ, true, List, [], map, Option, Some, inl, inr, refl, subst, length-append, arith}
-use Rattle.std.specs.Prelude.{All, Contains, IfSome}
+use Rattle.std.proofs.Common.{◌≡◌, ◌≢◌, ◌+◌, ◌++◌, ℕ, true, List, [], map, Option, Some, inl, inr, refl, subst, length-append, arith}
+use Rattle.std.specs.Prelude.{All, AllPairs, Contains, IfSome}
 use Rattle.std.proofs.lemmas.List.{get_or_append_left}
 use Rattle.zic_columns.specs.Own.{CsvRecord}
 use Rattle.zic_columns.specs.Round.{HasNoRecord, TakesPieces, records_of}
@@ -89,9 +89,9 @@ all_front P xs ys all = λ k d lt. subst P (get_or_append_left xs ys d k lt) (al
 -- ---- a round by the files that are known, and by all that may be
 
 module _ (layout : Layout) (plan : Limits) (pieces : List (List ℕ)) (first : ℕ) (known files : List File) (still : (file : File) → Contains known file → Contains files file)
-    (only : All (IsKnownZone layout.zone known files) (wholes_of_all layout.delimiter pieces)) {W : Type 0} (contents : W → Option (List ℕ)) (held now : Counts W) (log log' : Option (List RowFault)) where
+    (differ : AllPairs (λ (file other : File). file.name ≢ other.name) files) (only : All (IsKnownZone layout.zone known files) (wholes_of_all layout.delimiter pieces)) {W : Type 0} (contents : W → Option (List ℕ)) (held now : Counts W) (log log' : Option (List RowFault)) where
   written_alike : (count : ℕ) → WritesRound (pieces_by layout known plan pieces first) contents held now log log' count → WritesRound (pieces_by layout files plan pieces first) contents held now log log' count
-  written_alike count (rows, are, wrote) = (rows, rows_same known files still layout plan.max_rows first (wholes_of_all layout.delimiter pieces) rows only are, wrote)
+  written_alike count (rows, are, wrote) = (rows, rows_same known files still differ layout plan.max_rows first (wholes_of_all layout.delimiter pieces) rows only are, wrote)
 
   rows_end_alike : (rows : RowsOf) (why : RunStop) → EndsInRows contents held now log log' layout known plan.max_rows first (wholes_of_all layout.delimiter pieces) rows why
       → EndsInRows contents held now log log' layout files plan.max_rows first (wholes_of_all layout.delimiter pieces) rows why
@@ -101,7 +101,7 @@ module _ (layout : Layout) (plan : Limits) (pieces : List (List ℕ)) (first : �
     more = h.more;
     parts = h.parts;
     front = h.front;
-    are = rows_same known files still layout plan.max_rows first h.done h.front (all_front (IsKnownZone layout.zone known files) h.done h.more (rw h.parts at only)) h.are;
+    are = rows_same known files still differ layout plan.max_rows first h.done h.front (all_front (IsKnownZone layout.zone known files) h.done h.more (rw h.parts at only)) h.are;
     fails = h.fails;
     noted = h.noted;
   }
@@ -114,7 +114,7 @@ module _ (layout : Layout) (plan : Limits) (pieces : List (List ℕ)) (first : �
   ends_alike : (why : RunStop) → EndsInRound (pieces_by layout known plan pieces first) contents held now log log' why → EndsInRound (pieces_by layout files plan pieces first) contents held now log log' why
   ends_alike why (inl memory) = inl memory
   ends_alike why (inr (rows, are, ends)) =
-      inr (rows, rows_same known files still layout plan.max_rows first (wholes_of_all layout.delimiter pieces) rows only are, rows_end_alike rows why ends)
+      inr (rows, rows_same known files still differ layout plan.max_rows first (wholes_of_all layout.delimiter pieces) rows only are, rows_end_alike rows why ends)
 
 -- ---- by zones
 
@@ -177,7 +177,7 @@ module _ {Z : Type 0} (known_of : Z → List File) (settled : Z → List ℕ →
           → IsFarBy layout plan.max_rows known next (n + count) held (contents new.inner) log last files
       far_on count writes files may =
           far_after_round contents once layout plan known left n held mid log now files (agrees then files may).sound (far files (narrows zones then files grows may)) pieces next takes new last count
-          (written_alike layout plan pieces (n + 1) (known_of then) files (agrees then files may).still (only_known files may) contents mid new now last count writes)
+          (written_alike layout plan pieces (n + 1) (known_of then) files (agrees then files may).still (agrees then files may).sound.names_differ (only_known files may) contents mid new now last count writes)
 
       -- or the conversion ended in it
       pub round_ends : (why : RunStop) → EndsInRound (pieces_by layout (known_of then) plan pieces (n + 1)) contents mid new now last why
@@ -188,7 +188,7 @@ module _ {Z : Type 0} (known_of : Z → List File) (settled : Z → List ℕ →
         ends = inl refl;
         by = λ files may.
             ends_in_round contents once layout plan known left n held mid log now files (agrees then files may).sound (far files (narrows zones then files grows may)) pieces next takes new last why
-            (ends_alike layout plan pieces (n + 1) (known_of then) files (agrees then files may).still (only_known files may) contents mid new now last why ends);
+            (ends_alike layout plan pieces (n + 1) (known_of then) files (agrees then files may).still (agrees then files may).sound.names_differ (only_known files may) contents mid new now last why ends);
       }
 
 -- what follows where a conversion ends by zones
