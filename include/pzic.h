@@ -179,6 +179,55 @@ static inline int32_t pzic_zone_at(const pzic_handle *zone, int64_t instant, pzi
 static inline int32_t pzic_zone_span(const pzic_handle *zone, int64_t instant, pzic_state *state,
                                      int64_t *first, int64_t *last);
 
+/* The date and the time of day that clocks show at an instant, and local time. */
+typedef struct pzic_civil {
+    /* The year of the Gregorian calendar, also before that was in use; the year before 1 is 0. */
+    int64_t year;
+    /* 1 to 12, and 1 to 31. */
+    uint32_t month;
+    uint32_t day;
+    /* 0 to 23, 0 to 59 and 0 to 59. */
+    uint32_t hour;
+    uint32_t minute;
+    uint32_t second;
+    pzic_state state;
+} pzic_civil;
+
+/*
+ * Tells the date, the time of day and local time at an instant, any int64_t.
+ *
+ * PZIC_OK           *civil tells local time
+ * PZIC_UNSPECIFIED  the file leaves local time open; *civil is the date and the time of day of UT, and
+ *                   its state is offset 0 with an empty abbreviation
+ * PZIC_NO_HANDLE    `zone` holds no zone; *civil isn't written
+ */
+static inline int32_t pzic_zone_civil(const pzic_handle *zone, int64_t instant, pzic_civil *civil);
+
+/*
+ * Tells the first change of local time after an instant, and the last before it. A change is an
+ * instant at which the offset, the flag or the abbreviation isn't that of a second before, or local
+ * time begins or ceases to be left open: transitions that change nothing are none.
+ *
+ * PZIC_OK         *change is the instant of the change
+ * PZIC_NO_SUCH    there is none after the instant, or before it, in 64 bits; *change isn't written
+ * PZIC_NO_HANDLE  `zone` holds no zone; *change isn't written
+ */
+static inline int32_t pzic_zone_next_change(const pzic_handle *zone, int64_t instant,
+                                            int64_t *change);
+static inline int32_t pzic_zone_previous_change(const pzic_handle *zone, int64_t instant,
+                                                int64_t *change);
+
+/*
+ * Tells the instants of the changes after `first` and up to `last`, in rising order, as many as there is
+ * room for, and how many those are. Where the room is full, more may follow: they are the changes after
+ * the last that is told.
+ *
+ * PZIC_OK         *count is the number of changes that are written; the rest of the room stays as it was
+ * PZIC_NO_HANDLE  `zone` holds no zone; nothing is written
+ */
+static inline int32_t pzic_zone_changes(const pzic_handle *zone, int64_t first, int64_t last,
+                                        int64_t *changes, size_t changes_length, size_t *count);
+
 /*
  * Tells local time at each of many instants, in any order: offsets[i] is the UT offset at
  * instants[i], and flags[i] is 0, PZIC_DAYLIGHT or PZIC_OPEN. Quickest where the instants rise or
@@ -381,6 +430,11 @@ void pzic_raw_free(pzic_handle *handle);
 int32_t pzic_raw_zone_at(pzic_handle *zone, int64_t instant, pzic_state *state);
 int32_t pzic_raw_zone_span(pzic_handle *zone, int64_t instant, pzic_state *state, int64_t *first,
                            int64_t *last);
+int32_t pzic_raw_zone_civil(pzic_handle *zone, int64_t instant, pzic_civil *civil);
+int32_t pzic_raw_zone_next_change(pzic_handle *zone, int64_t instant, int64_t *change);
+int32_t pzic_raw_zone_previous_change(pzic_handle *zone, int64_t instant, int64_t *change);
+int32_t pzic_raw_zone_changes(pzic_handle *zone, int64_t first, int64_t last, int64_t *changes,
+                              size_t changes_length, size_t *count);
 int32_t pzic_raw_zone_offsets(pzic_handle *zone, const int64_t *instants, size_t instants_length,
                               int32_t *offsets, size_t offsets_length, uint8_t *flags,
                               size_t flags_length);
@@ -465,6 +519,30 @@ static inline int32_t pzic_zone_span(const pzic_handle *zone, int64_t instant, p
                                      int64_t *first, int64_t *last) {
     pzic_handle own = *zone;
     return pzic_raw_zone_span(&own, instant, state, first, last);
+}
+
+static inline int32_t pzic_zone_civil(const pzic_handle *zone, int64_t instant, pzic_civil *civil) {
+    pzic_handle own = *zone;
+    return pzic_raw_zone_civil(&own, instant, civil);
+}
+
+static inline int32_t pzic_zone_next_change(const pzic_handle *zone, int64_t instant,
+                                            int64_t *change) {
+    pzic_handle own = *zone;
+    return pzic_raw_zone_next_change(&own, instant, change);
+}
+
+static inline int32_t pzic_zone_previous_change(const pzic_handle *zone, int64_t instant,
+                                                int64_t *change) {
+    pzic_handle own = *zone;
+    return pzic_raw_zone_previous_change(&own, instant, change);
+}
+
+static inline int32_t pzic_zone_changes(const pzic_handle *zone, int64_t first, int64_t last,
+                                        int64_t *changes, size_t changes_length, size_t *count) {
+    pzic_handle own = *zone;
+    if (changes_length == 0) changes = (int64_t *)pzic_nowhere_();
+    return pzic_raw_zone_changes(&own, first, last, changes, changes_length, count);
 }
 
 static inline int32_t pzic_zone_offsets(const pzic_handle *zone, const int64_t *instants,

@@ -93,6 +93,41 @@ public:
         return made;
     }
 
+    // Returns the date, the time of day and local time at an instant; those of UT, under an empty
+    // abbreviation, where the file leaves local time open.
+    pzic_civil civil(std::int64_t instant) const noexcept {
+        pzic_civil told{};
+        pzic_zone_civil(handle_.get(), instant, &told);
+        return told;
+    }
+
+    // Returns the first change of local time after an instant, or nothing where there is none.
+    std::optional<std::int64_t> next_change(std::int64_t instant) const noexcept {
+        std::int64_t change;
+        if (pzic_zone_next_change(handle_.get(), instant, &change) != PZIC_OK) return std::nullopt;
+        return change;
+    }
+
+    // Returns the last change before an instant, or nothing where there is none.
+    std::optional<std::int64_t> previous_change(std::int64_t instant) const noexcept {
+        std::int64_t change;
+        if (pzic_zone_previous_change(handle_.get(), instant, &change) != PZIC_OK) return std::nullopt;
+        return change;
+    }
+
+    // Returns the changes after the first instant and up to the last, in order.
+    std::vector<std::int64_t> changes(std::int64_t first, std::int64_t last) const {
+        std::vector<std::int64_t> made;
+        std::int64_t room[64];
+        std::size_t count = 0;
+        do {
+            pzic_zone_changes(handle_.get(), first, last, room, 64, &count);
+            made.insert(made.end(), room, room + count);
+            if (count > 0) first = room[count - 1];
+        } while (count == 64);
+        return made;
+    }
+
     // Returns the UT offsets at instants; 0 where the file leaves local time open.
     std::vector<std::int32_t> offsets(const std::vector<std::int64_t> &instants) const {
         std::vector<std::int32_t> made(instants.size());

@@ -4,8 +4,9 @@ from __future__ import annotations
 
 import array
 import ctypes
+from functools import partial
 from sys import byteorder
-from typing import TYPE_CHECKING, Any, Dict, List, Mapping, NamedTuple, Tuple
+from typing import TYPE_CHECKING, Any, Callable, Dict, List, Mapping, NamedTuple, Tuple
 
 from pzic import _library as c
 from pzic._errors import NoSuchZone
@@ -25,6 +26,9 @@ GAP = c.GAP
 FOLD = c.FOLD
 UNSPECIFIED = c.UNSPECIFIED
 OUT_OF_RANGE = c.OUT_OF_RANGE
+
+#: What the buffer protocol calls the items of a kind, and their size.
+_ITEMS = {"int32": ("il", 4), "int64": ("ql", 8)}
 
 #: How the buffer protocol marks the byte order of this machine.
 _MARKS = ("", "@", "=", "<" if byteorder == "little" else ">")
@@ -51,17 +55,8 @@ Columns.__module__ = "pzic"
 def convert_array(owned: Owned, instants: Any, offsets: Any, flags: Any) -> Tuple[Any, Any]:
     """Convert instants by a zone, as :meth:`Zone.convert_array` tells."""
     values, missing = _plain(instants)
-    count = len(_view(values, "ql", 8))
-    if offsets is None:
-        offsets = _room(values, "int32", count)
-    if flags is None:
-        flags = _room(values, "uint8", count)
-    views = _views(values, _view(offsets, "il", 4), _view(flags, "B", 1))
-    places = _places(views)
-    c.zone_offsets(owned.lend(), places[0], count, places[1], count, places[2], count)
-    if missing is not None:
-        _write_missing(missing, views, OPEN)
-    return offsets, flags
+    tell = partial(c.zone_offsets, owned.lend())
+    return _tell(tell, values, missing, ("int32", offsets), (flags, OPEN))
 
 
 def instant_array(
@@ -71,25 +66,38 @@ def instant_array(
     if _has_zone(locals):
         raise ValueError("a local time has no time zone")
     values, missing = _plain(locals)
-    count = len(_view(values, "ql", 8))
     are_times = values is not locals and instants is None and _kind(locals) == "M"
-    if instants is None:
-        instants = _room(values, "int64", count)
-    if statuses is None:
-        statuses = _room(values, "uint8", count)
-    views = _views(values, _view(instants, "ql", 8), _view(statuses, "B", 1))
-    places = _places(views)
-    c.zone_instants_array(
-        owned.lend(), choice, places[0], count, places[1], count, places[2], count
-    )
-    if missing is not None:
-        _write_missing(missing, views, UNSPECIFIED)
+    tell = partial(c.zone_instants_array, owned.lend(), choice)
+    instants, statuses = _tell(tell, values, missing, ("int64", instants), (statuses, UNSPECIFIED))
     if are_times:
         import numpy
 
         instants = instants.view("datetime64[s]")
         instants[numpy.asarray(statuses) != 0] = "NaT"
     return instants, statuses
+
+
+def _tell(
+    tell: Callable[..., int],
+    values: Any,
+    missing: Any,
+    numbers: Tuple[str, Any],
+    marks: Tuple[Any, int],
+) -> Tuple[Any, Any]:
+    """Return what a call tells of each value: an array of numbers of a kind, and one of marks.
+
+    They are made where they are left out. Values that are missing have a mark of their own.
+    """
+    kind, told = numbers
+    marked, mark = marks
+    count = len(_view(values, "ql", 8))
+    told = _room(values, kind, count) if told is None else told
+    marked = _room(values, "uint8", count) if marked is None else marked
+    views = _views(values, _view(told, *_ITEMS[kind]), _view(marked, "B", 1))
+    tell(*(word for place in _places(views) for word in (place, count)))
+    if missing is not None:
+        _write_missing(missing, views, mark)
+    return told, marked
 
 
 def _views(values: Any, *rooms: memoryview) -> List[memoryview]:

@@ -110,6 +110,13 @@ zone_read = declare(short, "pzic_raw_zone_read", *_TEXT, _HANDLE, ctypes.POINTER
 zone_span = declare(
     short, "pzic_raw_zone_span", _HANDLE, ctypes.c_int64, ctypes.POINTER(CState), _INSTANT, _INSTANT
 )
+zone_next_change = declare(short, "pzic_raw_zone_next_change", _HANDLE, ctypes.c_int64, _INSTANT)
+zone_previous_change = declare(
+    short, "pzic_raw_zone_previous_change", _HANDLE, ctypes.c_int64, _INSTANT
+)
+zone_changes = declare(
+    short, "pzic_raw_zone_changes", _HANDLE, ctypes.c_int64, ctypes.c_int64, _INSTANT, _SIZE, _COUNT
+)
 zone_offsets = declare(long, "pzic_raw_zone_offsets", _HANDLE, *_ARRAY, *_ARRAY, *_ARRAY)
 zone_instants = declare(
     short, "pzic_raw_zone_instants", _HANDLE, ctypes.c_int64, ctypes.POINTER(CLocalTime)

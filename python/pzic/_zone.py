@@ -7,7 +7,7 @@ import datetime
 import io
 import sys
 from operator import index
-from typing import Any, Callable, Dict, NamedTuple, Optional, Tuple, Union
+from typing import Any, Callable, Dict, List, NamedTuple, Optional, Tuple, Union
 
 from pzic import _library as c
 from pzic._array import convert_array, instant_array
@@ -20,6 +20,8 @@ from pzic._timezone import TimeZone
 _SLOT_BITS = 22
 #: The most spans that are kept.
 _MOST_SPANS = 4096
+#: The most changes that are asked for at once.
+_MOST_CHANGES = 256
 
 
 _EPOCH = datetime.datetime(1970, 1, 1)
@@ -150,12 +152,10 @@ class Zone:
         span = self._spans.get(instant >> _SLOT_BITS)
         if span is not None and span.first <= instant <= span.last:
             return span
-        return self._ask(index(instant))
+        return self._ask(_instant(instant))
 
     def _ask(self, instant: int) -> Span:
         """Ask the library for a span, and keep it."""
-        if not c.MIN_INSTANT <= instant <= c.MAX_INSTANT:
-            raise OverflowError("an instant has 64 bits with a sign")
         state = c.CState()
         first = ctypes.c_int64()
         last = ctypes.c_int64()
@@ -167,6 +167,38 @@ class Zone:
             self._spans.clear()
         self._spans[instant >> _SLOT_BITS] = span
         return span
+
+    def next_change(self, instant: int) -> Optional[int]:
+        """Return the first change of local time after an instant, or ``None`` where there is none.
+
+        A change is an instant at which the offset, the flag or the abbreviation isn't that of a second
+        before, or local time begins or ceases to be left open.
+        """
+        return self._change(c.zone_next_change, instant)
+
+    def previous_change(self, instant: int) -> Optional[int]:
+        """Return the last change of local time before an instant, or ``None`` where there is none."""
+        return self._change(c.zone_previous_change, instant)
+
+    def _change(self, call: Any, instant: int) -> Optional[int]:
+        """Return the change that a call tells."""
+        change = ctypes.c_int64()
+        status = call(self._owned.lend(), _instant(instant), change)
+        return change.value if status == c.OK else None
+
+    def changes(self, start: int, stop: int) -> List[int]:
+        """Return the changes of local time from ``start`` to just before ``stop``, in order."""
+        # The library tells those after an instant and up to another.
+        first = _instant(max(index(start) - 1, c.MIN_INSTANT))
+        last = _instant(max(index(stop) - 1, c.MIN_INSTANT))
+        made: List[int] = []
+        room = (ctypes.c_int64 * _MOST_CHANGES)()
+        count = ctypes.c_size_t(_MOST_CHANGES)
+        while count.value == _MOST_CHANGES:
+            c.zone_changes(self._owned.lend(), first, last, room, _MOST_CHANGES, count)
+            made += room[: count.value]
+            first = made[-1] if made else first
+        return made
 
     def instants(self, local: Local) -> Instants:
         """Return the instants at which the zone's clocks show a local time, or the gap that it is in.
@@ -252,6 +284,14 @@ class Zone:
 
             return ZoneInfo.from_file(io.BytesIO(self._data), key=key or self._key)
         raise ImportError("zoneinfo comes with Python 3.9")
+
+
+def _instant(instant: int) -> int:
+    """Return an instant, if it has 64 bits."""
+    instant = index(instant)
+    if not c.MIN_INSTANT <= instant <= c.MAX_INSTANT:
+        raise OverflowError("an instant has 64 bits with a sign")
+    return instant
 
 
 def _choice(ambiguous: str) -> str:

@@ -22,6 +22,8 @@ _Static_assert(sizeof(pzic_row_fault) == 16 && offsetof(pzic_row_fault, kind) ==
 _Static_assert(sizeof(pzic_local_time) == 40 && offsetof(pzic_local_time, change) == 16, "local time");
 _Static_assert(offsetof(pzic_local_time, before) == 24 && offsetof(pzic_local_time, after) == 28, "gap");
 _Static_assert(offsetof(pzic_local_time, count) == 32, "count");
+_Static_assert(sizeof(pzic_civil) == 72 && offsetof(pzic_civil, month) == 8, "civil");
+_Static_assert(offsetof(pzic_civil, second) == 24 && offsetof(pzic_civil, state) == 32, "time of day");
 
 #define CHECK(holds)                                                              \
     do {                                                                          \
@@ -135,6 +137,76 @@ static void go_over_spans(const pzic_handle *zone) {
     } while (last < INT64_MAX && spans < 1000);
     CHECK(pzic_zone_span(zone, INT64_MAX, &state, &first, &last) == PZIC_OK && last == INT64_MAX);
     CHECK(pzic_zone_span(zone, INT64_MIN, &state, &first, &last) == PZIC_OK && first == INT64_MIN);
+}
+
+// Compares dates and times of day with the C library's gmtime_r.
+static void compare_civil(const pzic_handle *zone) {
+    uint64_t seed = 1442695040888963407u;
+    for (int i = 0; i < MANY; i++) {
+        int64_t t = next_instant(&seed);
+        pzic_civil civil;
+        pzic_state state;
+        CHECK(pzic_zone_civil(zone, t, &civil) == PZIC_OK && pzic_zone_at(zone, t, &state) == PZIC_OK);
+        CHECK(are_same(&civil.state, &state));
+        time_t shown = t + state.offset;
+        struct tm tm;
+        CHECK(gmtime_r(&shown, &tm) != NULL);
+        CHECK(civil.year == tm.tm_year + 1900 && civil.month == (uint32_t)tm.tm_mon + 1);
+        CHECK(civil.day == (uint32_t)tm.tm_mday && civil.hour == (uint32_t)tm.tm_hour);
+        CHECK(civil.minute == (uint32_t)tm.tm_min && civil.second == (uint32_t)tm.tm_sec);
+    }
+}
+
+// Tells the changes up to an instant as a walk over spans does.
+static size_t walk_changes(const pzic_handle *zone, int64_t until, int64_t *changes, size_t most) {
+    size_t count = 0;
+    pzic_state state, before;
+    int64_t first, last;
+    CHECK(pzic_zone_span(zone, INT64_MIN, &before, &first, &last) == PZIC_OK);
+    while (last < until) {
+        CHECK(pzic_zone_span(zone, last + 1, &state, &first, &last) == PZIC_OK);
+        CHECK(count < most);
+        if (!are_same(&before, &state)) changes[count++] = first;
+        before = state;
+    }
+    return count;
+}
+
+// Compares changes with a walk over spans, up to the year 2500.
+static void compare_changes(const pzic_handle *zone) {
+    enum { MOST = 3000, ROOM = 7 };
+    const int64_t until = 16725225600;
+    int64_t *wanted = malloc(MOST * sizeof *wanted);
+    CHECK(wanted != NULL);
+    size_t most = walk_changes(zone, until, wanted, MOST), told = 0, count = ROOM;
+    int64_t from = INT64_MIN;
+    while (count == ROOM) {
+        int64_t room[ROOM + 1];
+        memset(room, 7, sizeof room);
+        CHECK(pzic_zone_changes(zone, from, until, room, ROOM, &count) == PZIC_OK && told + count <= most);
+        CHECK(memcmp(room, wanted + told, count * sizeof *room) == 0);
+        for (size_t i = count; i <= ROOM; i++) CHECK(room[i] == INT64_C(0x0707070707070707));
+        told += count;
+        if (count > 0) from = room[count - 1];
+    }
+    CHECK(told == most);
+    for (size_t i = 0; i < most; i++) {
+        int64_t change = 5;
+        CHECK(pzic_zone_next_change(zone, wanted[i] - 1, &change) == PZIC_OK && change == wanted[i]);
+        CHECK(pzic_zone_previous_change(zone, wanted[i] + 1, &change) == PZIC_OK && change == wanted[i]);
+        change = 5;
+        int32_t want = i > 0 ? PZIC_OK : PZIC_NO_SUCH;
+        CHECK(pzic_zone_previous_change(zone, wanted[i], &change) == want);
+        CHECK(change == (i > 0 ? wanted[i - 1] : 5));
+        if (i + 1 == most) continue;
+        CHECK(pzic_zone_next_change(zone, wanted[i], &change) == PZIC_OK && change == wanted[i + 1]);
+    }
+    int64_t change = 5;
+    CHECK(pzic_zone_next_change(zone, INT64_MAX, &change) == PZIC_NO_SUCH && change == 5);
+    CHECK(pzic_zone_previous_change(zone, INT64_MIN, &change) == PZIC_NO_SUCH && change == 5);
+    CHECK(pzic_zone_changes(zone, 5, 4, &change, 1, &count) == PZIC_OK && count == 0 && change == 5);
+    CHECK(pzic_zone_changes(zone, 0, until, NULL, 0, &count) == PZIC_OK && count == 0);
+    free(wanted);
 }
 
 // Compares a column with single answers. The instants are sorted, or not.
@@ -340,6 +412,12 @@ static void refuse_nothing(void) {
     CHECK(pzic_zone_instants(&zone, 0, &found) == PZIC_NO_HANDLE && found.count == 4);
     CHECK(pzic_zone_instants_array(&zone, 0, &instant, 1, &meant, 1, &flag, 1) == PZIC_NO_HANDLE);
     CHECK(meant == 6 && flag == 9);
+    pzic_civil civil = {.year = 5};
+    size_t count = 8;
+    CHECK(pzic_zone_civil(&zone, 0, &civil) == PZIC_NO_HANDLE && civil.year == 5);
+    CHECK(pzic_zone_next_change(&zone, 0, &meant) == PZIC_NO_HANDLE && meant == 6);
+    CHECK(pzic_zone_previous_change(&zone, 0, &meant) == PZIC_NO_HANDLE && meant == 6);
+    CHECK(pzic_zone_changes(&zone, 0, 9, &meant, 1, &count) == PZIC_NO_HANDLE && meant == 6 && count == 8);
     CHECK(pzic_share(&zone, &other) == PZIC_NO_HANDLE && other.kind == 0);
     pzic_free(&zone);
     pzic_free(&zone);
@@ -389,6 +467,57 @@ static void leave_open(void) {
     CHECK(pzic_zone_instants_array(&zone, PZIC_LATER, instants, 2, &first, 1, flags, 2) == PZIC_LENGTHS);
     CHECK(pzic_zone_instant(&zone, PZIC_LATER, 5000, &first) == PZIC_UNSPECIFIED && first == 1000);
     CHECK(pzic_zone_instant(&zone, PZIC_REJECT, 1000, &first) == PZIC_OK && first == 940);
+    pzic_civil civil;
+    CHECK(pzic_zone_civil(&zone, 1000, &civil) == PZIC_UNSPECIFIED && civil.state.name_length == 0);
+    CHECK(civil.year == 1970 && civil.month == 1 && civil.day == 1);
+    CHECK(civil.hour == 0 && civil.minute == 16 && civil.second == 40);
+    CHECK(pzic_zone_civil(&zone, 999, &civil) == PZIC_OK && civil.minute == 17 && civil.second == 39);
+    // Local time is no longer told from there on, which is a change, and the last.
+    CHECK(pzic_zone_next_change(&zone, INT64_MIN, &first) == PZIC_OK && first == 1000);
+    CHECK(pzic_zone_previous_change(&zone, INT64_MAX, &first) == PZIC_OK && first == 1000);
+    CHECK(pzic_zone_next_change(&zone, 1000, &first) == PZIC_NO_SUCH);
+    CHECK(pzic_zone_previous_change(&zone, 1000, &first) == PZIC_NO_SUCH);
+    pzic_free(&zone);
+}
+
+// Reads a zone without transitions, of this footer.
+static void read_footer(const char *footer, pzic_handle *zone) {
+    static const uint8_t head[44] = {'T', 'Z', 'i', 'f', '2'};
+    uint8_t bytes[200] = {0};
+    uint32_t reason = 0;
+    memcpy(bytes, head, sizeof head);
+    memcpy(bytes + 44, head, sizeof head);
+    bytes[44 + 39] = 1, bytes[44 + 43] = 4; // a type, and four bytes of designations
+    memcpy(bytes + 94, "UTC", 3);
+    int length = snprintf((char *)bytes + 98, 102, "\n%s\n", footer);
+    CHECK(read_copy(bytes, (size_t)(98 + length), zone, &reason) == PZIC_OK);
+}
+
+// Zones that never change: one by a footer whose daylight saving time never ends (RFC 9636, 3.3.1). And the
+// first and the last second of 64 bits, as everybody reckons them.
+static void never_change(void) {
+    static const char *const footers[] = {"UTC0", "XXX3EDT4,0/0,J365/23"};
+    static const int64_t instants[] = {INT64_MIN, INT64_MIN + 1, -1, 0, 4102444800, INT64_MAX - 1, INT64_MAX};
+    pzic_handle zone = {0};
+    for (int i = 0; i < 2; i++) {
+        size_t count = 9;
+        int64_t change = 5;
+        read_footer(footers[i], &zone);
+        for (int k = 0; k < 7; k++) {
+            CHECK(pzic_zone_next_change(&zone, instants[k], &change) == PZIC_NO_SUCH && change == 5);
+            CHECK(pzic_zone_previous_change(&zone, instants[k], &change) == PZIC_NO_SUCH && change == 5);
+        }
+        CHECK(pzic_zone_changes(&zone, INT64_MIN, INT64_MAX, &change, 1, &count) == PZIC_OK && count == 0);
+    }
+    pzic_civil civil;
+    read_footer("UTC0", &zone);
+    CHECK(pzic_zone_civil(&zone, INT64_MAX, &civil) == PZIC_OK && civil.year == INT64_C(292277026596));
+    CHECK(civil.month == 12 && civil.day == 4 && civil.hour == 15 && civil.minute == 30 && civil.second == 7);
+    CHECK(pzic_zone_civil(&zone, INT64_MIN, &civil) == PZIC_OK && civil.year == INT64_C(-292277022657));
+    CHECK(civil.month == 1 && civil.day == 27 && civil.hour == 8 && civil.minute == 29 && civil.second == 52);
+    // A day after the last of 64 bits, by an offset east of UT.
+    read_footer("<+24>-24", &zone);
+    CHECK(pzic_zone_civil(&zone, INT64_MAX, &civil) == PZIC_OK && civil.day == 5 && civil.second == 7);
     pzic_free(&zone);
 }
 
@@ -444,7 +573,13 @@ static void compile_source(void) {
     CHECK(pzic_zone_of(&other, 3, &zone) == PZIC_NO_SUCH && zone.kind == 0);
     // Neither kind of handle is the other.
     count = 5, number = 9, state.offset = 6, room[0] = 'x';
+    pzic_civil civil = {.year = 7};
+    int64_t change = 8;
     CHECK(pzic_zone_at(&other, 0, &state) == PZIC_NO_HANDLE);
+    CHECK(pzic_zone_civil(&other, 0, &civil) == PZIC_NO_HANDLE && civil.year == 7);
+    CHECK(pzic_zone_next_change(&other, 0, &change) == PZIC_NO_HANDLE && change == 8);
+    CHECK(pzic_zone_previous_change(&other, 0, &change) == PZIC_NO_HANDLE && change == 8);
+    CHECK(pzic_zone_changes(&other, 0, 9, &change, 1, &count) == PZIC_NO_HANDLE && change == 8);
     CHECK(pzic_files_len(&again, &count) == PZIC_NO_HANDLE);
     CHECK(find(&again, "Test/York", &number) == PZIC_NO_HANDLE);
     CHECK(pzic_files_name(&again, 0, room, 1, &count) == PZIC_NO_HANDLE);
@@ -774,6 +909,7 @@ static void refuse_growths(const file *f) {
     int64_t first, last;
     CHECK(pzic_zone_at(&zone, 5, &state) == PZIC_OK);
     CHECK(pzic_zone_span(&zone, 5, &state, &first, &last) == PZIC_OK);
+    CHECK(pzic_zone_next_change(&zone, 5, &first) == PZIC_OK);
     CHECK(growths_left == 0);
     growths_left = -1;
     pzic_free(&zone);
@@ -795,6 +931,8 @@ static void *work(void *argument) {
     compare_column(zone, false);
     compare_column(zone, true);
     compare_instants(zone);
+    compare_civil(zone);
+    compare_changes(zone);
     for (int i = 0; i < 50; i++) {
         pzic_handle again = {0}, own = {0};
         pzic_state state, same;
@@ -859,6 +997,7 @@ int main(int count, char **words) {
     compare_versions();
     refuse_nothing();
     leave_open();
+    never_change();
     compile_source();
     refuse_sources();
     compile_texts();
@@ -877,6 +1016,8 @@ int main(int count, char **words) {
         compare_column(&zone, false);
         compare_column(&zone, true);
         compare_instants(&zone);
+        compare_civil(&zone);
+        compare_changes(&zone);
         if (i == 2) tell_gap_and_fold(&zone);
         open_tree(words[1], words[i]);
         pzic_free(&zone);

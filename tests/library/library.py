@@ -57,9 +57,25 @@ def compare_local(name, ours, theirs, local):
         check(got.tzname() == want.tzname(), name, local, fold, got.tzname())
 
 
+def shown(theirs, instant):
+    """Return what zoneinfo shows at an instant."""
+    time = (EPOCH + timedelta(seconds=instant)).astimezone(theirs)
+    return time.utcoffset(), bool(time.dst()), time.tzname()
+
+
+def compare_changes(name, zone, theirs):
+    """Compare the changes with the transitions at which zoneinfo shows something else."""
+    want = [change for change in changes(zone) if shown(theirs, change - 1) != shown(theirs, change)]
+    check(zone.changes(FIRST + 1, LAST + 1) == want, name, "changes")
+    for before, change in zip(want, want[1:]):
+        check(zone.next_change(before) == zone.next_change(change - 1) == change, name, change, "next")
+        check(zone.previous_change(change) == zone.previous_change(before + 1) == before, name, change, "previous")
+
+
 def compare_zone(name, zone, theirs):
     ours = zone.tzinfo(name)
     count = 0
+    compare_changes(name, zone, theirs)
     for change in changes(zone):
         for instant in change - 1, change, change + 1:
             compare_instant(name, ours, theirs, instant)
@@ -114,6 +130,11 @@ def refuse(tree):
     check(refuses(pzic.BadFile, pzic.Zone, b"x" * 50).reason == "Magic", "Magic")
     zone = tree["Europe/Dublin"]
     refuses(OverflowError, zone.at, 2**63)
+    refuses(OverflowError, zone.next_change, 2**63)
+    refuses(TypeError, zone.changes, 0.5, 1)
+    fixed = tree["Etc/UTC"]
+    check(fixed.next_change(0) is None and fixed.previous_change(0) is None, "no change")
+    check(fixed.changes(pzic.MIN_INSTANT, pzic.MAX_INSTANT + 1) == [], "no changes")
     refuses(TypeError, zone.convert_array, array.array("i", [1]))
     refuses(TypeError, zone.convert_array, array.array("q", [1]), b"1234")
     refuses(ValueError, zone.convert_array, array.array("q", [1]), array.array("i"))

@@ -63,6 +63,13 @@ static void ask_many_instants(void) {
     status = pzic_zone_instants_array(&zone, PZIC_LATER, instants, MANY, found, MANY, flags, MANY);
 }
 
+static void ask_changes(void) {
+    int64_t change;
+    pzic_civil civil;
+    status = pzic_zone_next_change(&zone, 0, &change) + pzic_zone_previous_change(&zone, 0, &change)
+           + pzic_zone_changes(&zone, 0, 4102444800, found, MANY, &count) + pzic_zone_civil(&zone, 0, &civil);
+}
+
 static void compile(void) {
     pzic_fault fault;
     size_t whole = sizeof source - 1;
@@ -115,7 +122,7 @@ int main(int words, char **word) {
         void (*what)(void);
     } calls[] = {{"zone_read", read_zone}, {"share", share}, {"free", let_go}, {"zone_at", ask_at},
                  {"zone_span", ask_span}, {"zone_offsets", ask_many}, {"zone_instants", ask_instants},
-                 {"zone_instants_array", ask_many_instants}, {"compile", compile}, {"files", ask_files},
+                 {"zone_instants_array", ask_many_instants}, {"changes", ask_changes}, {"compile", compile}, {"files", ask_files},
                  {"rows", convert}, {"names", ask_names}};
     FILE *in = words == 2 ? fopen(word[1], "rb") : NULL;
     if (in == NULL) return 1;

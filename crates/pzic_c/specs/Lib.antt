@@ -1,3 +1,5 @@
+pub mod Changes
+pub mod CivilTime
 pub mod code
 pub mod Column
 pub mod Files

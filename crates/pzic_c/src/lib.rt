@@ -2,6 +2,8 @@
 //! `docs/LIBRARY.md` tells of them. No call starts a thread, prints, aborts or keeps global state.
 #![tactic(auto)]
 
+mod changes;
+mod civil_time;
 mod column;
 mod compiling;
 mod copying;
