@@ -109,6 +109,36 @@ def large_arrays(numpy, pandas, order):
     by_pandas("pandas with zoneinfo, every tenth", theirs, 10)
 
 
+def columns(numpy, pandas):
+    """Measure a column with a zone for each row beside pandas, which converts it zone by zone."""
+    import pytz
+
+    ours = pzic.Tree.open(tree)
+    names = sorted(name for name in ours if name in pytz.all_timezones_set)
+    random_rows = numpy.random.default_rng(1)
+    codes = random_rows.integers(0, len(names), 1_000_000)
+    zones = pandas.Series(pandas.Categorical.from_codes(codes, names))
+    times = pandas.Series(random_rows.integers(0, 1 << 31, len(codes)).astype("datetime64[s]").astype("datetime64[ns]"))
+    what = f"Python, a column of 1 million rows in {len(names)} zones:"
+
+    def by_pandas(abbreviations=None):
+        """Return local times, and write abbreviations if there is room for them."""
+        local = times.to_numpy().copy()
+        for name, rows in zones.groupby(zones, observed=True).indices.items():
+            shown = pandas.DatetimeIndex(local[rows]).tz_localize("UTC").tz_convert(name)
+            local[rows] = shown.tz_localize(None).to_numpy()
+            if abbreviations is not None:
+                abbreviations[rows] = shown.strftime("%Z")
+        return local
+
+    told = measure(f"{what} pzic", len(codes), lambda: ours.convert_columns(zones, times))
+    room = numpy.empty(len(codes), "object")
+    measure(f"{what} pandas, by groups", len(codes), lambda: by_pandas(room))
+    local = measure(f"{what} pandas, by groups, without abbreviations", len(codes), by_pandas)
+    others = (told.local != local.astype("datetime64[s]")).mean(), (told.abbreviations != room).mean()
+    print(f"{what} {others[0]:.2%} other local times, {others[1]:.2%} other abbreviations")
+
+
 single_answers()
 try:
     import numpy
@@ -118,3 +148,4 @@ except ImportError as missing:
 else:
     for order in "random", "sorted":
         large_arrays(numpy, pandas, order)
+    columns(numpy, pandas)

@@ -4,7 +4,7 @@
 # that of threads, beside the C library's own reader; the extension of SQLite; the Python package beside Python's zoneinfo, its
 # objects, its types, and as pip installs it; and the examples of docs/LIBRARY.md in each language.
 # Needs: tzdata, cc, c++, nm, pkg-config
-# Parts need: clang, sqlite3ext.h, sqlite3, valgrind, pandas, test_zoneinfo, mypy, pip, go, rustc
+# Parts need: clang, sqlite3ext.h, sqlite3, valgrind, pandas, test_zoneinfo, mypy, python3.8, pip, go, rustc
 set -euo pipefail
 cd "$(dirname "${BASH_SOURCE[0]}")/../.."
 . tests/common.sh
@@ -103,6 +103,13 @@ if has 'the types of the Python package' mypy; then
         mypy --strict --python-version "$version" --cache-dir "$work/mypy" python/pzic | sed 's/^/library: mypy: /'
     done
 fi
+
+# The oldest Python, which has no zoneinfo.
+oldest=
+for candidate in python3.8 "${PYENV_ROOT:-$HOME/.pyenv}"/versions/3.8.*/bin/python; do
+    ! "$candidate" -c '' 2>"$work/log" || { oldest=$candidate; break; }
+done
+if [ -n "$oldest" ]; then "$oldest" tests/library/oldest.py "$tree"; else echo "skipped: the oldest Python: python3.8 isn't there"; fi
 
 # As pip installs it, from its folder and as a wheel, each into a new environment, without a network.
 has_pip() {
