@@ -173,29 +173,35 @@ static int64_t day_of(int64_t year, int month, int day) {
     return era * 146097 + within * 365 + within / 4 - within / 100 + of_year - 719468;
 }
 
-static void put_digits(char *text, int64_t number, int digits) {
-    while (digits-- > 0) {
-        text[digits] = (char)('0' + number % 10);
-        number /= 10;
-    }
-}
+/* The digits of the numbers below 100. */
+static const char pairs[] =
+    "0001020304050607080910111213141516171819"
+    "2021222324252627282930313233343536373839"
+    "4041424344454647484950515253545556575859"
+    "6061626364656667686970717273747576777879"
+    "8081828384858687888990919293949596979899";
+
+static void put_pair(char *text, uint32_t number) { memcpy(text, pairs + 2 * number, 2); }
 
 /* Writes a second as a date and a time of 19 bytes, as SQLite's datetime does. */
 static void write_local(char *text, int64_t second) {
-    int64_t of_era = second - first_second, day = of_era / 86400 + 60, rest = of_era % 86400;
-    /* Days from 0000-03-01 in years from March on; the 60 days before belong to the year -1. */
-    int64_t from_march = day - 60 - 60 + 146097;
-    int64_t era = from_march / 146097, in_era = from_march % 146097;
-    int64_t year = (in_era - in_era / 1460 + in_era / 36524 - in_era / 146096) / 365;
-    int64_t of_year = in_era - (365 * year + year / 4 - year / 100);
-    int64_t shifted = (5 * of_year + 2) / 153, month = shifted < 10 ? shifted + 3 : shifted - 9;
+    uint64_t from_start = (uint64_t)(second - first_second);
+    uint32_t rest = (uint32_t)(from_start % 86400);
+    /* Days in years from March on, counted from 0000-03-01; the 60 days before are those of the year -1. */
+    uint32_t from_march = (uint32_t)(from_start / 86400) - 60 + 146097;
+    uint32_t era = from_march / 146097, in_era = from_march % 146097;
+    uint32_t year = (in_era - in_era / 1460 + in_era / 36524 - in_era / 146096) / 365;
+    uint32_t of_year = in_era - (365 * year + year / 4 - year / 100);
+    uint32_t shifted = (5 * of_year + 2) / 153, month = shifted < 10 ? shifted + 3 : shifted - 9;
+    uint32_t full_year = era * 400 + year + (month <= 2) - 400;
     memcpy(text, "0000-00-00 00:00:00", 19);
-    put_digits(text, (era - 1) * 400 + year + (month <= 2), 4);
-    put_digits(text + 5, month, 2);
-    put_digits(text + 8, of_year - (153 * shifted + 2) / 5 + 1, 2);
-    put_digits(text + 11, rest / 3600, 2);
-    put_digits(text + 14, rest / 60 % 60, 2);
-    put_digits(text + 17, rest % 60, 2);
+    put_pair(text, full_year / 100);
+    put_pair(text + 2, full_year % 100);
+    put_pair(text + 5, month);
+    put_pair(text + 8, of_year - (153 * shifted + 2) / 5 + 1);
+    put_pair(text + 11, rest / 3600);
+    put_pair(text + 14, rest / 60 % 60);
+    put_pair(text + 17, rest % 60);
 }
 
 static void pzic_local(sqlite3_context *context, int count, sqlite3_value **values) {
