@@ -170,7 +170,7 @@ def compare_names():
     page = os.path.join(os.path.dirname(os.path.abspath(__file__)), "../../docs/errors.txt")
     with open(page, encoding="utf-8") as file:
         printed = re.findall(r"^## (\w+)$", file.read(), re.M)
-    got = [name_of(c.name_of_fault, number) for number in range(40)]
+    got = [name_of(c.name_of_fault, number) for number in range(43)]
     got += ["ColumnTooLong"] + [name_of(c.name_of_reason, number) for number in range(16)]
     check([name for name in got if name] == printed[: printed.index("TooLarge") + 1], "names")
 
