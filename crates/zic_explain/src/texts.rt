@@ -604,9 +604,9 @@ Right:
   $ printf 'Etc/UTC,0\nEtc/UTC,1\n' | pzic convert --max-rows 2 utc.zi
 ?  A longer column: convert it in parts (see "Long columns" in USING.md).
 @RowLocal?The field of the local time doesn't hold a local time.?  The field of the local time doesn't hold a local time.
-?  A date and a time of day without a UT offset, as `1970-01-01T00:00:00` or with
-  a space in place of the `T`, in the years 1 to 9999. With `--unit` a fraction
-  of at most 3, 6 or 9 digits.
+?  A date and a time of day without a UT offset, as `1970-01-01T00:00:00` or
+  with a space in place of the `T`, in the years 1 to 9999. With `--unit` a
+  fraction of at most 3, 6 or 9 digits.
 ?
 The examples use:
   $ echo 'Zone Etc/UTC 0 - UTC' >utc.zi
@@ -619,8 +619,8 @@ It prints:
 
 Right:
   $ echo 'Etc/UTC,1970-01-01T00:00:00' | pzic convert --from local utc.zi
-?  A date with a `Z` or a UT offset, which `--from rfc3339` takes, a date without
-  a time of day, or the two fields swapped.
+?  A date with a `Z` or a UT offset, which `--from rfc3339` takes, a date
+  without a time of day, or the two fields swapped.
 @RowSkipped?Clocks pass over the local time.?  Clocks pass over the local time.
 ?  A local time that clocks show. They pass over some where they go forward: a
   gap.
@@ -643,8 +643,8 @@ Right:
   With `--ambiguous later` or `compatible` it is read by the UT offset before
   the gap, and with `earlier` by the one after it.
 @RowRepeated?Clocks show the local time more than once.?  Clocks show the local time more than once.
-?  A local time that clocks show once. They show some again where they go back: a
-  fold.
+?  A local time that clocks show once. They show some again where they go back:
+  a fold.
 ?
 The examples use:
   $ echo 'Zone Etc/UTC 0 - UTC' >utc.zi
@@ -660,9 +660,9 @@ Right:
   $ printf 'Zone Test/One 1 - CET 2000\n 0 - UTC\n' >one.zi
   $ echo 'Test/One,1999-12-31T23:30:00' | \
   >   pzic convert --from local --ambiguous later one.zi
-?  A time of day in the hour that comes twice at the end of daylight saving time.
-  `--ambiguous earlier` or `compatible` takes the first instant, and `later` the
-  last.
+?  A time of day in the hour that comes twice at the end of daylight saving
+  time. `--ambiguous earlier` or `compatible` takes the first instant, and
+  `later` the last.
 @ColumnTooLong?The column has more bytes than `--max-bytes` allows.?  The column has more bytes than `--max-bytes` allows.
 ?  At most 4,294,967,296 bytes, or the number given with the option. The message
   has no row number. The rows that were written are the first rows of the
