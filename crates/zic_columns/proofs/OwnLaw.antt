@@ -8,7 +8,7 @@ use Rattle.csv.specs.Reading.{default_config}
 use Rattle.csv.specs.declared.parser.State.{State}
 use Rattle.csv.specs.declared.parser.State.TheVariants as st
 use Rattle.zic_columns.specs.Column.{ends_line}
-use Rattle.zic_columns.specs.Ends.{AreBetweenEnds, BeginsWithEnd}
+use Rattle.zic_columns.specs.Ends.{AreBetweenEnds, BeginsWithEnd, BeginsWithin}
 use Rattle.zic_columns.specs.Own.{own_from, own_texts}
 use Rattle.zic_columns.proofs.CutLaw.{in_record, stays}
 use Rattle.zic_columns.proofs.OwnFacts.{own_before}
@@ -62,6 +62,7 @@ record IsFirst (bytes : List ℕ) : Type 0 where
   pub rest : List ℕ
   pub whole : bytes ≡ own ++ rest
   pub fewer : length rest < length bytes
+  pub starts : BeginsWithin own
   pub begins : BeginsWithEnd rest
   pub owns : own_texts bytes ≡ own ∷ own_texts rest
 
@@ -80,6 +81,7 @@ first_of_record byte bytes within =
       rest = later.rest;
       whole = ap (λ (b : List ℕ). byte ∷ b) later.whole;
       fewer = fewer_left byte later.front later.rest bytes later.whole;
+      starts = within;
       begins = later.begins;
       owns = starts byte bytes within ∙ own_more s byte [] bytes refl goes ∙ later.owns;
     }
@@ -88,7 +90,7 @@ first_of_record byte bytes within =
 one_end_more : (byte : ℕ) (texts : List (List ℕ)) (bytes : List ℕ) → ends_line byte ≡ true → AreBetweenEnds texts bytes → AreBetweenEnds texts (byte ∷ bytes)
 one_end_more byte [] bytes ends are = All-cons (λ b. ends_line b ≡ true) byte bytes ends are
 one_end_more byte (text ∷ texts) bytes ends are =
-    (byte ∷ are.0, are.1, All-cons (λ b. ends_line b ≡ true) byte are.0 ends are.2, ap (λ (b : List ℕ). byte ∷ b) are.3, are.4, are.5)
+    (byte ∷ are.0, are.1, All-cons (λ b. ends_line b ≡ true) byte are.0 ends are.2, are.3, ap (λ (b : List ℕ). byte ∷ b) are.4, are.5, are.6)
 
 between_up_to : (n : ℕ) (bytes : List ℕ) → length bytes < n → AreBetweenEnds (own_texts bytes) bytes
 between_up_to zero bytes few = absurd (omega (arith, few))
@@ -101,7 +103,7 @@ between_up_to (suc n) (byte ∷ bytes) few = ⊎_elim
     let first = first_of_record byte bytes within in
     let later = between_up_to n first.rest (omega (arith, few, first.fewer)) in
     subst (λ (t : List (List ℕ)). AreBetweenEnds t (byte ∷ bytes)) (sym first.owns)
-    ([], first.rest, All-nil (λ b. ends_line b ≡ true), first.whole, first.begins, later))
+    ([], first.rest, All-nil (λ b. ends_line b ≡ true), first.starts, first.whole, first.begins, later))
     (cases_Bool (ends_line byte))
 
 pub between_ends : (bytes : List ℕ) → AreBetweenEnds (own_texts bytes) bytes

@@ -16,9 +16,9 @@ abbrev pub BeginsWithin : List ℕ → Type 0
 BeginsWithin [] = ⊥
 BeginsWithin (byte ∷ bytes) = ends_line byte ≡ false
 
--- The bytes are line ends and these texts, in order: line ends alone stand before the first and after the last, and one at least between
--- two of them.
+-- The bytes are line ends and these texts, in order: line ends alone stand before the first and after the last, and at least one between
+-- two of them. No text is empty or begins with a line end.
 abbrev pub AreBetweenEnds : List (List ℕ) → List ℕ → Type 0
 AreBetweenEnds [] bytes = AreLineEnds bytes
 AreBetweenEnds (text ∷ texts) bytes =
-    (ends rest : List ℕ) × AreLineEnds ends × (bytes ≡ ends ++ text ++ rest) × BeginsWithEnd rest × AreBetweenEnds texts rest
+    (ends rest : List ℕ) × AreLineEnds ends × BeginsWithin text × (bytes ≡ ends ++ text ++ rest) × BeginsWithEnd rest × AreBetweenEnds texts rest

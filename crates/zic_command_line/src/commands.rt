@@ -7,7 +7,7 @@ use zic_dump::{FIRST_YEAR, LAST_YEAR};
 use zic_plan::{MAX_BYTES, MAX_OF_PIECE, MAX_ROWS, MAX_WORKERS};
 
 /// The version of the program, and the kit that it is proved with.
-const VERSION: &str = "0.1.0\nproved with rattle-kit-13b logic dac8208d650f15bf";
+const VERSION: &str = "0.1.0\nproved with rattle-kit-13f logic dac8208d650f15bf";
 
 /// The words for what the names of Link lines are made as.
 const LINK_WORDS: [&str; 3] = ["copy", "hard", "symlink"];

@@ -56,9 +56,9 @@ WritesAll files most column = WritesAllOf [] (ConvertsTo files most column)
 abbrev pub WritesAt : List File → ℕ → List ℕ → RunStop → Option (List ℕ) → Option (List ℕ) → Type 0
 WritesAt files most column = WritesAtOf [] (ConvertsTo files most column)
 
--- A conversion ends for the reader only where a read failed, for the writer only where a write or flush did, and for too long a column
--- only where more bytes than allowed were taken. It ends at a row only where no write and no flush failed. It never ends for a fault
--- of a source, or for lack of a thread.
+-- A conversion ends for the reader only where a failure of it was counted, for the writer likewise, and for too long a column only where
+-- more bytes than allowed were taken. It ends at a row only where no failure of the writer was counted. It never ends for a fault of a
+-- source, or for lack of a thread.
 abbrev pub IsCauseOf : {R W : Type 0} → ℕ → Counts R → Counts R → Counts W → Counts W → RunStop → Type 0
 IsCauseOf most reader reader' writer writer' stop.ReadFailed = HasFailedSince reader' reader.failures
 IsCauseOf most reader reader' writer writer' stop.WriteFailed = HasFailedSince writer' writer.failures

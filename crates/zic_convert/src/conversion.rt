@@ -324,8 +324,7 @@ fn reading_stop<R>(reader: &Counted<R>, failures: u64, taken: u64, most: u64) ->
 /// Returns how a conversion ends whose column had this outcome. The reader had counted `failures`
 /// failures and `taken` bytes before, and may have taken `most` bytes since.
 ///
-/// No clause of what reads a column says how much it takes, or that no read failed: the reader's own
-/// counts decide.
+/// The reader's own counts decide whether a read failed, or too many bytes were taken.
 fn ended<R>(
     outcome: Result<u64, Halt>,
     reader: &Counted<R>,
@@ -372,15 +371,16 @@ fn ended<R>(
 /// workers convert the pieces of a round, which have the number of records that the plan says, and
 /// pass the gate before each. The calling thread is one of them. The rows of a round are written and
 /// flushed before the column is read on. None of this changes an answer. Where all is converted, the
-/// reader's count of bytes rose by no more than the plan allows, and the writer failed nowhere.
+/// reader's count of bytes rose by no more than the plan allows, and no failure of the writer was
+/// counted.
 ///
 /// # Errors
 ///
 /// - `Row` at the first row that ends the conversion, with its number, from 1, and the first of its
 ///   kinds: a row more than the plan allows, a record of another number of fields than the layout's,
 ///   a name that no file has, no instant, or a whole second out of range. All rows before it were
-///   written and flushed, and the writer failed nowhere. Where rows with faults are written, only
-///   `TooManyRows` ends the conversion as `Row`.
+///   written and flushed, and no failure of the writer was counted. Where rows with faults are
+///   written, only `TooManyRows` ends the conversion as `Row`.
 /// - `ReadFailed` or `WriteFailed` where the reader or writer counted a failure. Each error of the
 ///   reader or writer ends the call, also one at which others try again, and so does a write that
 ///   takes no byte. A reader that ended is not read again. Where the line of names can't be written,
@@ -452,14 +452,14 @@ pub fn convert_column<
 /// of a round, which have the number of records that the plan says, and pass the gate before each.
 /// The calling thread is one of them. The rows of a round are written and flushed before the column
 /// is read on. None of this changes an answer. Where all is converted, the reader's count of bytes
-/// rose by no more than the plan allows, and the writer failed nowhere.
+/// rose by no more than the plan allows, and no failure of the writer was counted.
 ///
 /// # Errors
 ///
 /// - `Row` at the first row that has a fault, with its number, from 1, and the first of its kinds:
 ///   a row more than the plan allows, a record of other than two fields, a name that no file has,
-///   no instant, or an instant out of range. All rows before it were written and flushed, and the
-///   writer failed nowhere.
+///   no instant, or an instant out of range. All rows before it were written and flushed, and no
+///   failure of the writer was counted.
 /// - `ReadFailed` or `WriteFailed` where the reader or writer counted a failure. Each error of the
 ///   reader or writer ends the call, also one at which others try again, and so does a write that
 ///   takes no byte. A reader that ended is not read again.

@@ -10,7 +10,7 @@ pub record Writes {W : Type 0} (contents : W → Option (List ℕ)) (old new : C
   pub wrote : Appends (contents old.inner) (contents new.inner) bytes
   pub counts : CountsNothing old new
 
--- it grew by a part of these bytes, from their start on, and then a write or flush failed
+-- it grew by a part of these bytes, from their start on, and then a failure was counted
 pub record FailsWithin {W : Type 0} (contents : W → Option (List ℕ)) (old new : Counts W)
     (bytes : List ℕ) : Type 0 where
   pub part : List ℕ

@@ -68,8 +68,12 @@ impl Files {
         })
     }
 
-    /// Returns the same files, which are looked up by this key: who chose the names without knowing it
-    /// can't have made many of them share a bucket. Refuses if memory runs out.
+    /// Returns the same files, to be looked up by this key. The key changes no answer. A random one
+    /// keeps names that were chosen to share a bucket from being slow to find.
+    ///
+    /// # Errors
+    ///
+    /// Fails if memory is refused. The files are dropped then.
     pub fn with_key(self, alloc: Global, key: u64) -> Result<Files, AllocError>
         ensures ok { IfOk result (λ files. files ≡ self) }
         ensures memory { IfErr result (λ _. 0 < length self) }

@@ -62,7 +62,7 @@ IsFailureOfPath path failure = (failure ≡ failures.Memory) ⊎ IsCannotRead pa
 abbrev pub IsFailureOfBytes : {R : Type 0} → List ℕ → Counts R → Counts R → Failure → Type 0
 IsFailureOfBytes path old new = IsFailureOfReading path (HasFailedSince new old.failures)
 
--- why such output isn't written: a write or the flush failed, and by then a part of it was written
+-- why such output isn't written: a failure was counted, and by then a part of it was written
 pub record IsFailureOfOutput {W : Type 0} (contents : W → Option (List ℕ))
     (IsOutput : List ℕ → Type 0) (old new : Counts W) (failure : Failure) : Type 0 where
   pub is : failure ≡ failures.CannotWriteOutput

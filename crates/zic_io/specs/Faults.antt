@@ -33,6 +33,6 @@ held_by contents (Some file) = contents file
 abbrev pub HasLines : {W : Type 0} → (W → Option (List ℕ)) → FaultNotes W → Type 0
 HasLines contents notes = IfSome notes.file (λ file. Appends notes.start (contents file.inner) (faults_text notes.noted))
 
--- there is a file, and a write or a flush to it failed
+-- there is a file, and a failure of it was counted
 abbrev pub HasFailed : {W : Type 0} → FaultNotes W → Type 0
 HasFailed notes = MatchOption notes.file ⊥ (λ file. 0 < file.failures)

@@ -77,7 +77,7 @@ impl<W: Write> FaultList<W> {
     }
 
     /// Has the file pass on what it holds back. Returns true only if the lines of all faults were
-    /// written, where there is a file, and false only if a write or a flush failed.
+    /// written, where there is a file, and false only if a failure of the file was counted.
     pub fn finish(&mut self) -> bool
         ensures lines { IsTrue result → HasLines W.contents self.new }
         ensures failed { IsFalse result → HasFailed self.new }
