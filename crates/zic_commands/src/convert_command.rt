@@ -17,8 +17,9 @@ use zic_pieces::Gate;
 use zic_source_commands::files_of;
 use zic_zones::SourceZones;
 
-/// Compiles the texts, and converts a column by a layout and their files. Returns the number of rows,
-/// without the header.
+/// Compiles the texts, and converts a column by a layout and their files, which are looked up by this
+/// key. Returns the number of rows, without the header. The answer doesn't depend on the key: a random
+/// one keeps names that were chosen to collide from being slow.
 ///
 /// # Errors
 ///
@@ -27,6 +28,7 @@ use zic_zones::SourceZones;
 pub fn convert_source<T: Threads + Wait + Sync, G: Gate + Sync, R: Read, W: Write, L: FaultLog>(
     conversion: &Conversion<'_, T, G>,
     texts: &[Vec<u8>],
+    key: u64,
     reader: &mut Counted<R>,
     writer: &mut Counted<W>,
     log: &mut L,
@@ -45,6 +47,7 @@ pub fn convert_source<T: Threads + Wait + Sync, G: Gate + Sync, R: Read, W: Writ
         log.old log.new)) }
 {
     let files = files_of(conversion.rt, conversion.alloc, conversion.plan, texts)?;
+    let files = files.with_key(conversion.alloc, key)?;
     // The files of a source are sound.
     prove!(files.len() <= usize::MAX);
     let mut zones = SourceZones::new(conversion.alloc, &files)?;

@@ -347,7 +347,8 @@ fn convert_column<
     };
     match &order.zones {
         Zones::Source(_) => {
-            zic_commands::convert_source(&conversion, texts, input, output, faults)
+            let key = random_number(rt);
+            zic_commands::convert_source(&conversion, texts, key, input, output, faults)
         }
         Zones::Tree(folder) => {
             let folder = ZoneFolder::new(rt, folder.as_str());

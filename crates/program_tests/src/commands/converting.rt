@@ -37,7 +37,7 @@ fn converted<T: Threads + Wait + Sync + Abort>(
     };
     let mut column = Counted::new(column);
     let texts = slice::from_ref(&source);
-    convert_source(&conversion, texts, &mut column, writer, &mut Unnoted)
+    convert_source(&conversion, texts, 7, &mut column, writer, &mut Unnoted)
 }
 
 /// Columns, the way in which a writer fails, and whether there is a header.
@@ -81,6 +81,7 @@ fn converted_to_a_failed_read<T: Threads + Wait + Sync + Abort>(
     convert_source(
         &conversion,
         slice::from_ref(&source),
+        7,
         &mut column,
         rows,
         list,
