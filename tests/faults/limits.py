@@ -102,6 +102,10 @@ def names(program):
     column = written("column", (f"Refused/Name_{i},0\n".encode() for i in range(400_000)))
     run("400,000 names, of an empty tree", [program, "convert", "--keep-going", "--tree", "empty"], column, (1, 80),
         (1, "row 1: RowZone\n400000 rows with faults"))
+    zones = list(colliding((KEYED * 3)[:14], 9_999))
+    source = written("colliding.zi", (f"Zone {name} 0 - UTC\n".encode() for name in zones))
+    column = written("column", (f"{name},0\n".encode() for name in zones * 10))
+    run("9,999 zones of one hash at the usual key", [program, "convert", "--workers", "1", source], column, (0.2, 48), (0, ""))
 
 
 # ------------------------------------------------------------------ files
@@ -133,10 +137,10 @@ def files(program):
 # ------------------------------------------------------------------ records
 
 def records(program):
-    """columns of one record. Its bytes are held in a buffer that doubles, and those of a quoted field once more"""
+    """columns of one record. Its bytes are held in a buffer that grows by an eighth, and those of a quoted field once more"""
     source = written("utc.zi", [b"Zone Etc/UTC 0 - UTC\n"])
     size = 48
-    plain, quoted = (0.5, size * 2.2 + 24), (1, size * 3.2 + 24)
+    plain, quoted = (0.5, size * 1.2 + 24), (1, size * 2.3 + 24)
     column = written("column", [b'Etc/UTC,"0\n' + b"Etc/UTC,0\n" * (size * MIB // 10)])
     run(f"a stray quote before {size} MiB", [program, "convert", source], column, quoted, (1, "row 1: RowInstant"))
     run(f"a stray quote before {size} MiB, explained", [program, "convert", "--explain", source], column, quoted,
