@@ -15,13 +15,15 @@ pub enum RowKind {
     RowRange = 38,
     /// A record follows the last that there may be.
     TooManyRows = 39,
+    /// The double quotes of a line are open at its end, where each line is a record.
+    RowQuote = 43,
 }
 
 impl RowKind {
     ghost use Rattle.std.specs.Prelude.{◌≢◌, MatchOption};
     ghost use Rattle.zic_base.specs.RowFault.{row_kind_number, row_kind_word};
 
-    /// Returns the number of the kind, 35 to 39: own choice.
+    /// Returns the number of the kind, 35 to 39 or 43: own choice.
     pub fn number(self) -> u8
         ensures { result ≡ row_kind_number self }
     {
@@ -38,6 +40,7 @@ impl RowKind {
             RowKind::RowInstant => "RowInstant",
             RowKind::RowRange => "RowRange",
             RowKind::TooManyRows => "TooManyRows",
+            RowKind::RowQuote => "RowQuote",
         }
     }
 
@@ -52,6 +55,7 @@ impl RowKind {
             37 => RowKind::RowInstant,
             38 => RowKind::RowRange,
             39 => RowKind::TooManyRows,
+            43 => RowKind::RowQuote,
             _ => return None,
         })
     }

@@ -20,12 +20,13 @@ use Rattle.zic_convert.proofs.Coming.{come_after, come_more}
 use Rattle.zic_convert.proofs.Sounds.{IsKnown}
 
 -- checks that all pass
-passed : (a b c d e : Bool) (k l m n o : RowKind) → first_failed (check a k ∷ check b l ∷ check c m ∷ check d n ∷ check e o ∷ []) ≡ None → (c ≡ true) × (d ≡ true)
-passed false b c d e k l m n o h = absurd (cc h)
-passed true false c d e k l m n o h = absurd (cc h)
-passed true true false d e k l m n o h = absurd (cc h)
-passed true true true false e k l m n o h = absurd (cc h)
-passed true true true true e k l m n o h = (refl, refl)
+passed : (a b c d e f : Bool) (k l m n o p : RowKind) → first_failed (check a k ∷ check b l ∷ check c m ∷ check d n ∷ check e o ∷ check f p ∷ []) ≡ None → (d ≡ true) × (e ≡ true)
+passed false b c d e f k l m n o p h = absurd (cc h)
+passed true false c d e f k l m n o p h = absurd (cc h)
+passed true true false d e f k l m n o p h = absurd (cc h)
+passed true true true false e f k l m n o p h = absurd (cc h)
+passed true true true true false f k l m n o p h = absurd (cc h)
+passed true true true true true f k l m n o p h = (refl, refl)
 
 -- the value that is there
 the_some : {X : Type 0} (o : Option X) → is_some o ≡ true → (x : X) × (o ≡ Some x)
@@ -49,7 +50,7 @@ module _ (layout : Layout) (files : List File) (most : ℕ) (known : All IsKnown
   have_text number row_record none =
       let zone = zone_in layout.zone row_record.fields in
       let counted = count_in layout row_record.fields in
-      let (named, says) = passed _ _ (is_named files zone) (is_some counted) (is_row_instant (option_map (second_of layout.unit) counted)) _ _ _ _ _ none in
+      let (named, says) = passed _ _ _ (is_named files zone) (is_some counted) (is_row_instant (option_map (second_of layout.unit) counted)) _ _ _ _ _ _ none in
       let (file, among, name) = the_named files zone named in
       let (count, at) = the_some counted says in
       let (state, answers) = All-contains IsKnown files file known among (second_of layout.unit count) in (

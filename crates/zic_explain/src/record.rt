@@ -26,7 +26,7 @@ impl RecordForm {
         match kind {
             RowKind::RowZone => self.zone,
             RowKind::RowInstant | RowKind::RowRange => Some(self.time),
-            RowKind::RowFields | RowKind::TooManyRows => None,
+            RowKind::RowFields | RowKind::TooManyRows | RowKind::RowQuote => None,
         }
     }
 

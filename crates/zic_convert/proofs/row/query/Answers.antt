@@ -1,24 +1,27 @@
 use Rattle.std.proofs.Common.{◌∙◌, FitsSigned, rules, sym, to_z-of_z}
 use Rattle.std.specs.Int.{w128}
-use Rattle.zic_convert.proofs.RowFaults.{count_missing, no_fault, out_of_range, row_may, zone_missing}
+use Rattle.zic_convert.proofs.RowFaults.{closed_counted, count_missing, no_field, open_counted, no_fault, out_of_range, row_may, zone_missing}
 use Rattle.zic_convert.proofs.row.query.Goals as goal
 
 pub returns-in_default : goal.returns-in_default
 returns-in_default c =
+    let closed = closed_counted _ (λ none. c.if-count-eq0.false (c.requires.split.count ∙ none)) in
     let admits = sym (rw c.requires.split.count at c.if-not-admits.ensures) in
-    zone_missing c.args.piece.now c.args.number c.args.given.now c.if-piece-number.false admits (sym c.requires.lookup.file ∙ c.in_default.is)
+    zone_missing c.args.piece.now c.args.number c.args.given.now c.if-piece-number.false closed admits (sym c.requires.lookup.file ∙ c.in_default.is)
 
 pub returns-in_default-count : goal.returns-in_default-count
 returns-in_default-count c =
+    let closed = closed_counted _ (λ none. c.if-count-eq0.false (c.requires.split.count ∙ none)) in
     let admits = sym (rw c.requires.split.count at c.if-not-admits.ensures) in
-    count_missing c.args.piece.now c.args.number c.args.given.now c.if-piece-number.false admits c.in-Some.file (sym c.requires.lookup.file ∙ c.in-Some.is)
+    count_missing c.args.piece.now c.args.number c.args.given.now c.if-piece-number.false closed admits c.in-Some.file (sym c.requires.lookup.file ∙ c.in-Some.is)
     (sym c.requires.lookup.count ∙ c.in_default-count.is)
 
 pub returns-then-not-is_in_range : goal.returns-then-not-is_in_range
 returns-then-not-is_in_range c =
+    let closed = closed_counted _ (λ none. c.if-count-eq0.false (c.requires.split.count ∙ none)) in
     let admits = sym (rw c.requires.split.count at c.if-not-admits.ensures) in
     let row_record : FitsSigned w128 c.in-Some-count.count = search rules in
-    out_of_range c.args.piece.now c.args.number c.args.given.now c.if-piece-number.false admits c.in-Some.file (sym c.requires.lookup.file ∙ c.in-Some.is)
+    out_of_range c.args.piece.now c.args.number c.args.given.now c.if-piece-number.false closed admits c.in-Some.file (sym c.requires.lookup.file ∙ c.in-Some.is)
     c.in-Some-count.count (sym c.requires.lookup.count ∙ c.in-Some-count.is) (sym (rw (to_z-of_z row_record) at c.if-not-is_in_range.ensures))
 
 pub returns : goal.returns
@@ -26,6 +29,7 @@ returns c =
     let piece = c.args.piece.now in
     let given = c.args.given.now in
     let count = c.in-Some-count.count in
+    let closed = closed_counted _ (λ none. c.if-count-eq0.false (c.requires.split.count ∙ none)) in
     let admits = sym (rw c.requires.split.count at c.if-not-admits.ensures) in
     let row_record : FitsSigned w128 count = search rules in
     let file_is = sym c.requires.lookup.file ∙ c.in-Some.is in
@@ -34,7 +38,10 @@ returns c =
     let may = row_may _ in_range in
     let state = rw (c.in-Some.is, c.in-Some-count.is) at c.requires.lookup.state in
     rw (to_z-of_z row_record) (record {
-      sound = no_fault piece c.args.number given c.if-piece-number.false admits c.in-Some.file file_is count count_is in_range;
+      sound = no_fault piece c.args.number given c.if-piece-number.false closed admits c.in-Some.file file_is count count_is in_range;
       is = record { file = file_is; count = count_is; may = may };
       state = state may;
     })
+
+pub returns-then-count-eq0 : goal.returns-then-count-eq0
+returns-then-count-eq0 c = no_field c.args.piece.now c.args.number c.args.given.now c.if-piece-number.false (open_counted _ (sym c.requires.split.count ∙ c.if-count-eq0.true))
