@@ -18,6 +18,9 @@ const UNIT_WORDS: [&str; 4] = ["s", "ms", "us", "ns"];
 /// The words for how the field of an instant has it.
 const TIME_WORDS: [&str; 2] = ["count", "rfc3339"];
 
+/// The words for what a record is.
+const RECORD_WORDS: [&str; 2] = ["csv", "lines"];
+
 /// The greatest number that a field can have in an option.
 const MOST_FIELDS: i64 = 65_536;
 
@@ -49,6 +52,8 @@ enum Form {
     Unit,
     /// An option that is one of `TIME_WORDS`, the first by default.
     Time,
+    /// An option that is one of `RECORD_WORDS`, the first by default.
+    Records,
 }
 
 /// A number in a range.
@@ -144,7 +149,7 @@ static BUILD: [Word; 7] = [
     EXPLAIN,
 ];
 
-static CONVERT: [Word; 20] = [
+static CONVERT: [Word; 21] = [
     Word {
         name: "SOURCE",
         help: "A file of Rule, Zone and Link lines",
@@ -226,6 +231,11 @@ static CONVERT: [Word; 20] = [
         name: "from",
         help: "Form of instants: count or rfc3339",
         form: Form::Time,
+    },
+    Word {
+        name: "records",
+        help: "What a record is: csv or lines",
+        form: Form::Records,
     },
     Word {
         name: "append",
@@ -407,6 +417,7 @@ fn option<'a>(argument: Arg<'a>, form: &'a Form) -> Arg<'a> {
         Form::Links => choice(argument.value_name("KIND"), &LINK_WORDS).default_value("copy"),
         Form::Unit => choice(argument.value_name("UNIT"), &UNIT_WORDS).default_value("s"),
         Form::Time => choice(argument.value_name("FORM"), &TIME_WORDS).default_value("count"),
+        Form::Records => choice(argument.value_name("KIND"), &RECORD_WORDS).default_value("csv"),
         Form::Zone => argument.value_name("NAME"),
         Form::Path => argument.value_name("FILE"),
         Form::Folder => argument.value_name("DIR"),

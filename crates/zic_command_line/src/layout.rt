@@ -5,7 +5,7 @@ use crate::no_request::NoRequest;
 use clap::ArgMatches;
 use std::alloc::Global;
 use zic_plan::{
-    AtFault, Delimiter, FieldCount, Header, Layout, RowStart, TimeFrom, Unit, ZoneFrom,
+    AtFault, Delimiter, FieldCount, Header, Layout, Records, RowStart, TimeFrom, Unit, ZoneFrom,
 };
 
 /// Returns how a column is read.
@@ -19,6 +19,7 @@ pub(crate) fn layout(alloc: Global, matches: &ArgMatches<'_>) -> Result<Layout, 
     let delimiter = delimiter(alloc, matches)?;
     let unit = unit(alloc, matches)?;
     let from = time_from(alloc, matches)?;
+    let records = records(alloc, matches)?;
     let header = header(alloc, matches)?;
     let (zone, time) = match matches.get_str("zone") {
         Some(_) if zone_field.is_some() => {
@@ -48,6 +49,7 @@ pub(crate) fn layout(alloc: Global, matches: &ArgMatches<'_>) -> Result<Layout, 
         count,
         unit,
         delimiter,
+        records,
         header,
         start,
         at_fault,
@@ -137,5 +139,14 @@ fn time_from(alloc: Global, matches: &ArgMatches<'_>) -> Result<TimeFrom, NoRequ
         Some("count") => Ok(TimeFrom::Count),
         Some("rfc3339") => Ok(TimeFrom::Rfc3339),
         _ => Err(usage(alloc, "--from is count or rfc3339")),
+    }
+}
+
+/// Returns where a record ends.
+fn records(alloc: Global, matches: &ArgMatches<'_>) -> Result<Records, NoRequest> {
+    match matches.get_str("records") {
+        Some("csv") => Ok(Records::Csv),
+        Some("lines") => Ok(Records::Lines),
+        _ => Err(usage(alloc, "--records is csv or lines")),
     }
 }
