@@ -1,5 +1,5 @@
 -- Lines as records, and those that are not open.
-use Rattle.std.proofs.Common.{◌≡◌, ◌≢◌, ◌⊎◌, ◌<◌, ◌≤◌, ℕ, zero, suc, true, false, cond, All, List, [], ◌∷◌, ◌++◌, length, map, filter, take, inl, inr, refl, sym, ap, ◌∙◌, append_assoc, length-append, subst, ⊎_elim, arith}
+use Rattle.std.proofs.Common.{◌≡◌, ◌≢◌, ◌⊎◌, ◌+◌, ◌<◌, ◌≤◌, ℕ, zero, suc, true, false, cond, All, List, [], ◌∷◌, ◌++◌, length, map, filter, take, inl, inr, refl, sym, ap, ◌∙◌, append_assoc, length-append, subst, ⊎_elim, arith}
 use Rattle.std.specs.List.{onto_first, slice_split}
 use Rattle.std.proofs.lemmas.Bool.{cases_Bool}
 use Rattle.std.proofs.lemmas.List.{append-nil, map-append, take_at}

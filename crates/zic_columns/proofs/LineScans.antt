@@ -1,6 +1,6 @@
 -- Whole lines among bytes, as they are looked for.
 use Rattle.std.proofs.Common.{◌≡◌, ◌⊎◌, ℕ, ◌+◌, ◌<◌, ◌≤◌, true, false, List, [], ◌∷◌, ◌++◌, length, take, drop, get_or, Option, Some, None, inl, inr, refl, sym, ap, ap₂, ◌∙◌, arith, append_assoc, subst}
-use Rattle.std.specs.Prelude.{All, MatchOption}
+use Rattle.std.specs.Prelude.{All, MatchOption, is_some}
 use Rattle.std.proofs.Math.Seq.{take-add}
 use Rattle.std.proofs.lemmas.List.{append-nil, drop-append-le, drop-drop, drop_all, length-drop, length-take-le, take-append-drop, take-append-le, take-take, take_all, take_more}
 use Rattle.std.proofs.lemmas.List.Elements.{All-append}
@@ -117,15 +117,18 @@ scan_longer bytes before le scan is none = record {
 }
 
 -- the first line was open
-pub scan_open : (bytes : List ℕ) (before : ℕ) (le : before ≤ length bytes) (whole : ℕ) (line : OpenLine) → IsLineScan (take before bytes) (record { whole = whole; opened = Some line })
-    → IsLineScan bytes (record { whole = whole; opened = Some line })
-scan_open bytes before le whole line is =
-    let scan : LineScan = record { whole = whole; opened = Some line } in
-    record {
-      within = in_front bytes before le scan is;
-      closed = still_closed bytes before le scan is;
-      then = subst (λ (b : List ℕ). IsOpenLine b line) (left bytes before le scan is) (open_longer (drop whole (take before bytes)) (drop before bytes) line is.then);
-    }
+then_opened : (opened : Option OpenLine) (bytes more : List ℕ) → is_some opened ≡ true → MatchOption opened (HasNoLineEnd bytes) (IsOpenLine bytes)
+    → MatchOption opened (HasNoLineEnd (bytes ++ more)) (IsOpenLine (bytes ++ more))
+then_opened None bytes more some is = absurd (cc some)
+then_opened (Some line) bytes more some is = open_longer bytes more line is
+
+pub scan_open : (bytes : List ℕ) (before : ℕ) (le : before ≤ length bytes) (scan : LineScan) → IsLineScan (take before bytes) scan → is_some scan.opened ≡ true → IsLineScan bytes scan
+scan_open bytes before le scan is some = record {
+  within = in_front bytes before le scan is;
+  closed = still_closed bytes before le scan is;
+  then = subst (λ (b : List ℕ). MatchOption scan.opened (HasNoLineEnd b) (IsOpenLine b)) (left bytes before le scan is)
+      (then_opened scan.opened (drop scan.whole (take before bytes)) (drop before bytes) some is.then);
+}
 
 -- ---- after whole lines were taken
 

@@ -1,7 +1,7 @@
 -- How a CSV reader's machine reads a line.
-use Rattle.std.proofs.Common.{◌≡◌, ◌≢◌, ◌==◌, ◌<◌, ℕ, Bool, true, false, cond, All, List, [], ◌∷◌, ◌++◌, length, refl, sym, ap, ◌∙◌, append_assoc, subst, ⊎_elim, arith}
+use Rattle.std.proofs.Common.{◌≡◌, ◌≢◌, ◌==◌, ◌+◌, ◌<◌, ◌≤◌, ℕ, suc, Bool, true, false, cond, All, List, [], ◌∷◌, ◌++◌, length, drop, drop-cons, get_or, refl, sym, ap, ap₂, ◌∙◌, append_assoc, subst, ⊎_elim, arith}
 use Rattle.std.proofs.lemmas.Bool.{both_ways, cases_Bool, cond_both, eqb-true, ne_eqb}
-use Rattle.std.proofs.lemmas.List.{append-nil}
+use Rattle.std.proofs.lemmas.List.{append-nil, drop_all}
 use Rattle.std.proofs.lemmas.List.Elements.{All-head, All-tail}
 use Rattle.csv.specs.Machine.{after_end, ends_at_end, ends_with, in_field, is_end, start_field, start_record, step}
 use Rattle.csv.specs.Reading.{default_config}
@@ -14,6 +14,9 @@ use Rattle.zic_columns.specs.Column.{AreWholeRecords, HasNoQuote, ends_line, sta
 use Rattle.zic_columns.specs.Lines.{is_open, is_quoted, state_by}
 use Rattle.zic_columns.specs.Own.{own_from, own_texts}
 use Rattle.zic_columns.specs.code.LineScan.{HasNoLineEnd}
+use Rattle.zic_columns.specs.code.Machine.{EndsRecord, state_at}
+use Rattle.zic_columns.specs.declared.machine.Place.{Place}
+use Rattle.zic_columns.specs.declared.machine.Place.TheVariants as place
 use Rattle.zic_columns.proofs.CutLaw.{in_record, records_are_cut, stays}
 use Rattle.zic_columns.proofs.OwnFacts.{own_before, whole_before}
 use Rattle.zic_columns.proofs.OwnLens.{line_ends, own_last, own_more, own_then, starts}
@@ -84,6 +87,16 @@ pub own_unended : (line : List ℕ) → 0 < length line → HasNoLineEnd line �
 own_unended line some none =
     ap own_texts (sym (append-nil line)) ∙ own_of_line line [] some none ∙ own_last (state_by default_config st.StartRecord line) line (in_line line some none)
 
+state_more : (s : State) (line : List ℕ) (end : ℕ) → state_after s (line ++ end ∷ []) ≡ (step default_config (state_after s line) end).0
+unfolding state_after
+state_more s [] end = refl
+state_more s (byte ∷ line) end = state_more (step default_config s byte).0 line end
+
+same_state : (s : State) (line : List ℕ) → state_after s line ≡ state_by default_config s line
+unfolding state_after state_by
+same_state s [] = refl
+same_state s (byte ∷ line) = same_state (step default_config s byte).0 line
+
 module _ (line : List ℕ) (end : ℕ) (some : 0 < length line) (none : HasNoLineEnd line) (closed : is_open 44 line ≡ false) (ends : ends_line end ≡ true) where
   abbrev last : State
   last = state_by default_config st.StartRecord line
@@ -99,16 +112,7 @@ module _ (line : List ℕ) (end : ℕ) (some : 0 < length line) (none : HasNoLin
 
   -- which is a whole record
   pub whole_line : AreWholeRecords (line ++ end ∷ [])
-  whole_line = records_are_cut (line ++ end ∷ []) (ap ends_at_end (state_more st.StartRecord line ∙ ap (λ (s : State). (step default_config s end).0) (same st.StartRecord line)) ∙ step_before last end closing)
-    where
-      state_more : (s : State) (a : List ℕ) → state_after s (a ++ end ∷ []) ≡ (step default_config (state_after s a) end).0
-      unfolding state_after
-      state_more s [] = refl
-      state_more s (byte ∷ a) = state_more (step default_config s byte).0 a
-      same : (s : State) (a : List ℕ) → state_after s a ≡ state_by default_config s a
-      unfolding state_after state_by
-      same s [] = refl
-      same s (byte ∷ a) = same (step default_config s byte).0 a
+  whole_line = records_are_cut (line ++ end ∷ []) (ap ends_at_end (state_more st.StartRecord line end ∙ ap (λ (s : State). (step default_config s end).0) (same_state st.StartRecord line)) ∙ step_before last end closing)
 
 -- ---- without double quotes
 
@@ -196,3 +200,35 @@ ends_from s byte (next ∷ bytes) before =
 pub whole_ends : (bytes : List ℕ) → 0 < length bytes → AreWholeRecords bytes → EndsWithLine bytes
 whole_ends [] some whole = absurd (omega (arith, some))
 whole_ends (byte ∷ bytes) some whole = ends_from st.StartRecord byte bytes (whole_before (byte ∷ bytes) whole)
+
+-- ---- the walk over a line
+
+-- a line ends between double quotes where a field that begins there does
+pub open_from_start : (line : List ℕ) → HasNoLineEnd line → is_open 44 line ≡ is_quoted (state_by default_config st.StartField line)
+unfolding state_by
+open_from_start [] none = refl
+open_from_start (byte ∷ line) none = rw (All-head EndsNone byte line none) refl
+
+-- after one byte more
+pub next_state : (s t : State) (line : List ℕ) (at : ℕ) → at < length line → (step default_config s (get_or line at 0)).0 ≡ t → state_by default_config s (drop at line) ≡ state_by default_config t (drop (at + 1) line)
+unfolding state_by
+next_state s t line at lt to =
+    let one : suc at ≡ at + 1 = omega arith in
+    ap (state_by default_config s) (drop-cons line at 0 lt) ∙ ap₂ (λ (u : State) (n : ℕ). state_by default_config u (drop n line)) to one
+
+pub last_state : (s : State) (line : List ℕ) (at : ℕ) → length line ≤ at → state_by default_config s (drop at line) ≡ s
+unfolding state_by
+last_state s line at end = ap (state_by default_config s) (drop_all at line end)
+
+-- a byte that ends no line ends no record there
+pub not_ended : (p : Place) (byte : ℕ) → ends_line byte ≡ false → EndsRecord (state_at p) byte → ⊥
+not_ended place.Start byte within ends = both_ways _ (goes st.StartField byte refl within) ends
+not_ended place.Plain byte within ends = both_ways _ (goes st.InField byte refl within) ends
+not_ended place.Quoted byte within ends = both_ways _ (goes st.InQuoted byte refl within) ends
+not_ended place.QuoteSeen byte within ends = both_ways _ (goes st.AfterQuote byte refl within) ends
+
+pub not_quoted : (p : Place) → (p ≡ place.Quoted → ⊥) → is_quoted (state_at p) ≡ false
+not_quoted place.Start other = refl
+not_quoted place.Plain other = refl
+not_quoted place.Quoted other = absurd (other refl)
+not_quoted place.QuoteSeen other = refl

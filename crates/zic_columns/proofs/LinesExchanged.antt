@@ -135,7 +135,7 @@ by_exchanged by.Csv d column can =
       map (map (exchanged d)) records,
       records_exchanged d column can,
       sym (ap (λ (t : List (List ℕ)). beside t (map (map (exchanged d)) records)) (texts_exchanged d column can)
-      ∙ beside_kept (exchanged d) (map (exchanged d)) (own_texts inside) records),
+          ∙ beside_kept (exchanged d) (map (exchanged d)) (own_texts inside) records),
     )
 by_exchanged by.Lines d column can = line_records_back d can column
 

@@ -117,12 +117,7 @@ impl<R: Read + Drop> Column<R> {
     /// # Errors
     ///
     /// Fails where the reader fails or gives more bytes, or memory is refused.
-    pub fn new(
-        alloc: Global,
-        reader: R,
-        most: u64,
-        records: Records,
-    ) -> Result<Column<R>, Unread>
+    pub fn new(alloc: Global, reader: R, most: u64, records: Records) -> Result<Column<R>, Unread>
         ensures by { IfOk result (λ column. column.by ≡ records) }
         ensures bytes { IfOk result (λ column. IfSome (R.remaining reader)
             (λ bytes. unread R.remaining column ≡ Some (strip_bom bytes))) }

@@ -79,10 +79,16 @@ pub(crate) fn scan_lines_from(bytes: &[u8], start: usize) -> LineScan
                     opened: Some(line),
                 };
             }
-            FirstLine::Unended => return LineScan { whole, opened: None },
+            FirstLine::Unended => return LineScan {
+                whole,
+                opened: None,
+            },
         }
     }
-    LineScan { whole, opened: None }
+    LineScan {
+        whole,
+        opened: None,
+    }
 }
 
 /// Scans on where more bytes came after the first `before`, which were scanned.
@@ -93,10 +99,13 @@ pub(crate) fn scan_lines_on(bytes: &[u8], before: usize, scan: LineScan) -> Line
     requires scanned { IsLineScan (take before bytes.now) scan }
     ensures { IsLineScan bytes.now result }
 {
-    if scan.opened.is_some() || memchr2(b'\r', b'\n', &bytes[before..]).is_none() {
+    if scan.opened.is_some() {
         return scan;
     }
-    scan_lines_from(bytes, scan.whole)
+    match memchr2(b'\r', b'\n', &bytes[before..]) {
+        None => scan,
+        Some(_) => scan_lines_from(bytes, scan.whole),
+    }
 }
 
 /// Returns the scan of the bytes after the first `count`.

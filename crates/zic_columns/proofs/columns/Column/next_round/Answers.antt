@@ -1,0 +1,19 @@
+use Rattle.std.proofs.Common.{[]}
+use Rattle.std.proofs.lemmas.Result.{IfOk-weaker}
+use Rattle.zic_columns.specs.Round.{taken_records, unread}
+use Rattle.zic_columns.specs.code.Hand.{to_come}
+use Rattle.zic_columns.proofs.Taking.{takes_next, takes_open, within_both}
+use Rattle.zic_columns.proofs.columns.Column.next_round.Goals as goal
+
+pub returns-in-Records-clause-limit : goal.returns-in-Records-clause-limit
+returns-in-Records-clause-limit g c = within_both g.R.Read.remaining c.args.self.now c.gather.new.self c.take_round.new.self c.gather.ensures.limit c.take_round.ensures.limit
+
+pub returns-in-Records-clause-takes : goal.returns-in-Records-clause-takes
+returns-in-Records-clause-takes g c =
+    let old = c.args.self.now in
+    let mid = c.gather.new.self in
+    let new = c.take_round.new.self in
+    IfOk-weaker c.take_round.result _ _
+    (λ taken is. takes_next old.by (unread g.R.Read.remaining old) (unread g.R.Read.remaining mid) (unread g.R.Read.remaining new) (taken_records taken new.round) c.in_ok-count.ensures.takes
+    (rw c.gather.ensures.by at is))
+    c.take_round.ensures.takes
