@@ -1,6 +1,6 @@
 -- Records of two plain fields, by a layout.
 use Rattle.std.proofs.Common.{◌≡◌, ◌+◌, ◌==◌, ℕ, ℤ, Bool, true, false, List, [], ◌∷◌, ◌++◌, length, Option, Some, None, append_assoc, refl, sym, ap, subst, ◌∙◌, arith, drop}
-use Rattle.std.specs.Prelude.{◌↔◌, is_some, option_map}
+use Rattle.std.specs.Prelude.{◌↔◌, is_some, nat_le, option_map}
 use Rattle.std.specs.Fmt.{signed_decimal}
 use Rattle.std.proofs.lemmas.Bool.{eqb-true, ne_eqb}
 use Rattle.std.proofs.lemmas.List.{map-append}
@@ -8,6 +8,7 @@ use Rattle.csv.specs.Reading.{default_config, strip_bom}
 use Rattle.zic_base.specs.Check.{check, first_failed}
 use Rattle.zic_base.specs.State.{Shown}
 use Rattle.zic_base.specs.declared.row_fault.RowKind.{RowKind}
+use Rattle.zic_base.specs.declared.row_fault.RowKind.TheVariants as kind
 use Rattle.zic_columns.proofs.Exchanges.{comma_exchanged}
 use Rattle.zic_columns.proofs.Wholes.{wholes_fields}
 use Rattle.zic_columns.specs.Column.{AreColumnRecords, column_records}
@@ -117,7 +118,8 @@ module _ (layout : Layout) (plain : HasPlainRows layout) (files : List File) whe
   -- a record without a fault has two fields
   two_of : (most number : ℕ) (fields : List (List ℕ)) → fault_of files most number fields ≡ None → (name : List ℕ) × (field : List ℕ) × (fields ≡ name ∷ field ∷ [])
   two_of most number fields none =
-      let two = third_passes _ (is_closed fields) (length fields == 2) (is_named files (name_in fields)) (is_some (instant_in fields)) (is_row_instant (instant_in fields)) _ _ _ _ _ _ none in
+      let two = third_passes (nat_le number most) (is_closed fields) (length fields == 2) (is_named files (name_in fields)) (is_some (instant_in fields)) (is_row_instant (instant_in fields))
+      kind.TooManyRows kind.RowQuote kind.RowFields kind.RowZone kind.RowInstant kind.RowRange none in
       two_fields fields (eqb-true (length fields) 2 two)
 
   -- plain columns come to the same

@@ -48,9 +48,12 @@ pub rows_taken : (layout : Layout) (mode : Records) → mode ≡ layout.records 
 rows_taken layout mode is old new next pieces takes = if_some old _ (λ bytes e.
     let d = layout.delimiter in
     let here : Columns.Takes layout.records old new (taken_records next pieces) = subst (λ (m : Records). Columns.Takes m old new (taken_records next pieces)) is takes in
-    let (rest, at, same) = for_some old _ bytes here e in
-    (rest, at, ap (map (put_back d)) same ∙ map-append (put_back d) (taken_records next pieces) (records_by layout.records rest)
-    ∙ ap (λ (l : List CsvRecord). l ++ records_in layout rest) (rows_put d next pieces)))
+    let (rest, at, same) = for_some old _ bytes here e in (
+      rest,
+      at,
+      ap (map (put_back d)) same ∙ map-append (put_back d) (taken_records next pieces) (records_by layout.records rest)
+          ∙ ap (λ (l : List CsvRecord). l ++ records_in layout rest) (rows_put d next pieces),
+    ))
 
 -- records that are taken come next
 pub taken_come_next : (layout : Layout) (old new : Option (List ℕ)) (rs : List CsvRecord) → Takes layout old new rs → ComeNext layout old rs

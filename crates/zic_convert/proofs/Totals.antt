@@ -1,6 +1,6 @@
 -- That all records come to rows, up to the first fault.
 use Rattle.std.proofs.Common.{◌≡◌, ◌+◌, ℕ, Bool, true, false, List, [], ◌∷◌, ◌++◌, length, Option, Some, None, inl, inr, refl, sym, arith}
-use Rattle.std.specs.Prelude.{All, Contains, bytes_eq, is_some, option_map}
+use Rattle.std.specs.Prelude.{All, Contains, bytes_eq, is_some, nat_le, option_map}
 use Rattle.std.specs.Cmp.Lexicographic.{bytes_decides}
 use Rattle.std.proofs.lemmas.Bool.{cases_Bool}
 use Rattle.std.proofs.lemmas.List.{append-nil}
@@ -10,10 +10,12 @@ use Rattle.zic_rows.specs.Count.{counted_rest_text, second_of}
 use Rattle.zic_columns.specs.Exchange.{exchanged}
 use Rattle.zic_columns.specs.Own.{CsvRecord}
 use Rattle.zic_files.specs.File.{File}
+use Rattle.zic_plan.specs.Layout.{has_count}
 use Rattle.zic_plan.specs.declared.layout.Layout.{Layout}
 use Rattle.zic_base.specs.declared.row_fault.RowKind.{RowKind}
+use Rattle.zic_base.specs.declared.row_fault.RowKind.TheVariants as kind
 use Rattle.zic_zones.specs.Zones.{is_named, zone_in}
-use Rattle.zic_convert.specs.Rows.{is_row_instant}
+use Rattle.zic_convert.specs.Rows.{is_closed, is_row_instant}
 use Rattle.zic_convert.specs.LayoutRows.{RecordsConvertBy, IsRowAt, IsRowBy, IsTextBy, count_in, ends_by, fault_by, faulty_text, start_text}
 use Rattle.zic_convert.specs.code.Row.{AreRowsOf, RowsOf}
 use Rattle.zic_convert.proofs.Coming.{come_after, come_more}
@@ -50,7 +52,8 @@ module _ (layout : Layout) (files : List File) (most : ℕ) (known : All IsKnown
   have_text number row_record none =
       let zone = zone_in layout.zone row_record.fields in
       let counted = count_in layout row_record.fields in
-      let (named, says) = passed _ _ _ (is_named files zone) (is_some counted) (is_row_instant (option_map (second_of layout.unit) counted)) _ _ _ _ _ _ none in
+      let (named, says) = passed (nat_le number most) (is_closed row_record.fields) (has_count layout.count (length row_record.fields)) (is_named files zone) (is_some counted) (is_row_instant (option_map (second_of layout.unit) counted))
+      kind.TooManyRows kind.RowQuote kind.RowFields kind.RowZone kind.RowInstant kind.RowRange none in
       let (file, among, name) = the_named files zone named in
       let (count, at) = the_some counted says in
       let (state, answers) = All-contains IsKnown files file known among (second_of layout.unit count) in (
@@ -63,7 +66,7 @@ module _ (layout : Layout) (files : List File) (most : ℕ) (known : All IsKnown
   have_row number row_record = by_fault (fault_by layout files most number row_record.fields) refl where
     by_fault : (fault : Option RowKind) → fault_by layout files most number row_record.fields ≡ fault → (text : List ℕ) × IsRowAt layout files fault row_record text
     by_fault None e = have_text number row_record e
-    by_fault (Some kind) e = (faulty_text layout kind row_record, refl)
+    by_fault (Some fault) e = (faulty_text layout fault row_record, refl)
 
   row_first : (number : ℕ) (row_record : CsvRecord) (row_records : List CsvRecord) (fault : Option RowKind) → ends_by layout files most number row_record.fields ≡ fault
       → ((texts : List (List ℕ)) × (last : Option RowKind) × RecordsConvertBy layout files most (number + 1) row_records texts last)

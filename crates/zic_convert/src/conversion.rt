@@ -33,7 +33,9 @@ use std::io::{Read, Write};
 use std::sync::Wait;
 use std::thread::Threads;
 use zic_base::{FaultLog, RunStop, Unnoted};
-use zic_columns::laws::{column_records_are_read, records_by_are_exchanged, texts_by_are_exchanged};
+use zic_columns::laws::{
+    column_records_are_read, records_by_are_exchanged, texts_by_are_exchanged,
+};
 use zic_columns::{Column, Exchanged, Round, Taken, Unread};
 use zic_counted::Counted;
 use zic_files::Files;

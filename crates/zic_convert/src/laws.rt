@@ -2,8 +2,9 @@
 
 ghost use Rattle.zic_convert.specs.Laws.{ColumnsConvertOnce, PlainColumnsConvertAlike};
 
-use zic_columns::laws::{column_records_are_read, delimited_records_are_one, records_are_one};
-use zic_columns::laws::records_by_are_one;
+use zic_columns::laws::{
+    column_records_are_read, delimited_records_are_one, records_are_one, records_by_are_one,
+};
 use zic_tzif::laws::files_answer_once;
 
 /// States that by the files of a source a column converts to one list of texts, and one fault or

@@ -1,15 +1,17 @@
 use Rattle.std.proofs.Common.{◌<◌, ◌+◌, ◌∙◌, length, rules, arith, refl}
 use Rattle.std.proofs.lemmas.Result.{err_from_is_err_and}
 use Rattle.zic_columns.specs.Round.{unread}
-use Rattle.zic_convert.specs.code.Row.{wholes_of_all}
+use Rattle.zic_convert.specs.code.Row.{taken_rows}
 use Rattle.zic_convert.proofs.Halts.{as_many, no_more}
-use Rattle.zic_convert.proofs.Joining.{some_records}
-use Rattle.zic_convert.proofs.Progress.{no_piece, round_taken}
+use Rattle.zic_convert.proofs.Joining.{taken_some}
+use Rattle.zic_convert.proofs.Progress.{rows_taken}
 use Rattle.zic_convert.proofs.Rounds.{far_at_start, far_on, flush_fails, no_round, round_ends, rounds_done}
+use Rattle.zic_convert.proofs.Staying.{taken_known}
 use Rattle.zic_convert.proofs.conversion.convert_rounds.Goals as goal
 
 pub rounds-init : goal.rounds-init
 rounds-init g c = record {
+  by = c.requires;
   within = search rules;
   failures = refl;
   grown = g.met.Z.Zones.same c.args.zones.now;
@@ -104,7 +106,7 @@ rounds-smaller g c =
     let grows = c.in_ok-taken.ensures.grown in
     let (rows, are, wrote) = rw c.round-round.ensures at c.in_ok-count.ensures.ok in
     let many = as_many layout (g.Z.Zones.known then) plan.max_rows (l.count + 1) rs rows are wrote.0 in
-    let filled = some_records layout.delimiter plan.row_piece pieces (takes.some.0 c.if-branch.true) (omega (arith, c.max_rows.ensures.plan.row_piece.0)) takes.cut in
+    let filled = taken_some layout.delimiter plan.row_piece taken pieces c.in_default.not-End takes.some.0 (omega (arith, c.max_rows.ensures.plan.row_piece.0)) takes.cut in
     omega (arith, wrote.1, many, filled, l.invariant.within)
 
 pub rounds-preserved : goal.rounds-preserved
@@ -130,6 +132,39 @@ rounds-preserved g c =
     let (rows, are, wrote) = ok in
     let within = no_more layout (g.Z.Zones.known then) plan.max_rows l.count rs rows are wrote.0 l.invariant.within in
     record {
+      by = takes.by ∙ l.invariant.by;
+      within = omega (arith, wrote.1, within);
+      failures = wrote.2.1 ∙ l.invariant.failures;
+      grown = g.met.Z.Zones.then c.args.zones.now l.zones then l.invariant.grown grows;
+      far = far_on g.Z.Zones.known g.Z.Zones.settled g.Z.Zones.may_be g.Z.Zones.grown g.Z.Zones.broken g.met.Z.Zones.same g.met.Z.Zones.then g.met.Z.Zones.narrows g.met.Z.Zones.agrees contents
+          c.files_answer_once.ensures layout plan known left l.count held l.writer log now c.args.zones.now l.zones l.invariant.grown l.invariant.far
+          then grows rs next rows_next (λ files may. taken_known layout.delimiter c.byte.ensures.sound (g.Z.Zones.settled then) (g.Z.Zones.known then) files (g.met.Z.Zones.agrees then files may) layout.zone taken pieces c.in_ok-taken.ensures.settled) c.convert_ready.new.writer (g.L.FaultLog.noted c.convert_ready.new.log) c.in_ok-count.field-0 ok;
+    }
+
+pub rounds-preserved-in_ok-count : goal.rounds-preserved-in_ok-count
+rounds-preserved-in_ok-count g c =
+    let l = c.rounds in
+    let layout = c.args.conversion.now.layout.now in
+    let plan = c.args.conversion.now.plan.now in
+    let contents = g.W.Write.contents in
+    let known = unread g.R.Read.remaining c.args.column.now in
+    let left = unread g.R.Read.remaining l.column in
+    let held = contents c.args.writer.now.inner in
+    let log = g.L.FaultLog.noted c.args.log.now in
+    let now = g.L.FaultLog.noted l.log in
+    let pieces = c.next_round.new.column.round in
+    let next = unread g.R.Read.remaining c.next_round.new.column in
+    let then = c.next_round.new.zones in
+    let takes = c.in_ok-taken.ensures.takes in
+    let taken = c.in_ok-taken.taken in
+    let rs = taken_rows layout.delimiter taken pieces in
+    let rows_next = rows_taken layout l.column.by l.invariant.by left next taken pieces takes.takes in
+    let grows = c.in_ok-taken.ensures.grown in
+    let ok = rw c.round-round.ensures at c.in_ok-count.ensures.ok in
+    let (rows, are, wrote) = ok in
+    let within = no_more layout (g.Z.Zones.known then) plan.max_rows l.count rs rows are wrote.0 l.invariant.within in
+    record {
+      by = takes.by ∙ l.invariant.by;
       within = omega (arith, wrote.1, within);
       failures = wrote.2.1 ∙ l.invariant.failures;
       grown = g.met.Z.Zones.then c.args.zones.now l.zones then l.invariant.grown grows;
@@ -184,8 +219,8 @@ returns-clause-all g c =
     let rs = taken_rows layout.delimiter taken pieces in
     let rows_next = rows_taken layout l.column.by l.invariant.by left next taken pieces takes.takes in
     let grows = c.in_ok-taken.ensures.grown in
-    let none : 0 < length pieces → ⊥ = λ filled. (let yes = rw c.if-branch.false at (takes.some.1 filled) in cc yes) in
-    let nothing = no_piece layout.delimiter left next pieces none (round_taken layout.delimiter left next pieces takes.takes) in
+    let nothing = rw c.in-End.is at rows_next in
+    let end = rw l.invariant.by at (takes.end c.in-End.is) in
     rounds_done g.Z.Zones.known g.Z.Zones.settled g.Z.Zones.may_be g.Z.Zones.grown g.Z.Zones.broken g.met.Z.Zones.same g.met.Z.Zones.then g.met.Z.Zones.narrows g.met.Z.Zones.agrees contents
     c.files_answer_once.ensures layout plan known left l.count held l.writer log now c.args.zones.now l.zones l.invariant.grown l.invariant.far
-    then grows pieces next takes.takes nothing (takes.end c.if-branch.false) c.flush.new.writer c.in_ok-flush.ensures.ok
+    then grows rs next rows_next nothing end c.flush.new.writer c.in_ok-flush.ensures.ok

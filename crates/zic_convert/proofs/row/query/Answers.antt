@@ -5,20 +5,20 @@ use Rattle.zic_convert.proofs.row.query.Goals as goal
 
 pub returns-in_default : goal.returns-in_default
 returns-in_default c =
-    let closed = closed_counted _ (λ none. c.if-count-eq0.false (c.requires.split.count ∙ none)) in
+    let closed = closed_counted _ (λ none. c.if-given-eq0.false (c.requires.split.count ∙ none)) in
     let admits = sym (rw c.requires.split.count at c.if-not-admits.ensures) in
     zone_missing c.args.piece.now c.args.number c.args.given.now c.if-piece-number.false closed admits (sym c.requires.lookup.file ∙ c.in_default.is)
 
 pub returns-in_default-count : goal.returns-in_default-count
 returns-in_default-count c =
-    let closed = closed_counted _ (λ none. c.if-count-eq0.false (c.requires.split.count ∙ none)) in
+    let closed = closed_counted _ (λ none. c.if-given-eq0.false (c.requires.split.count ∙ none)) in
     let admits = sym (rw c.requires.split.count at c.if-not-admits.ensures) in
     count_missing c.args.piece.now c.args.number c.args.given.now c.if-piece-number.false closed admits c.in-Some.file (sym c.requires.lookup.file ∙ c.in-Some.is)
     (sym c.requires.lookup.count ∙ c.in_default-count.is)
 
 pub returns-then-not-is_in_range : goal.returns-then-not-is_in_range
 returns-then-not-is_in_range c =
-    let closed = closed_counted _ (λ none. c.if-count-eq0.false (c.requires.split.count ∙ none)) in
+    let closed = closed_counted _ (λ none. c.if-given-eq0.false (c.requires.split.count ∙ none)) in
     let admits = sym (rw c.requires.split.count at c.if-not-admits.ensures) in
     let row_record : FitsSigned w128 c.in-Some-count.count = search rules in
     out_of_range c.args.piece.now c.args.number c.args.given.now c.if-piece-number.false closed admits c.in-Some.file (sym c.requires.lookup.file ∙ c.in-Some.is)
@@ -29,7 +29,7 @@ returns c =
     let piece = c.args.piece.now in
     let given = c.args.given.now in
     let count = c.in-Some-count.count in
-    let closed = closed_counted _ (λ none. c.if-count-eq0.false (c.requires.split.count ∙ none)) in
+    let closed = closed_counted _ (λ none. c.if-given-eq0.false (c.requires.split.count ∙ none)) in
     let admits = sym (rw c.requires.split.count at c.if-not-admits.ensures) in
     let row_record : FitsSigned w128 count = search rules in
     let file_is = sym c.requires.lookup.file ∙ c.in-Some.is in
@@ -43,5 +43,5 @@ returns c =
       state = state may;
     })
 
-pub returns-then-count-eq0 : goal.returns-then-count-eq0
-returns-then-count-eq0 c = no_field c.args.piece.now c.args.number c.args.given.now c.if-piece-number.false (open_counted _ (sym c.requires.split.count ∙ c.if-count-eq0.true))
+pub returns-then-given-eq0 : goal.returns-then-given-eq0
+returns-then-given-eq0 c = no_field c.args.piece.now c.args.number c.args.given.now c.if-piece-number.false (open_counted _ (sym c.requires.split.count ∙ c.if-given-eq0.true))

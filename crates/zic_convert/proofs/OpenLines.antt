@@ -1,6 +1,7 @@
 -- The rows of open lines.
-use Rattle.std.proofs.Common.{◌≡◌, ◌+◌, ◌<◌, ◌≤◌, ◌∙◌, ℕ, zero, suc, List, [], ◌∷◌, ◌++◌, length, take, Option, Some, None, refl, sym, ap, subst, arith}
-use Rattle.std.specs.Prelude.{IsSome}
+use Rattle.std.proofs.Common.{◌≡◌, ◌+◌, ◌<◌, ◌≤◌, ◌∙◌, ℕ, zero, suc, List, [], ◌∷◌, ◌++◌, Option, Some, None, inl, inr, refl, sym, ap, subst, arith}
+use Rattle.std.specs.Prelude.{nat_le}
+use Rattle.std.proofs.lemmas.Bool.{cases_Bool}
 use Rattle.zic_columns.specs.Lines.{open_record}
 use Rattle.zic_columns.specs.Own.{CsvRecord}
 use Rattle.zic_counted.specs.Counts.{Counts}
@@ -8,13 +9,14 @@ use Rattle.zic_files.specs.File.{File}
 use Rattle.zic_plan.specs.declared.layout.Layout.{Layout}
 use Rattle.zic_base.specs.declared.row_fault.RowFault.{RowFault}
 use Rattle.zic_base.specs.declared.row_fault.RowKind.{RowKind}
+use Rattle.zic_base.specs.declared.row_fault.RowKind.TheVariants as kinds
 use Rattle.zic_base.specs.declared.run_stop.RunStop.{RunStop}
 use Rattle.zic_base.specs.declared.run_stop.RunStop.TheVariants as stop
 use Rattle.zic_convert.specs.LayoutRows.{ending, fault_by, faulty_text}
 use Rattle.zic_convert.specs.code.Pieces.{joined}
 use Rattle.zic_convert.specs.code.Row.{AreNext, AreRowsOf, RowsOf, empty_rows, put_back}
 use Rattle.zic_convert.specs.code.Written.{EndsInPieces, EndsInRows}
-use Rattle.zic_convert.proofs.Coming.{no_rows, rows_followed}
+use Rattle.zic_convert.proofs.Coming.{no_rows, rows_followed, too_many_ends}
 use Rattle.zic_convert.proofs.MoreRows.{end_added, row_added}
 use Rattle.zic_convert.proofs.NextRows.{next_end, next_faulty}
 
@@ -45,6 +47,10 @@ module _ (layout : Layout) (files : List File) (most number : ℕ) (given : CsvR
       made : ℕ → RowsOf
       made n = record { text = faulty_text layout kind given; count = 1; fault = None; faults = record { row = n; kind = kind } ∷ [] }
 
+-- one row
+abbrev pub made_of : List ℕ → Option RowKind → List RowFault → RowsOf
+made_of text fault faults = record { text = text; count = 1; fault = fault; faults = faults }
+
 -- rows alone are those of one piece
 pub alone : (layout : Layout) (files : List File) (most number : ℕ) (given : CsvRecord) (rows : RowsOf) → AreRowsOf layout files most number (given ∷ []) rows
     → AreRowsOf layout files most number (given ∷ []) (joined (rows ∷ []))
@@ -64,7 +70,16 @@ alone_ends contents old new log log' layout files most number given rows are sto
   fails = fails;
   noted = noted;
 }
-alone_ends contents old new log log' layout files most number given rows are stop.WriteFailed (suc i, fails, noted) = record {
+alone_ends contents old new log log' layout files most number given rows are stop.WriteFailed (suc zero, fails, noted) = record {
+  done = given ∷ [];
+  more = [];
+  parts = refl;
+  front = joined (rows ∷ []);
+  are = alone layout files most number given rows are;
+  fails = fails;
+  noted = noted;
+}
+alone_ends contents old new log log' layout files most number given rows are stop.WriteFailed (suc (suc i), fails, noted) = record {
   done = given ∷ [];
   more = [];
   parts = refl;
@@ -78,3 +93,23 @@ alone_ends contents old new log log' layout files most number given rows are sto
 alone_ends contents old new log log' layout files most number given rows are stop.ColumnTooLong h = absurd h
 alone_ends contents old new log log' layout files most number given rows are stop.Memory h = absurd h
 alone_ends contents old new log log' layout files most number given rows are stop.NoThread h = absurd h
+
+-- the text of an open line that doesn't end the run is its own bytes
+pub open_text : (layout : Layout) (files : List File) (most number : ℕ) (kind : RowKind) (given : CsvRecord) → fault_by layout files most number [] ≡ Some kind → ending layout.at_fault (Some kind) ≡ None
+    → faulty_text layout kind given ≡ given.own ++ 10 ∷ []
+open_text layout files most number kind given is goes =
+    elim (cases_Bool (nat_le number most)) [
+      | inl below ↦
+          let e : Some kinds.RowQuote ≡ Some kind = rw below at is in
+          let same : kinds.RowQuote ≡ kind = cc e in
+          subst (λ (k : RowKind). faulty_text layout k given ≡ given.own ++ 10 ∷ []) same refl
+      | inr beyond ↦
+          let e : Some kinds.TooManyRows ≡ Some kind = rw beyond at is in
+          let same : kinds.TooManyRows ≡ kind = cc e in
+          let none : ending layout.at_fault (Some kinds.TooManyRows) ≡ None = subst (λ (k : RowKind). ending layout.at_fault (Some k) ≡ None) (sym same) goes in
+          absurd (let ends = too_many_ends layout.at_fault in cc (ends, none))
+    ]
+
+pub same_rows : (text other : List ℕ) (fault : Option RowKind) (faults others : List RowFault) → text ≡ other → fault ≡ None → faults ≡ others
+    → made_of text fault faults ≡ made_of other None others
+same_rows text other fault faults others a b c = rw (a, b, c) refl
