@@ -85,8 +85,7 @@ def told(faults):
     if not faults:
         return 0, ""
     number, kind = faults[0].strip().split(",")
-    rows = "1 row" if len(faults) == 1 else f"{len(faults)} rows"
-    return 1, f"row {number}: {kind}\n{rows} with faults\n"
+    return 1, f"row {number}: {kind}\n{len(faults)} rows with faults\n"
 
 
 def converted(words, text, burst):
