@@ -48,8 +48,13 @@ _pzic() {
     --from)
         if [ "${COMP_WORDS[1]}" = convert ]; then
             # shellcheck disable=SC2207
-            COMPREPLY=($(compgen -W 'count rfc3339' -- "$current"))
+            COMPREPLY=($(compgen -W 'count rfc3339 local' -- "$current"))
         fi
+        return
+        ;;
+    --ambiguous)
+        # shellcheck disable=SC2207
+        COMPREPLY=($(compgen -W 'reject earlier later compatible' -- "$current"))
         return
         ;;
     --tree)

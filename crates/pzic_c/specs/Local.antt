@@ -4,8 +4,8 @@ use Rattle.std.specs.List.{AllZip}
 use Rattle.zic_tzif.specs.Content.{Content}
 use Rattle.zic_local.specs.Choice.{Means, IsUnresolved}
 use Rattle.zic_local.specs.LocalTime.{IsInRange, Tells}
-use Rattle.zic_local.specs.declared.disambiguation.Disambiguation.{Disambiguation}
-use Rattle.zic_local.specs.declared.disambiguation.Disambiguation.TheVariants as choice
+use Rattle.zic_plan.specs.declared.disambiguation.Disambiguation.{Disambiguation}
+use Rattle.zic_plan.specs.declared.disambiguation.Disambiguation.TheVariants as choice
 use Rattle.zic_local.specs.declared.disambiguation.Unresolved.{Unresolved}
 use Rattle.zic_local.specs.declared.disambiguation.Unresolved.TheVariants as unresolved
 use Rattle.zic_local.specs.declared.local_instants.LocalInstants.{LocalInstants}

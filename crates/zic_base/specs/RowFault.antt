@@ -11,6 +11,9 @@ row_kind_number kind.RowZone = 36
 row_kind_number kind.RowInstant = 37
 row_kind_number kind.RowRange = 38
 row_kind_number kind.TooManyRows = 39
+row_kind_number kind.RowLocal = 40
+row_kind_number kind.RowSkipped = 41
+row_kind_number kind.RowRepeated = 42
 row_kind_number kind.RowQuote = 43
 
 -- the word for a kind: its name
@@ -20,4 +23,7 @@ row_kind_word kind.RowZone = codes "RowZone"
 row_kind_word kind.RowInstant = codes "RowInstant"
 row_kind_word kind.RowRange = codes "RowRange"
 row_kind_word kind.TooManyRows = codes "TooManyRows"
+row_kind_word kind.RowLocal = codes "RowLocal"
+row_kind_word kind.RowSkipped = codes "RowSkipped"
+row_kind_word kind.RowRepeated = codes "RowRepeated"
 row_kind_word kind.RowQuote = codes "RowQuote"

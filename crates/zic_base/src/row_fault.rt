@@ -9,12 +9,18 @@ pub enum RowKind {
     RowFields = 35,
     /// No file has the name.
     RowZone = 36,
-    /// The second field is no instant.
+    /// The field of the instant is none.
     RowInstant = 37,
     /// The instant is before 0001-01-02 or after 9999-12-30, UT.
     RowRange = 38,
     /// A record follows the last that there may be.
     TooManyRows = 39,
+    /// The field of the local time is none.
+    RowLocal = 40,
+    /// Clocks pass over the local time.
+    RowSkipped = 41,
+    /// Clocks show the local time more than once.
+    RowRepeated = 42,
     /// The double quotes of a line are open at its end, where each line is a record.
     RowQuote = 43,
 }
@@ -23,7 +29,7 @@ impl RowKind {
     ghost use Rattle.std.specs.Prelude.{◌≢◌, MatchOption};
     ghost use Rattle.zic_base.specs.RowFault.{row_kind_number, row_kind_word};
 
-    /// Returns the number of the kind, 35 to 39 or 43: own choice.
+    /// Returns the number of the kind, 35 to 43: own choice.
     pub fn number(self) -> u8
         ensures { result ≡ row_kind_number self }
     {
@@ -40,6 +46,9 @@ impl RowKind {
             RowKind::RowInstant => "RowInstant",
             RowKind::RowRange => "RowRange",
             RowKind::TooManyRows => "TooManyRows",
+            RowKind::RowLocal => "RowLocal",
+            RowKind::RowSkipped => "RowSkipped",
+            RowKind::RowRepeated => "RowRepeated",
             RowKind::RowQuote => "RowQuote",
         }
     }
@@ -55,6 +64,9 @@ impl RowKind {
             37 => RowKind::RowInstant,
             38 => RowKind::RowRange,
             39 => RowKind::TooManyRows,
+            40 => RowKind::RowLocal,
+            41 => RowKind::RowSkipped,
+            42 => RowKind::RowRepeated,
             43 => RowKind::RowQuote,
             _ => return None,
         })

@@ -15,8 +15,11 @@ const LINK_WORDS: [&str; 3] = ["copy", "hard", "symlink"];
 /// The words for what an instant counts.
 const UNIT_WORDS: [&str; 4] = ["s", "ms", "us", "ns"];
 
-/// The words for how the field of an instant has it.
-const TIME_WORDS: [&str; 2] = ["count", "rfc3339"];
+/// The words for how the field of an instant has it, or of a local time.
+const TIME_WORDS: [&str; 3] = ["count", "rfc3339", "local"];
+
+/// The words for what is taken for local times in gaps and in folds.
+const CHOICE_WORDS: [&str; 4] = ["reject", "earlier", "later", "compatible"];
 
 /// The words for what a record is.
 const RECORD_WORDS: [&str; 2] = ["csv", "lines"];
@@ -52,6 +55,8 @@ enum Form {
     Unit,
     /// An option that is one of `TIME_WORDS`, the first by default.
     Time,
+    /// An option that is one of `CHOICE_WORDS`.
+    Choice,
     /// An option that is one of `RECORD_WORDS`, the first by default.
     Records,
 }
@@ -214,7 +219,7 @@ static CONVERT: [Word; 21] = [
     },
     Word {
         name: "time-field",
-        help: "The field of the instant [default: 2, or 1 with --zone]",
+        help: "The field of the time [default: 2, or 1 with --zone]",
         form: Form::Field,
     },
     Word {
@@ -229,8 +234,13 @@ static CONVERT: [Word; 21] = [
     },
     Word {
         name: "from",
-        help: "Form of instants: count or rfc3339",
+        help: "Form of times: count, rfc3339 or local",
         form: Form::Time,
+    },
+    Word {
+        name: "ambiguous",
+        help: "Of local times: reject, earlier, later or compatible",
+        form: Form::Choice,
     },
     Word {
         name: "records",
@@ -417,6 +427,7 @@ fn option<'a>(argument: Arg<'a>, form: &'a Form) -> Arg<'a> {
         Form::Links => choice(argument.value_name("KIND"), &LINK_WORDS).default_value("copy"),
         Form::Unit => choice(argument.value_name("UNIT"), &UNIT_WORDS).default_value("s"),
         Form::Time => choice(argument.value_name("FORM"), &TIME_WORDS).default_value("count"),
+        Form::Choice => choice(argument.value_name("C"), &CHOICE_WORDS),
         Form::Records => choice(argument.value_name("KIND"), &RECORD_WORDS).default_value("csv"),
         Form::Zone => argument.value_name("NAME"),
         Form::Path => argument.value_name("FILE"),

@@ -5,7 +5,8 @@ use crate::no_request::NoRequest;
 use clap::ArgMatches;
 use std::alloc::Global;
 use zic_plan::{
-    AtFault, Delimiter, FieldCount, Header, Layout, Records, RowStart, TimeFrom, Unit, ZoneFrom,
+    AtFault, Delimiter, Disambiguation, FieldCount, Header, Layout, Records, RowStart, TimeFrom,
+    Unit, ZoneFrom,
 };
 
 /// Returns how a column is read.
@@ -133,12 +134,28 @@ fn unit(alloc: Global, matches: &ArgMatches<'_>) -> Result<Unit, NoRequest> {
     }
 }
 
-/// Returns how the field of the instant has it.
+/// Returns how the field of the instant has it, or of the local time.
 fn time_from(alloc: Global, matches: &ArgMatches<'_>) -> Result<TimeFrom, NoRequest> {
+    let choice = matches.get_str("ambiguous");
     match matches.get_str("from") {
+        Some("local") => Ok(TimeFrom::Local(disambiguation(alloc, choice)?)),
+        _ if choice.is_some() => {
+            Err(usage(alloc, "--ambiguous has no meaning without --from local"))
+        }
         Some("count") => Ok(TimeFrom::Count),
         Some("rfc3339") => Ok(TimeFrom::Rfc3339),
-        _ => Err(usage(alloc, "--from is count or rfc3339")),
+        _ => Err(usage(alloc, "--from is count, rfc3339 or local")),
+    }
+}
+
+/// Returns what is taken for local times in gaps and in folds: neither, where nothing is chosen.
+fn disambiguation(alloc: Global, choice: Option<&str>) -> Result<Disambiguation, NoRequest> {
+    match choice.unwrap_or("reject") {
+        "reject" => Ok(Disambiguation::Reject),
+        "earlier" => Ok(Disambiguation::Earlier),
+        "later" => Ok(Disambiguation::Later),
+        "compatible" => Ok(Disambiguation::Compatible),
+        _ => Err(usage(alloc, "--ambiguous is reject, earlier, later or compatible")),
     }
 }
 

@@ -12,6 +12,7 @@ use Rattle.zic_plan.specs.declared.layout.Header.{Header}
 use Rattle.zic_plan.specs.declared.layout.Layout.{Layout}
 use Rattle.zic_plan.specs.declared.layout.RowStart.{RowStart}
 use Rattle.zic_plan.specs.declared.layout.RowStart.TheVariants as starts
+use Rattle.zic_plan.specs.declared.layout.TimeFrom.{TimeFrom}
 use Rattle.zic_base.specs.declared.row_fault.RowFault.{RowFault}
 use Rattle.zic_base.specs.declared.run_stop.RunStop.{RunStop}
 use Rattle.zic_base.specs.declared.run_stop.RunStop.TheVariants as stop
@@ -64,9 +65,9 @@ module _ (layout : Layout) (files : List File) (most : ℕ) (row_records : List 
   ends_below stop.NoThread w = lines_below stop.NoThread w
 
 -- one of the two lines of a header has no byte
-one_line : (start : RowStart) (header : Header) (d : ℕ) (line own : List ℕ) → (names_of start header line ≡ []) ⊎ (header_of start d own ≡ [])
-one_line starts.Fields header d line own = inr refl
-one_line starts.Record header d line own = inl refl
+one_line : (start : RowStart) (time : TimeFrom) (header : Header) (d : ℕ) (line own : List ℕ) → (names_of start header line ≡ []) ⊎ (header_of start time d own ≡ [])
+one_line starts.Fields time header d line own = inr refl
+one_line starts.Record time header d line own = inl refl
 
 -- ---- below the line of names
 
@@ -104,7 +105,7 @@ module _ (layout : Layout) (files : List File) (most : ℕ) (column : List ℕ) 
 
     lines_after_names : EndsAfterLines layout files most (own_line layout column) row_records why (output mid new log last)
         → EndsAfterLines layout files most (header_text layout column) row_records why (output old new log last)
-    lines_after_names w = elim (one_line layout.start layout.header layout.delimiter _ _) [
+    lines_after_names w = elim (one_line layout.start layout.from layout.header layout.delimiter _ _) [
       | inl none ↦ no_names (names_line layout) (own_line layout column) begun none w
       | inr none ↦ no_own (names_line layout) (own_line layout column) begun none w
     ]

@@ -119,4 +119,4 @@ pub own_line_delimited : (layout : Layout) → TextsByAreExchanged → is_delimi
 own_line_delimited layout own_law is column =
     let d = layout.delimiter in
     let texts = texts_by layout.records (strip_bom (exchanged d column)) in
-    ap (header_of layout.start d) (header_put d layout.header texts ∙ ap (own_header layout.header) (sym (own_law layout.records d column (can_delimit d is))))
+    ap (header_of layout.start layout.from d) (header_put d layout.header texts ∙ ap (own_header layout.header) (sym (own_law layout.records d column (can_delimit d is))))

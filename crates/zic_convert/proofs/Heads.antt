@@ -54,10 +54,10 @@ module _ {W : Type 0} (contents : W → Option (List ℕ)) where
   module _ (old new : Counts W) (layout : Layout) (known : Option (List ℕ)) where
     -- a header was not written whole
     pub halts_before : (own : List ℕ) → IfSome known (λ column. own ≡ own_header layout.header (texts_by layout.records (strip_bom column))) → (why : RunStop)
-        → EndsAtHead contents old new (header_of layout.start layout.delimiter (exchanged layout.delimiter own)) why → HaltsAtHead contents old new layout known (halt.Stop why)
+        → EndsAtHead contents old new (header_of layout.start layout.from layout.delimiter (exchanged layout.delimiter own)) why → HaltsAtHead contents old new layout known (halt.Stop why)
     halts_before own is stop.WriteFailed fails = (
       fails.failed,
-      if_some known _ (λ column e. subst (λ (l : List ℕ). FailsWithin contents old new (header_of layout.start layout.delimiter (exchanged layout.delimiter l))) (for_some known _ column is e) fails),
+      if_some known _ (λ column e. subst (λ (l : List ℕ). FailsWithin contents old new (header_of layout.start layout.from layout.delimiter (exchanged layout.delimiter l))) (for_some known _ column is e) fails),
     )
     halts_before own is stop.Memory same = same
     halts_before own is (stop.Row row kind) ends = absurd ends

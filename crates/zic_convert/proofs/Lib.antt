@@ -31,3 +31,4 @@ pub mod Totals
 pub mod Wholes
 pub mod Writings
 pub mod QuickRows
+pub mod Meant

@@ -1,5 +1,5 @@
 -- That a column converts to one list of texts, and one fault or none.
-use Rattle.std.proofs.Common.{◌≡◌, ◌≢◌, ◌+◌, ℕ, ℤ, List, [], ◌∷◌, ◌++◌, drop, Option, Some, None, refl, sym, ap, ap₂, subst, ◌∙◌}
+use Rattle.std.proofs.Common.{◌≡◌, ◌≢◌, ◌+◌, ℕ, ℤ, List, [], ◌∷◌, ◌++◌, drop, Option, Some, None, Result, Ok, refl, sym, ap, ap₂, subst, ◌∙◌}
 use Rattle.std.specs.Prelude.{Contains, IsSome}
 use Rattle.std.proofs.lemmas.List.Elements.{All-contains}
 use Rattle.std.proofs.lemmas.Option.{same_Some}
@@ -9,7 +9,7 @@ use Rattle.zic_columns.specs.Own.{CsvRecord}
 use Rattle.zic_columns.specs.Laws.{RecordsAreOne, RecordsByAreOne}
 use Rattle.zic_tzif.specs.Answer.{Answers}
 use Rattle.zic_tzif.specs.Laws.{FilesAnswerOnce}
-use Rattle.zic_rows.specs.Count.{counted_rest_text, second_of}
+use Rattle.zic_rows.specs.Count.{second_of}
 use Rattle.zic_rows.specs.Row.{row_text}
 use Rattle.zic_base.proofs.Elements.{get_contained}
 use Rattle.zic_base.proofs.OrderedLists.{one_by_key}
@@ -19,8 +19,11 @@ use Rattle.zic_plan.specs.Layout.{records_before}
 use Rattle.zic_plan.specs.declared.layout.Layout.{Layout}
 use Rattle.zic_base.specs.declared.row_fault.RowKind.{RowKind}
 use Rattle.zic_convert.specs.Laws.{ColumnsConvertOnce}
-use Rattle.zic_convert.specs.LayoutRows.{RecordsConvertBy, IsRowAt, IsTextBy, ends_by, fault_by, start_text}
+use Rattle.zic_convert.specs.LayoutRows.{RecordsConvertBy, IsRowAt, IsTextBy, ends_by, fault_by, instant_by, rest_by, start_text}
 use Rattle.zic_convert.specs.Rows.{RecordsConvertTo, IsTextOf, fault_of}
+
+same_count : (a b : ℤ) → ◌≡◌ {A = Result ℤ RowKind} (Ok a) (Ok b) → a ≡ b
+same_count a b same = cc
 
 module _ (answers : FilesAnswerOnce) (files : List File) (sound : AreSoundFiles files) where
   -- a name is one file's
@@ -47,13 +50,16 @@ module _ (answers : FilesAnswerOnce) (files : List File) (sound : AreSoundFiles 
   one_text_by : (layout : Layout) (row_record : CsvRecord) (t u : List ℕ) → IsTextBy layout files row_record t → IsTextBy layout files row_record u → t ≡ u
   one_text_by layout row_record t u a b =
       let file = one_file a.file b.file a.among b.among (a.named ∙ sym b.named) in
-      let count = same_Some a.count b.count (sym a.says ∙ b.says) in
+      let asked = same_Some a.asked b.asked (sym a.says ∙ b.says) in
+      let by_file = subst (λ (f : File). instant_by layout.from layout.unit f b.asked ≡ Ok b.count) (sym file) b.means in
+      let meant = subst (λ (n : ℤ). instant_by layout.from layout.unit a.file n ≡ Ok b.count) (sym asked) by_file in
+      let count = same_count a.count b.count (sym a.means ∙ meant) in
       let is = All-contains IsSoundFile files a.file sound.each a.among in
       let there = subst (λ (f : File). Answers f.image.content (second_of layout.unit b.count) (Some b.state)) (sym file) b.answers in
       let other = subst (λ (n : ℤ). Answers a.file.image.content (second_of layout.unit n) (Some b.state)) (sym count) there in
       let state = same_Some a.state b.state (answers.only a.file.image.octets a.file.image.content is.read (second_of layout.unit a.count) (Some a.state) (Some b.state) a.answers other) in
-      let start : start_text layout row_record.own a.file.name a.count ≡ start_text layout row_record.own b.file.name b.count = rw (file, count) refl in
-      let rest : counted_rest_text layout.unit a.count a.state ≡ counted_rest_text layout.unit b.count b.state = rw (count, state) refl in
+      let start : start_text layout row_record.own a.file.name a.asked ≡ start_text layout row_record.own b.file.name b.asked = rw (file, asked) refl in
+      let rest : rest_by layout.from layout.unit a.count a.state ≡ rest_by layout.from layout.unit b.count b.state = rw (count, state) refl in
       a.is ∙ ap₂ (λ (x y : List ℕ). x ++ exchanged layout.delimiter y) start rest ∙ sym b.is
 
   -- and so has a row, with this fault or none

@@ -1,5 +1,5 @@
 -- Records of two plain fields, by a layout.
-use Rattle.std.proofs.Common.{◌≡◌, ◌+◌, ◌==◌, ℕ, ℤ, Bool, true, false, List, [], ◌∷◌, ◌++◌, length, Option, Some, None, append_assoc, refl, sym, ap, subst, ◌∙◌, arith, drop}
+use Rattle.std.proofs.Common.{◌≡◌, ◌+◌, ◌==◌, ℕ, ℤ, Bool, true, false, List, [], ◌∷◌, ◌++◌, length, Option, Some, None, Result, Ok, append_assoc, refl, sym, ap, subst, ◌∙◌, arith, drop}
 use Rattle.std.specs.Prelude.{◌↔◌, is_some, nat_le, option_map}
 use Rattle.std.specs.Fmt.{signed_decimal}
 use Rattle.std.proofs.lemmas.Bool.{eqb-true, ne_eqb}
@@ -29,16 +29,20 @@ use Rattle.zic_rows.proofs.Counts.{count_seconds, counted_seconds, second_one}
 use Rattle.zic_rows.specs.Count.{counted_rest_text, counted_row_text, second_of}
 use Rattle.zic_rows.specs.Instant.{instant_of}
 use Rattle.zic_rows.specs.Row.{row_text}
-use Rattle.zic_zones.specs.Zones.{is_named}
+use Rattle.zic_tzif.specs.Answer.{Answers}
+use Rattle.zic_zones.specs.Zones.{is_named, zone_in}
 use Rattle.zic_convert.specs.Column.{AreRowRecords, ConvertsBodyTo, ConvertsBy, ConvertsTo}
 use Rattle.zic_convert.specs.Laws.{PlainColumnsConvertAlike}
 use Rattle.zic_convert.specs.Rows.{RecordsConvertTo, IsTextOf, fault_of, instant_in, is_closed, is_row_instant, name_in}
-use Rattle.zic_convert.specs.LayoutRows.{RecordsConvertBy, IsRowAt, IsTextBy, ends_by, fault_by, start_text}
-use Rattle.zic_convert.specs.code.Row.{comma_start, fields_of_all}
+use Rattle.zic_convert.specs.LayoutRows.{RecordsConvertBy, IsRowAt, IsTextBy, count_in, ends_by, fault_by, file_named, rest_by, start_text, time_by, told_count, told_fault}
+use Rattle.zic_convert.specs.code.Row.{field_start, fields_of_all}
 
 same_seconds : (o : Option ℤ) → option_map (second_of unit.Second) o ≡ o
 same_seconds None = refl
 same_seconds (Some t) = ap (λ (x : ℤ). Some x) (second_one t)
+
+same_instant : (a b : ℤ) → ◌≡◌ {A = Result ℤ RowKind} (Ok a) (Ok b) → a ≡ b
+same_instant a b same = cc
 
 -- checks that all pass
 third_passes : (a b c d e f : Bool) (k l m n o p : RowKind) → first_failed (check a k ∷ check b l ∷ check c m ∷ check d n ∷ check e o ∷ check f p ∷ []) ≡ None → c ≡ true
@@ -54,19 +58,31 @@ two_fields (a ∷ b ∷ []) e = (a, b, refl)
 two_fields (a ∷ b ∷ c ∷ rest) e = absurd (omega (arith, e))
 
 -- the text of a row, in the two parts in which it is written
-pub row_in_parts : (u : Unit) (name : List ℕ) (count : ℤ) (state : Shown) → comma_start starts.Fields [] name count ++ counted_rest_text u count state ≡ counted_row_text u name count state
+pub row_in_parts : (u : Unit) (name : List ℕ) (count : ℤ) (state : Shown) → field_start starts.Fields [] name (signed_decimal count) ++ counted_rest_text u count state ≡ counted_row_text u name count state
 unfolding counted_row_text
 row_in_parts u name count state = append_assoc name (44 ∷ signed_decimal count) (counted_rest_text u count state)
 
 module _ (layout : Layout) (plain : HasPlainRows layout) (files : List File) where
   -- the text of a row that begins with a name and an instant, with commas
   plain_row_text : (own name : List ℕ) (count : ℤ) (state : Shown)
-      → start_text layout own name count ++ exchanged layout.delimiter (counted_rest_text layout.unit count state) ≡ row_text name count state
+      → start_text layout own name count ++ exchanged layout.delimiter (rest_by layout.from layout.unit count state) ≡ row_text name count state
   plain_row_text own name count state =
-      rw (plain.start, plain.delimiter, plain.unit)
+      rw (plain.start, plain.delimiter, plain.from, plain.unit)
       (sym (map-append (exchange 44) (name ++ 44 ∷ signed_decimal count) (counted_rest_text unit.Second count state))
       ∙ ap (exchanged 44) (row_in_parts unit.Second name count state)
       ∙ comma_exchanged (counted_row_text unit.Second name count state) ∙ counted_seconds name count state)
+
+  -- the count of a field is that of an instant
+  plain_count : (file : Option File) (count : Option ℤ) → told_count (time_by layout file count) ≡ count
+  plain_count file None = refl
+  plain_count None (Some count) = refl
+  plain_count (Some file) (Some count) = rw plain.from refl
+
+  -- and a field without one isn't one
+  plain_missing : (file : Option File) (count : Option ℤ) → told_fault (time_by layout file count) ≡ kind.RowInstant
+  plain_missing file None = rw plain.from refl
+  plain_missing None (Some count) = refl
+  plain_missing (Some file) (Some count) = rw plain.from refl
 
   module _ (most : ℕ) where
     -- so does one of other than two fields
@@ -77,7 +93,10 @@ module _ (layout : Layout) (plain : HasPlainRows layout) (files : List File) whe
     pub plain_fault : (number : ℕ) (fields : List (List ℕ)) → fault_by layout files most number fields ≡ fault_of files most number fields
     plain_fault number [] = other_fault number [] (ne_eqb (length {A = List ℕ} []) 2 (λ e. omega (arith, e)))
     plain_fault number (a ∷ []) = other_fault number (a ∷ []) (ne_eqb (length (a ∷ [])) 2 (λ e. omega (arith, e)))
-    plain_fault number (a ∷ b ∷ []) = rw (plain.count, plain.zone, plain.time, plain.from, plain.unit, count_seconds b, same_seconds (instant_of b)) refl
+    plain_fault number (a ∷ b ∷ []) =
+        let file = file_named files (zone_in layout.zone (a ∷ b ∷ [])) in
+        let count = count_in layout (a ∷ b ∷ []) in
+        rw (plain_count file count, plain_missing file count, plain.count, plain.zone, plain.time, plain.from, plain.unit, count_seconds b, same_seconds (instant_of b)) refl
     plain_fault number (a ∷ b ∷ c ∷ rest) = other_fault number (a ∷ b ∷ c ∷ rest) (ne_eqb (length (a ∷ b ∷ c ∷ rest)) 2 (λ e. omega (arith, e)))
 
     -- which ends the run
@@ -93,8 +112,10 @@ module _ (layout : Layout) (plain : HasPlainRows layout) (files : List File) whe
         file = is.file;
         among = is.among;
         named = rw (plain.zone, two) (rw two at is.named);
-        count = is.instant;
+        asked = is.instant;
         says = rw (plain.time, plain.from, plain.unit, two, count_seconds field) says;
+        count = is.instant;
+        means = rw plain.from refl;
         state = is.state;
         answers = rw (plain.unit, second_one is.instant) is.answers;
         is = is.is ∙ sym (plain_row_text own is.file.name is.instant is.state);
@@ -104,15 +125,18 @@ module _ (layout : Layout) (plain : HasPlainRows layout) (files : List File) whe
   text_plainly : (row_record : CsvRecord) (name field text : List ℕ) → row_record.fields ≡ name ∷ field ∷ [] → IsTextBy layout files row_record text → IsTextOf files row_record.fields text
   text_plainly row_record name field text two is =
       let says = rw (plain.time, plain.from, plain.unit, two, count_seconds field) at is.says in
+      let same : is.asked ≡ is.count = same_instant is.asked is.count (rw plain.from at is.means) in
       record {
         file = is.file;
         among = is.among;
         named = rw two (rw (plain.zone, two) at is.named);
-        instant = is.count;
+        instant = is.asked;
         says = rw two says;
         state = is.state;
-        answers = rw (plain.unit, second_one is.count) at is.answers;
-        is = is.is ∙ plain_row_text row_record.own is.file.name is.count is.state;
+        answers = subst (λ (t : ℤ). Answers is.file.image.content t (Some is.state)) (sym same) (rw (plain.unit, second_one is.count) at is.answers);
+        is = is.is
+            ∙ ap (λ (t : ℤ). start_text layout row_record.own is.file.name is.asked ++ exchanged layout.delimiter (rest_by layout.from layout.unit t is.state)) (sym same)
+            ∙ plain_row_text row_record.own is.file.name is.asked is.state;
       }
 
   -- a record without a fault has two fields

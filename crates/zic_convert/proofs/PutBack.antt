@@ -1,7 +1,6 @@
 -- Records in which the delimiter and the comma stand in each other's place have the same rows.
 use Rattle.std.proofs.Common.{◌≡◌, ◌≢◌, ◌<◌, ◌==◌, ℕ, Bool, true, false, not, List, [], ◌∷◌, length, ◌++◌, map, drop, take, ℤ, Some, None, inl, inr, refl, sym, ap, ap₂, subst, ◌∙◌, arith}
 use Rattle.std.proofs.Math.Seq.{drop-append_seam, take-append_seam}
-use Rattle.std.specs.Fmt.{signed_decimal}
 use Rattle.std.specs.Prelude.{All, Contains, bytes_eq, nat_le, slice_get, ◌&&◌, ◌||◌, if◌then◌else◌}
 use Rattle.std.specs.Char.{is_ascii_alphanumeric, is_ascii_digit}
 use Rattle.std.specs.Cmp.Lexicographic.{bytes_decides}
@@ -31,13 +30,13 @@ use Rattle.zic_plan.specs.declared.layout.TimeFrom.TheVariants as from
 use Rattle.zic_plan.specs.declared.layout.Unit.{Unit}
 use Rattle.zic_plan.specs.declared.layout.ZoneFrom.{ZoneFrom}
 use Rattle.zic_plan.specs.declared.layout.ZoneFrom.TheVariants as zone
-use Rattle.zic_rows.specs.Count.{count_of, counted_rest_text, second_of}
+use Rattle.zic_rows.specs.Count.{count_of, second_of}
 use Rattle.zic_base.specs.Number.{decimal_value, number}
-use Rattle.zic_zones.specs.Zones.{AnswersAt, field_at, is_named, zone_in}
-use Rattle.zic_convert.specs.LayoutRows.{IsTextBy, beginning, checks_of, count_in, fault_by, start_text}
+use Rattle.zic_zones.specs.Zones.{AnswersAt, field_at, is_named, number_of, zone_in}
+use Rattle.zic_convert.specs.LayoutRows.{IsTextBy, beginning, checks_of, count_in, fault_by, file_named, rest_by, start_text, time_by}
 use Rattle.zic_convert.specs.Rows.{is_closed}
 use Rattle.zic_convert.specs.code.Batch.{IsRowQuery, count_at, wanted_by}
-use Rattle.zic_convert.specs.code.Row.{comma_start, put_back}
+use Rattle.zic_convert.specs.code.Row.{field_start, put_back}
 use Rattle.zic_convert.specs.declared.piece.Piece.{Piece}
 use Rattle.zic_convert.specs.declared.row.RowQuery.{RowQuery}
 use Rattle.zic_convert.proofs.RowFaults.{found}
@@ -179,6 +178,15 @@ module _ (d : ℕ) (o : IsOutside d) where
     zone_same (zone.Field index) fields = rw (field_same fields index) (any_same files sound.each (field_at fields index))
     zone_same (zone.Name name) fields = refl
 
+    numbers_same : (some : List File) → All IsSoundFile some → (name : List ℕ) → number_of some (exchanged d name) ≡ number_of some name
+    numbers_same [] all name = refl
+    numbers_same (file ∷ others) all name =
+        rw (equal_same file.name name (name_kept file (all 0 file (omega arith))), numbers_same others (All-tail IsSoundFile file others all) name) refl
+
+    number_kept : (from : ZoneFrom) (fields : List (List ℕ)) → number_of files (zone_in from (map (exchanged d) fields)) ≡ number_of files (zone_in from fields)
+    number_kept (zone.Field index) fields = rw (field_same fields index) (numbers_same files sound.each (field_at fields index))
+    number_kept (zone.Name name) fields = refl
+
     zone_named : (from : ZoneFrom) (fields : List (List ℕ)) (file : File) → Contains files file → file.name ≡ zone_in from fields → file.name ≡ zone_in from (map (exchanged d) fields)
     zone_named (zone.Field index) fields file among named =
         sym (name_kept file (All-contains IsSoundFile files file sound.each among)) ∙ ap (exchanged d) named ∙ sym (field_same fields index)
@@ -188,16 +196,16 @@ module _ (d : ℕ) (o : IsOutside d) where
     closed_same [] = refl
     closed_same (field ∷ fields) = refl
 
-    -- a record whose fields are exchanged has the fault that it has with the same count
+    -- a record whose fields are exchanged has the fault that it has with the same count in its field
     pub fault_same : (layout : Layout) (most n : ℕ) (fields : List (List ℕ)) → fault_by layout files most n (map (exchanged d) fields)
-        ≡ first_failed (checks_of layout files most n fields (count_in layout (map (exchanged d) fields)))
-    fault_same layout most n fields = rw (closed_same fields, length-map fields (exchanged d), zone_same layout.zone fields) refl
+        ≡ first_failed (checks_of layout files most n fields (time_by layout (file_named files (zone_in layout.zone fields)) (count_in layout (map (exchanged d) fields))))
+    fault_same layout most n fields = rw (closed_same fields, length-map fields (exchanged d), zone_same layout.zone fields, number_kept layout.zone fields) refl
 
 -- what a row begins with, and its rest, exchanged together
-pub row_put_back : (start : RowStart) (d : ℕ) (own name : List ℕ) (count : ℤ) (rest : List ℕ)
-    → exchanged d (comma_start start own name count ++ rest) ≡ beginning start d (exchanged d own) name count ++ exchanged d rest
-row_put_back starts.Fields d own name count rest = map-append (exchange d) (name ++ 44 ∷ signed_decimal count) rest
-row_put_back starts.Record d own name count rest = map-append (exchange d) own rest
+pub row_put_back : (start : RowStart) (d : ℕ) (own name asked rest : List ℕ)
+    → exchanged d (field_start start own name asked ++ rest) ≡ beginning start d (exchanged d own) name asked ++ exchanged d rest
+row_put_back starts.Fields d own name asked rest = map-append (exchange d) (name ++ 44 ∷ asked) rest
+row_put_back starts.Record d own name asked rest = map-append (exchange d) own rest
 
 -- a row that was appended, and then put back in its place
 pub row_exchanged : (d start : ℕ) (old row all : List ℕ) → start ≡ length old → all ≡ old ++ row → take start all ++ exchanged d (drop start all) ≡ old ++ exchanged d row
@@ -205,16 +213,17 @@ row_exchanged d start old row all at is =
     rw (is, at) (ap₂ (λ (xs ys : List ℕ). xs ++ exchanged d ys) (take-append_seam old row) (drop-append_seam old row))
 
 -- the file of a number is one of all
-among : (files : List File) (i : ℕ) (file : File) → slice_get files i ≡ Some file → Contains files file
+pub among : (files : List File) (i : ℕ) (file : File) → slice_get files i ≡ Some file → Contains files file
 among files i file e = subst (λ (f : File). Contains files f) (get_or_from_slice_get files i file file e) (Contains-get_or files i file (slice_get_within files i file e))
 
 -- the text of a record's row, as it was made
 pub text_made : (piece : Piece) (given : Record) (query : RowQuery) (state : Shown) → is_delimiter piece.layout.now.delimiter ≡ true → AreSoundFiles piece.zones.now
-    → IsRowQuery piece given query → AnswersAt piece.zones.now query.file (second_of piece.layout.now.unit query.count) state
+    → IsRowQuery piece given query → AnswersAt piece.zones.now query.file (second_of piece.layout.now.unit query.counts.count) state
     → let row_record = record_at piece.bytes.now given in
     let layout = piece.layout.now in
     IsTextBy layout piece.zones.now (put_back layout.delimiter row_record)
-    (start_text layout (exchanged layout.delimiter row_record.own) (zone_in layout.zone row_record.fields) query.count ++ exchanged layout.delimiter (counted_rest_text layout.unit query.count state))
+    (start_text layout (exchanged layout.delimiter row_record.own) (zone_in layout.zone row_record.fields) query.counts.asked
+    ++ exchanged layout.delimiter (rest_by layout.from layout.unit query.counts.count state))
 text_made piece given query state delimiter sound is answers =
     let row_record = record_at piece.bytes.now given in
     let layout = piece.layout.now in
@@ -224,11 +233,13 @@ text_made piece given query state delimiter sound is answers =
       file = file;
       among = among piece.zones.now query.file file got;
       named = zone_named d (outside d delimiter) piece.zones.now sound layout.zone row_record.fields file (among piece.zones.now query.file file got) called;
-      count = query.count;
-      says = is.count;
+      asked = query.counts.asked;
+      says = is.counts.asked_is;
+      count = query.counts.count;
+      means = rw (is.file, got, is.counts.asked_is) at is.counts.time;
       state = state;
       answers = rw got at answers;
-      is = ap (λ (n : List ℕ). start_text layout (exchanged d row_record.own) n query.count ++ exchanged d (counted_rest_text layout.unit query.count state)) (sym called);
+      is = ap (λ (n : List ℕ). start_text layout (exchanged d row_record.own) n query.counts.asked ++ exchanged d (rest_by layout.from layout.unit query.counts.count state)) (sym called);
     }
 
 -- the count of a field that has decimals is that of the record, where counts are read

@@ -1,7 +1,8 @@
 -- Rows of records in which all that they show is at hand.
-use Rattle.std.proofs.Common.{◌≡◌, ◌≤◌, ◌<◌, ◌+◌, ◌∙◌, ℕ, ℤ, Bool, true, List, [], ◌∷◌, ◌++◌, Some, None, ap, ap₂, append_assoc, arith, length, length-append, refl, subst, sym, take, drop, get_or}
+use Rattle.std.proofs.Common.{◌≡◌, ◌≤◌, ◌<◌, ◌+◌, ◌∙◌, ℕ, ℤ, Bool, true, List, [], ◌∷◌, ◌++◌, Some, None, Ok, ap, ap₂, append_assoc, arith, length, length-append, refl, subst, sym, take, drop, get_or}
 use Rattle.std.specs.Prelude.{int_le, slice_index_or, slice_range, ◌&&◌}
 use Rattle.std.proofs.lemmas.Int.{ints}
+use Rattle.std.specs.Fmt.{signed_decimal}
 use Rattle.zic_base.specs.Number.{number}
 use Rattle.zic_base.specs.State.{Shown}
 use Rattle.zic_columns.proofs.Spans.{span_both, span_first}
@@ -16,6 +17,7 @@ use Rattle.zic_plan.specs.Delimiter.{is_delimiter}
 use Rattle.zic_plan.specs.Layout.{has_count}
 use Rattle.zic_plan.specs.declared.layout.Unit.{Unit}
 use Rattle.zic_plan.specs.declared.layout.Unit.TheVariants as unit
+use Rattle.zic_plan.specs.declared.layout.TimeFrom.{TimeFrom}
 use Rattle.zic_plan.specs.declared.layout.ZoneFrom.TheVariants as from
 use Rattle.zic_rows.specs.Count.{count_of, counted_rest_text, fraction_of, second_of, timed_rest_text, units_of_second}
 use Rattle.zic_rows.specs.Instant.{IsRowInstant}
@@ -23,15 +25,15 @@ use Rattle.zic_rows.specs.PlainTime.{IsPlainTime}
 use Rattle.zic_rows.specs.declared.limit.TheConstants.{FIRST_INSTANT, LAST_INSTANT}
 use Rattle.zic_rows.specs.declared.row_time.RowTime.{RowTime}
 use Rattle.zic_zones.specs.Zones.{AnswersAt, zone_in}
-use Rattle.zic_convert.specs.LayoutRows.{IsTextBy, start_text}
+use Rattle.zic_convert.specs.LayoutRows.{IsTextBy, asked_text, file_at, rest_by, start_text}
 use Rattle.zic_convert.specs.Rows.{is_closed, is_row_instant}
-use Rattle.zic_convert.specs.code.Batch.{IsQuickRow, IsRowQuery, IsTimeIn, count_at, fault_at, wanted_by}
-use Rattle.zic_convert.specs.code.Row.{comma_start, field_start, put_back}
+use Rattle.zic_convert.specs.code.Batch.{AreCountsOf, IsCountFor, IsQuickRow, IsRowQuery, IsTimeIn, count_at, fault_at, time_at, wanted_by, zone_at}
+use Rattle.zic_convert.specs.code.Row.{field_start, put_back}
 use Rattle.zic_convert.specs.declared.piece.Piece.{Piece}
 use Rattle.zic_convert.specs.declared.quick.QuickRow.{QuickRow}
 use Rattle.zic_convert.specs.declared.row.RowQuery.{RowQuery}
 use Rattle.zic_convert.proofs.PutBack.{count_read, row_exchanged, row_put_back, text_made}
-use Rattle.zic_convert.proofs.RowFaults.{no_fault}
+use Rattle.zic_convert.proofs.RowFaults.{found, no_fault}
 
 -- two parts with a comma between them
 pub joined : (bytes : List ℕ) (a m b : ℕ) → a ≤ m → m + 1 ≤ b → b ≤ length bytes → get_or bytes m 0 ≡ 44
@@ -107,12 +109,17 @@ module _ (piece : Piece) (given : Record) (row : QuickRow) (split : IsSplit piec
   count_is : is_delimiter piece.layout.now.delimiter ≡ true → count_at piece given ≡ Some read.count
   count_is delimiter = sym (count_read piece given delimiter is.from split) ∙ read.says
 
+  time_is : is_delimiter piece.layout.now.delimiter ≡ true → time_at piece given ≡ Ok read.count
+  time_is delimiter =
+      let (file, got, called, known) = found piece.zones.now (zone_in piece.layout.now.zone (record_at piece.bytes.now given).fields) row.file is.file in
+      rw (is.file, got, count_is delimiter, is.from) refl
+
   -- the row has no fault
   pub faultless : (number : ℕ) → number ≤ piece.most → is_delimiter piece.layout.now.delimiter ≡ true → fault_at piece number given ≡ None
   faultless number le delimiter =
       let admits = subst (λ (n : ℕ). has_count piece.layout.now.count n ≡ true) split.count is.admitted in
       let closed = told_closed piece.layout.now.unit (record_at piece.bytes.now given).fields piece.layout.now.time read.count (ap (count_of piece.layout.now.unit) (sym split.time) ∙ read.says) in
-      no_fault piece number given le closed admits row.file is.file read.count (count_is delimiter) (may_row (second_of piece.layout.now.unit read.count) read.may)
+      no_fault piece number given le closed admits row.file is.file read.count (time_is delimiter) (may_row (second_of piece.layout.now.unit read.count) read.may)
 
   -- its text, as it is made
   pub quick_text_made : (old begun_text all : List ℕ) (start : ℕ) → start ≡ length old → is_delimiter piece.layout.now.delimiter ≡ true → AreSoundFiles piece.zones.now
@@ -126,16 +133,24 @@ module _ (piece : Piece) (given : Record) (row : QuickRow) (split : IsSplit piec
       let d = layout.delimiter in
       let own = bytes_at piece.bytes.now given.own in
       let name = zone_in layout.zone (record_at piece.bytes.now given).fields in
-      let query : RowQuery = record { file = row.file; count = read.count } in
-      let asked : IsRowQuery piece given query = record { file = is.file; count = count_is delimiter; may = read.may } in
-      let rest = counted_rest_text layout.unit read.count row.text.now in
+      let query : RowQuery = record { file = row.file; counts = record { asked = read.count; count = read.count } } in
+      let counts : AreCountsOf layout (file_at piece.zones.now (zone_at piece given)) (count_at piece given) query.counts = record {
+        asked_is = count_is delimiter;
+        sound = subst (λ (time : TimeFrom). IsCountFor time layout.unit read.count) (sym is.from) tt;
+        time = time_is delimiter;
+      } in
+      let asked : IsRowQuery piece given query = record { file = is.file; counts = counts; may = read.may } in
+      let digits = asked_text layout.from layout.unit read.count in
+      let digits_are : signed_decimal read.count ≡ digits = rw is.from refl in
+      let rest = rest_by layout.from layout.unit read.count row.text.now in
+      let rest_is : counted_rest_text layout.unit read.count row.text.now ≡ rest = rw is.from refl in
       let answers = subst (λ (t : ℤ). AnswersAt piece.zones.now row.file t row.text.now) read.second is.answers in
-      let row_record : all ≡ old ++ (comma_start layout.start own name read.count ++ rest) =
-      made ∙ ap (λ (l : List ℕ). begun_text ++ l) (rest_same layout.unit (field_text piece.bytes.now given.time) row.time read row.text.now)
-      ∙ ap (λ (l : List ℕ). l ++ rest) (begun ∙ ap (λ (l : List ℕ). old ++ field_start layout.start own name l) read.plain)
-      ∙ append_assoc old (comma_start layout.start own name read.count) rest in (
+      let row_record : all ≡ old ++ (field_start layout.start own name digits ++ rest) =
+      made ∙ ap (λ (l : List ℕ). begun_text ++ l) (rest_same layout.unit (field_text piece.bytes.now given.time) row.time read row.text.now ∙ rest_is)
+      ∙ ap (λ (l : List ℕ). l ++ rest) (begun ∙ ap (λ (l : List ℕ). old ++ field_start layout.start own name l) (read.plain ∙ digits_are))
+      ∙ append_assoc old (field_start layout.start own name digits) rest in (
         start_text layout (exchanged d own) name read.count ++ exchanged d rest,
-        row_exchanged d start old (comma_start layout.start own name read.count ++ rest) all at row_record
-            ∙ ap (λ (l : List ℕ). old ++ l) (row_put_back layout.start d own name read.count rest),
+        row_exchanged d start old (field_start layout.start own name digits ++ rest) all at row_record
+            ∙ ap (λ (l : List ℕ). old ++ l) (row_put_back layout.start d own name digits rest),
         text_made piece given query row.text.now delimiter sound asked answers,
       )

@@ -1,6 +1,6 @@
 -- A column that is converted round by round, by zones that are made ready before each round.
-use Rattle.std.proofs.Common.{◌≡◌, ◌+◌, ◌++◌, ℕ, true, List, [], map, Option, Some, inl, inr, refl, subst, length-append, arith}
-use Rattle.std.specs.Prelude.{All, Contains, IfSome}
+use Rattle.std.proofs.Common.{◌≡◌, ◌≢◌, ◌+◌, ◌++◌, ℕ, true, List, [], map, Option, Some, inl, inr, refl, subst, length-append, arith}
+use Rattle.std.specs.Prelude.{All, AllPairs, Contains, IfSome}
 use Rattle.std.proofs.lemmas.List.{get_or_append_left}
 use Rattle.zic_columns.specs.Own.{CsvRecord}
 use Rattle.zic_columns.specs.Round.{HasNoRecord}
@@ -84,9 +84,9 @@ all_front P xs ys all = λ k d lt. subst P (get_or_append_left xs ys d k lt) (al
 -- ---- a round by the files that are known, and by all that may be
 
 module _ (layout : Layout) (most : ℕ) (rs : List CsvRecord) (first : ℕ) (known files : List File) (still : (file : File) → Contains known file → Contains files file)
-    (only : All (IsKnownZone layout.zone known files) rs) {W : Type 0} (contents : W → Option (List ℕ)) (held now : Counts W) (log log' : Option (List RowFault)) where
+    (differ : AllPairs (λ (file other : File). file.name ≢ other.name) files) (only : All (IsKnownZone layout.zone known files) rs) {W : Type 0} (contents : W → Option (List ℕ)) (held now : Counts W) (log log' : Option (List RowFault)) where
   written_alike : (count : ℕ) → WritesRecords layout known most first rs contents held now log log' count → WritesRecords layout files most first rs contents held now log log' count
-  written_alike count (rows, are, wrote) = (rows, rows_same known files still layout most first rs rows only are, wrote)
+  written_alike count (rows, are, wrote) = (rows, rows_same known files still differ layout most first rs rows only are, wrote)
 
   rows_end_alike : (rows : RowsOf) (why : RunStop) → EndsInRows contents held now log log' layout known most first rs rows why
       → EndsInRows contents held now log log' layout files most first rs rows why
@@ -96,7 +96,7 @@ module _ (layout : Layout) (most : ℕ) (rs : List CsvRecord) (first : ℕ) (kno
     more = h.more;
     parts = h.parts;
     front = h.front;
-    are = rows_same known files still layout most first h.done h.front (all_front (IsKnownZone layout.zone known files) h.done h.more (rw h.parts at only)) h.are;
+    are = rows_same known files still differ layout most first h.done h.front (all_front (IsKnownZone layout.zone known files) h.done h.more (rw h.parts at only)) h.are;
     fails = h.fails;
     noted = h.noted;
   }
@@ -108,7 +108,7 @@ module _ (layout : Layout) (most : ℕ) (rs : List CsvRecord) (first : ℕ) (kno
 
   ends_alike : (why : RunStop) → EndsInRecords layout known most first rs contents held now log log' why → EndsInRecords layout files most first rs contents held now log log' why
   ends_alike why (inl memory) = inl memory
-  ends_alike why (inr (rows, are, ends)) = inr (rows, rows_same known files still layout most first rs rows only are, rows_end_alike rows why ends)
+  ends_alike why (inr (rows, are, ends)) = inr (rows, rows_same known files still differ layout most first rs rows only are, rows_end_alike rows why ends)
 
 -- ---- by zones
 
@@ -168,7 +168,7 @@ module _ {Z : Type 0} (known_of : Z → List File) (settled : Z → List ℕ →
           → IsFarBy layout plan.max_rows known next (n + count) held (contents new.inner) log last files
       far_on count writes files may =
           far_after_round contents once layout plan known left n held mid log now files (agrees then files may).sound (far files (narrows zones then files grows may)) rs next takes new last count
-          (written_alike layout plan.max_rows rs (n + 1) (known_of then) files (agrees then files may).still (only files may) contents mid new now last count writes)
+          (written_alike layout plan.max_rows rs (n + 1) (known_of then) files (agrees then files may).still (agrees then files may).sound.names_differ (only files may) contents mid new now last count writes)
 
       -- or the conversion ended in them
       pub round_ends : (why : RunStop) → EndsInRecords layout (known_of then) plan.max_rows (n + 1) rs contents mid new now last why
@@ -179,7 +179,7 @@ module _ {Z : Type 0} (known_of : Z → List File) (settled : Z → List ℕ →
         ends = inl refl;
         by = λ files may.
             ends_in_round contents once layout plan known left n held mid log now files (agrees then files may).sound (far files (narrows zones then files grows may)) rs next takes new last why
-            (ends_alike layout plan.max_rows rs (n + 1) (known_of then) files (agrees then files may).still (only files may) contents mid new now last why ends);
+            (ends_alike layout plan.max_rows rs (n + 1) (known_of then) files (agrees then files may).still (agrees then files may).sound.names_differ (only files may) contents mid new now last why ends);
       }
 
 -- what follows where a conversion ends by zones

@@ -1,5 +1,5 @@
 -- The fault of a record's row, by what the record asks for.
-use Rattle.std.proofs.Common.{◌≡◌, ◌≤◌, ◌∙◌, ℕ, ℤ, Bool, true, false, List, ◌∷◌, ◌++◌, [], Option, Some, None, ap, append_assoc, arith, le-leb, refl, subst, suc, sym}
+use Rattle.std.proofs.Common.{◌≡◌, ◌≤◌, ◌∙◌, ℕ, ℤ, Bool, true, false, List, ◌∷◌, ◌++◌, [], Option, Some, None, Result, Ok, Err, ap, append_assoc, arith, le-leb, refl, subst, suc, sym}
 use Rattle.std.specs.Prelude.{bytes_eq, int_le, length, option_map, slice_get, IfSome, if◌then◌else◌}
 use Rattle.std.specs.Cmp.Lexicographic.{bytes_decides}
 use Rattle.std.proofs.lemmas.Bool.{and_parts}
@@ -8,13 +8,14 @@ use Rattle.zic_columns.specs.Record.{record_at}
 use Rattle.zic_columns.specs.declared.fields.Record.{Record}
 use Rattle.zic_files.specs.File.{File}
 use Rattle.zic_plan.specs.Layout.{has_count}
+use Rattle.zic_base.specs.declared.row_fault.RowKind.{RowKind}
 use Rattle.zic_base.specs.declared.row_fault.RowKind.TheVariants as kind
 use Rattle.zic_rows.specs.Count.{second_of}
 use Rattle.zic_rows.specs.Instant.{IsRowInstant}
 use Rattle.zic_rows.specs.declared.limit.TheConstants.{FIRST_INSTANT, LAST_INSTANT}
 use Rattle.zic_zones.specs.Zones.{is_named, number_of, zone_in}
 use Rattle.zic_convert.specs.Rows.{is_closed, is_row_instant}
-use Rattle.zic_convert.specs.code.Batch.{count_at, fault_at, zone_at}
+use Rattle.zic_convert.specs.code.Batch.{fault_at, time_at, zone_at}
 use Rattle.zic_convert.specs.declared.piece.Piece.{Piece}
 
 none_before : (o : Option ℕ) → option_map (λ n. suc n) o ≡ None → o ≡ None
@@ -73,13 +74,13 @@ module _ (piece : Piece) (number : ℕ) (given : Record) (le : number ≤ piece.
     zone_missing none = rw (le-leb number piece.most le, closed, admits, unnamed piece.zones.now (zone_in piece.layout.now.zone (record_at piece.bytes.now given).fields) none) refl
 
     module _ (n : ℕ) (zone : zone_at piece given ≡ Some n) where
-      -- its instant is no count
-      pub count_missing : count_at piece given ≡ None → fault_at piece number given ≡ Some kind.RowInstant
-      count_missing none =
+      -- it has no instant
+      pub time_missing : (fault : RowKind) → time_at piece given ≡ Err fault → fault_at piece number given ≡ Some fault
+      time_missing fault none =
           rw (le-leb number piece.most le, closed, admits, named piece.zones.now (zone_in piece.layout.now.zone (record_at piece.bytes.now given).fields) n zone, none) refl
 
-      module _ (c : ℤ) (count : count_at piece given ≡ Some c) where
-        -- its count is out of range
+      module _ (c : ℤ) (count : time_at piece given ≡ Ok c) where
+        -- its instant is out of range
         pub out_of_range : is_row_instant (Some (second_of piece.layout.now.unit c)) ≡ false
             → fault_at piece number given ≡ Some kind.RowRange
         out_of_range out =
@@ -98,10 +99,17 @@ row_may t is =
     (grind (arith, ints, from), grind (arith, ints, to))
 
 -- what a row begins with, as it is appended
-pub start_pushed : (old name digits a b c : List ℕ) → a ≡ old ++ name → b ≡ a ++ 44 ∷ [] → c ≡ b ++ digits → c ≡ old ++ (name ++ 44 ∷ digits)
-start_pushed old name digits a b c is_a is_b is_c =
-    is_c ∙ ap (λ (l : List ℕ). l ++ digits) (is_b ∙ ap (λ (l : List ℕ). l ++ 44 ∷ []) is_a)
-    ∙ append_assoc (old ++ name) (44 ∷ []) digits ∙ append_assoc old name (44 ∷ digits)
+pub start_pushed : (old name asked a b : List ℕ) → a ≡ old ++ name → b ≡ a ++ 44 ∷ asked → b ≡ old ++ (name ++ 44 ∷ asked)
+start_pushed old name asked a b is_a is_b = is_b ∙ ap (λ (l : List ℕ). l ++ 44 ∷ asked) is_a ∙ append_assoc old name (44 ∷ asked)
+
+-- a comma and decimals
+pub digits_pushed : (old digits a b : List ℕ) → a ≡ old ++ 44 ∷ [] → b ≡ a ++ digits → b ≡ old ++ 44 ∷ digits
+digits_pushed old digits a b is_a is_b = is_b ∙ ap (λ (l : List ℕ). l ++ digits) is_a ∙ append_assoc old (44 ∷ []) digits
+
+-- and the text of a state after them
+pub rest_pushed : (old digits text a b c : List ℕ) → a ≡ old ++ 44 ∷ [] → b ≡ a ++ digits → c ≡ b ++ text → c ≡ old ++ 44 ∷ (digits ++ text)
+rest_pushed old digits text a b c is_a is_b is_c =
+    is_c ∙ ap (λ (l : List ℕ). l ++ text) (digits_pushed old digits a b is_a is_b) ∙ append_assoc old (44 ∷ digits) text
 
 -- a record with fields is closed
 pub closed_counted : (fields : List (List ℕ)) → (length fields ≡ 0 → ⊥) → is_closed fields ≡ true

@@ -1,9 +1,11 @@
 -- Rows by the files that are known, and by other files that may be.
-use Rattle.std.proofs.Common.{◌≡◌, ◌∙◌, ◌+◌, ℕ, Bool, true, false, List, [], ◌∷◌, ◌++◌, map, Option, Some, None, ap, refl, sym, subst, arith}
-use Rattle.std.specs.Prelude.{All, Contains, bytes_eq, is_some, nat_le, option_map, length, if◌then◌else◌}
+use Rattle.std.proofs.Common.{◌≡◌, ◌≢◌, ◌∙◌, ◌+◌, ℕ, ℤ, Bool, true, false, List, [], ◌∷◌, ◌++◌, map, Option, Some, None, Result, ap, ap₂, refl, sym, subst, arith}
+use Rattle.std.specs.Prelude.{All, AllPairs, Contains, bytes_eq, is_some, nat_le, option_map, length, if◌then◌else◌}
 use Rattle.std.proofs.lemmas.List.Elements.{All-contains, All-cons, All-head, All-tail}
+use Rattle.std.proofs.lemmas.Option.{same_Some}
 use Rattle.std.proofs.lemmas.Slice.Eq.{bytes_eq-Decides}
-use Rattle.zic_base.proofs.Elements.{contained_passes, one_that_passes}
+use Rattle.zic_base.proofs.Elements.{contained_passes, get_contained, one_that_passes}
+use Rattle.zic_base.proofs.OrderedLists.{one_by_key}
 use Rattle.zic_base.specs.Check.{check, first_failed}
 use Rattle.zic_columns.specs.Exchange.{exchanged}
 use Rattle.zic_columns.specs.Lines.{open_record}
@@ -24,11 +26,13 @@ use Rattle.zic_base.specs.declared.row_fault.RowFault.{RowFault}
 use Rattle.zic_base.specs.declared.row_fault.RowKind.{RowKind}
 use Rattle.zic_base.specs.declared.row_fault.RowKind.TheVariants as kind
 use Rattle.zic_rows.specs.Count.{second_of}
-use Rattle.zic_zones.specs.Zones.{Agree, field_at, is_named, zone_in}
+use Rattle.zic_zones.specs.Zones.{Agree, field_at, is_named, number_of, zone_in}
 use Rattle.zic_convert.specs.Rows.{is_closed, is_row_instant}
-use Rattle.zic_convert.specs.LayoutRows.{RecordsConvertBy, IsRowAt, IsTextBy, count_in, ending, ends_by, fault_by, faults_by, noted}
+use Rattle.zic_convert.specs.LayoutRows.{RecordsConvertBy, IsRowAt, IsTextBy, count_in, ending, ends_by, fault_by, faults_by, file_at, file_named, noted, time_by, told_count, told_fault}
 use Rattle.zic_convert.specs.code.Row.{AreRowsOf, RowsOf, fields_of_all, put_back, taken_rows, wholes_of_all}
 use Rattle.zic_convert.proofs.Delimited.{field_same, name_as_put, outside}
+use Rattle.zic_convert.proofs.PutBack.{among}
+use Rattle.zic_convert.proofs.RowFaults.{found, named, unnamed}
 use Rattle.zic_convert.proofs.Wholes.{all_put}
 
 both_or_none : (a b : Bool) → (a ≡ true → b ≡ true) → (b ≡ true → a ≡ true) → a ≡ b
@@ -52,11 +56,34 @@ one_named files name e =
     let (file, has, passes) = one_that_passes (λ (f : File). bytes_eq f.name name) files e in
     (file, has, (bytes_eq-Decides file.name name).0 passes)
 
-module _ (known files : List File) (still : (file : File) → Contains known file → Contains files file) where
+module _ (known files : List File) (still : (file : File) → Contains known file → Contains files file) (differ : AllPairs (λ (file other : File). file.name ≢ other.name) files) where
   pub named_same : (name : List ℕ) → IsKnownName known files name → is_named known name ≡ is_named files name
   named_same name only = both_or_none (is_named known name) (is_named files name)
       (λ e. (let (file, has, is) = one_named known name e in named_by files name file (still file has) is))
       (λ e. (let (file, has, is) = one_named files name e in named_by known name file (only file has is) is))
+
+  -- a name is one file's
+  one_file : (a b : File) → Contains files a → Contains files b → a.name ≡ b.name → a ≡ b
+  one_file a b has_a has_b same =
+      let at_a = get_contained files a has_a in
+      let at_b = get_contained files b has_b in
+      let number = one_by_key (λ (f : File). f.name) (λ (m n : List ℕ). m ≢ n) (λ k unlike. unlike refl) files differ has_a.0 has_b.0 a b at_a at_b same in
+      same_Some a b (sym at_a ∙ rw number at_b)
+
+  module _ (name : List ℕ) (only : IsKnownName known files name) where
+    by_numbers : (m n : Option ℕ) → number_of known name ≡ m → number_of files name ≡ n → file_at known m ≡ file_at files n
+    by_numbers None None is other = refl
+    by_numbers None (Some n) is other = absurd (let bad = sym (unnamed known name is) ∙ named_same name only ∙ named files name n other in cc bad)
+    by_numbers (Some m) None is other = absurd (let bad = sym (unnamed files name other) ∙ sym (named_same name only) ∙ named known name m is in cc bad)
+    by_numbers (Some m) (Some n) is other =
+        let (f, got, called, f_known) = found known name m is in
+        let (g, got_too, called_too, g_known) = found files name n other in
+        let same = one_file f g (still f (among known m f got)) (among files n g got_too) (called ∙ sym called_too) in
+        got ∙ ap (λ (file : File). Some file) same ∙ sym got_too
+
+    -- the file of a name
+    file_same : file_named known name ≡ file_named files name
+    file_same = by_numbers (number_of known name) (number_of files name) refl refl
 
   module _ (layout : Layout) (most : ℕ) where
     -- the fault of a row
@@ -64,14 +91,15 @@ module _ (known files : List File) (still : (file : File) → Contains known fil
     fault_same number [] only = refl
     fault_same number (field ∷ others) only =
         let fields = field ∷ others in
-        ap (λ (named : Bool). first_failed
+        ap₂ (λ (named : Bool) (time : Result ℤ RowKind). first_failed
         (check (nat_le number most) kind.TooManyRows
         ∷ check true kind.RowQuote
         ∷ check (has_count layout.count (length fields)) kind.RowFields
         ∷ check named kind.RowZone
-        ∷ check (is_some (count_in layout fields)) kind.RowInstant
-        ∷ check (is_row_instant (option_map (second_of layout.unit) (count_in layout fields))) kind.RowRange
+        ∷ check (is_some (told_count time)) (told_fault time)
+        ∷ check (is_row_instant (option_map (second_of layout.unit) (told_count time))) kind.RowRange
         ∷ [])) (named_same (zone_in layout.zone fields) (only refl))
+        (ap (λ (file : Option File). time_by layout file (count_in layout fields)) (file_same (zone_in layout.zone fields) (only refl)))
 
     -- and the row
     text_same : (row_record : CsvRecord) (text : List ℕ) → IsTextBy layout known row_record text → IsTextBy layout files row_record text
@@ -79,8 +107,10 @@ module _ (known files : List File) (still : (file : File) → Contains known fil
       file = is.file;
       among = still is.file is.among;
       named = is.named;
-      count = is.count;
+      asked = is.asked;
       says = is.says;
+      count = is.count;
+      means = is.means;
       state = is.state;
       answers = is.answers;
       is = is.is;

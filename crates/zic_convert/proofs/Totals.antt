@@ -1,12 +1,12 @@
 -- That all records come to rows, up to the first fault.
-use Rattle.std.proofs.Common.{◌≡◌, ◌+◌, ℕ, Bool, true, false, List, [], ◌∷◌, ◌++◌, length, Option, Some, None, inl, inr, refl, sym, arith}
-use Rattle.std.specs.Prelude.{All, Contains, bytes_eq, is_some, nat_le, option_map}
+use Rattle.std.proofs.Common.{◌≡◌, ◌+◌, ℕ, ℤ, suc, Bool, true, false, List, [], ◌∷◌, ◌++◌, length, Option, Some, None, Result, Ok, Err, inl, inr, refl, sym, arith}
+use Rattle.std.specs.Prelude.{All, Contains, bytes_eq, is_some, nat_le, option_map, slice_get}
 use Rattle.std.specs.Cmp.Lexicographic.{bytes_decides}
 use Rattle.std.proofs.lemmas.Bool.{cases_Bool}
 use Rattle.std.proofs.lemmas.List.{append-nil}
 use Rattle.std.proofs.lemmas.List.Elements.{All-contains, Contains-append_right, Contains-get_or}
 use Rattle.zic_base.specs.Check.{check, first_failed}
-use Rattle.zic_rows.specs.Count.{counted_rest_text, second_of}
+use Rattle.zic_rows.specs.Count.{second_of}
 use Rattle.zic_columns.specs.Exchange.{exchanged}
 use Rattle.zic_columns.specs.Own.{CsvRecord}
 use Rattle.zic_files.specs.File.{File}
@@ -14,11 +14,13 @@ use Rattle.zic_plan.specs.Layout.{has_count}
 use Rattle.zic_plan.specs.declared.layout.Layout.{Layout}
 use Rattle.zic_base.specs.declared.row_fault.RowKind.{RowKind}
 use Rattle.zic_base.specs.declared.row_fault.RowKind.TheVariants as kind
-use Rattle.zic_zones.specs.Zones.{is_named, zone_in}
+use Rattle.zic_zones.specs.Zones.{is_named, number_of, zone_in}
 use Rattle.zic_convert.specs.Rows.{is_closed, is_row_instant}
-use Rattle.zic_convert.specs.LayoutRows.{RecordsConvertBy, IsRowAt, IsRowBy, IsTextBy, count_in, ends_by, fault_by, faulty_text, start_text}
+use Rattle.zic_convert.specs.LayoutRows.{RecordsConvertBy, IsRowAt, IsRowBy, IsTextBy, count_in, ends_by, fault_by, faulty_text, instant_by, rest_by, start_text, time_by, time_in, told_count, told_fault}
 use Rattle.zic_convert.specs.code.Row.{AreRowsOf, RowsOf}
 use Rattle.zic_convert.proofs.Coming.{come_after, come_more}
+use Rattle.zic_convert.proofs.PutBack.{among}
+use Rattle.zic_convert.proofs.RowFaults.{found}
 use Rattle.zic_convert.proofs.Sounds.{IsKnown}
 
 -- checks that all pass
@@ -30,35 +32,57 @@ passed true true true false e f k l m n o p h = absurd (cc h)
 passed true true true true false f k l m n o p h = absurd (cc h)
 passed true true true true true f k l m n o p h = (refl, refl)
 
--- the value that is there
-the_some : {X : Type 0} (o : Option X) → is_some o ≡ true → (x : X) × (o ≡ Some x)
-the_some None h = absurd (cc h)
-the_some (Some x) h = (x, refl)
+-- the count that is there
+the_count : (r : Result ℤ RowKind) → is_some (told_count r) ≡ true → (x : ℤ) × (r ≡ Ok x)
+the_count (Err kind) h = absurd (cc h)
+the_count (Ok x) h = (x, refl)
 
--- the file that has a name
-the_named : (files : List File) (name : List ℕ) → is_named files name ≡ true → (file : File) × Contains files file × (file.name ≡ name)
-the_named [] name h = absurd (cc h)
-the_named (f ∷ files) name h =
+-- the number of the file that has a name
+numbered : (files : List File) (name : List ℕ) → is_named files name ≡ true → (n : ℕ) × (number_of files name ≡ Some n)
+numbered [] name h = absurd (cc h)
+numbered (f ∷ files) name h =
     elim (cases_Bool (bytes_eq f.name name)) [
-      | inl same ↦ (f, Contains-get_or (f ∷ files) 0 f (omega arith), (bytes_decides f.name name).0 same)
-      | inr other ↦
-          let rest = the_named files name (rw other at h) in
-          (rest.0, Contains-append_right (f ∷ []) files rest.0 rest.1, rest.2)
+      | inl same ↦ (0, rw same refl)
+      | inr other ↦ let rest = numbered files name (rw other at h) in (suc rest.0, rw (other, rest.1) refl)
     ]
 
 module _ (layout : Layout) (files : List File) (most : ℕ) (known : All IsKnown files) where
+  -- the count of a field that tells an instant
+  asked_for : (file : File) (o : Option ℤ) (count : ℤ) → time_by layout (Some file) o ≡ Ok count
+      → (asked : ℤ) × (o ≡ Some asked) × (instant_by layout.from layout.unit file asked ≡ Ok count)
+  asked_for file None count is = absurd (cc is)
+  asked_for file (Some asked) count is = (asked, refl, is)
+
+  asked_in : (fields : List (List ℕ)) (n : ℕ) (file : File) (count : ℤ) → number_of files (zone_in layout.zone fields) ≡ Some n → slice_get files n ≡ Some file
+      → time_in layout files fields ≡ Ok count → (asked : ℤ) × (count_in layout fields ≡ Some asked) × (instant_by layout.from layout.unit file asked ≡ Ok count)
+  asked_in fields n file count number got is = asked_for file (count_in layout fields) count (rw (number, got) at is)
+
   -- the text of a row without a fault
   have_text : (number : ℕ) (row_record : CsvRecord) → fault_by layout files most number row_record.fields ≡ None → (text : List ℕ) × IsTextBy layout files row_record text
   have_text number row_record none =
       let zone = zone_in layout.zone row_record.fields in
-      let counted = count_in layout row_record.fields in
-      let (named, says) = passed (nat_le number most) (is_closed row_record.fields) (has_count layout.count (length row_record.fields)) (is_named files zone) (is_some counted) (is_row_instant (option_map (second_of layout.unit) counted))
-      kind.TooManyRows kind.RowQuote kind.RowFields kind.RowZone kind.RowInstant kind.RowRange none in
-      let (file, among, name) = the_named files zone named in
-      let (count, at) = the_some counted says in
-      let (state, answers) = All-contains IsKnown files file known among (second_of layout.unit count) in (
-        start_text layout row_record.own file.name count ++ exchanged layout.delimiter (counted_rest_text layout.unit count state),
-        record { file = file; among = among; named = name; count = count; says = at; state = state; answers = answers; is = refl },
+      let time = time_in layout files row_record.fields in
+      let (named, says) = passed (nat_le number most) (is_closed row_record.fields) (has_count layout.count (length row_record.fields)) (is_named files zone) (is_some (told_count time)) (is_row_instant (option_map (second_of layout.unit) (told_count time)))
+      kind.TooManyRows kind.RowQuote kind.RowFields kind.RowZone (told_fault time) kind.RowRange none in
+      let (n, number) = numbered files zone named in
+      let (file, got, called, is_known) = found files zone n number in
+      let has = among files n file got in
+      let (count, at) = the_count time says in
+      let (asked, said, means) = asked_in row_record.fields n file count number got at in
+      let (state, answers) = All-contains IsKnown files file known has (second_of layout.unit count) in (
+        start_text layout row_record.own file.name asked ++ exchanged layout.delimiter (rest_by layout.from layout.unit count state),
+        record {
+          file = file;
+          among = has;
+          named = called;
+          asked = asked;
+          says = said;
+          count = count;
+          means = means;
+          state = state;
+          answers = answers;
+          is = refl;
+        },
       )
 
   -- the text of a row, with a fault or without

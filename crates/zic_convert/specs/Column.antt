@@ -13,6 +13,8 @@ use Rattle.zic_plan.specs.declared.layout.Header.TheVariants as header
 use Rattle.zic_plan.specs.declared.layout.Layout.{Layout}
 use Rattle.zic_plan.specs.declared.layout.RowStart.{RowStart}
 use Rattle.zic_plan.specs.declared.layout.RowStart.TheVariants as start
+use Rattle.zic_plan.specs.declared.layout.TimeFrom.{TimeFrom}
+use Rattle.zic_plan.specs.declared.layout.TimeFrom.TheVariants as from
 use Rattle.zic_base.specs.declared.row_fault.RowKind.{RowKind}
 use Rattle.zic_convert.specs.Rows.{RecordsConvertTo}
 use Rattle.zic_convert.specs.LayoutRows.{RecordsConvertBy}
@@ -46,9 +48,11 @@ pub record ConvertsBy (files : List File) (layout : Layout) (most : ℕ) (column
   pub are : AreRowRecords layout column row_records
   pub rows : RecordsConvertBy layout files most 1 row_records texts fault
 
--- the line of names before rows that begin with a name and an instant: own choice
-abbrev pub row_names : List ℕ
-row_names = codes "zone,instant,local,offset,daylight,abbreviation" ++ 10 ∷ []
+-- the line of names before rows that begin with a name and an instant, or a local time: own choice
+abbrev pub row_names : TimeFrom → List ℕ
+row_names from.Count = codes "zone,instant,local,offset,daylight,abbreviation" ++ 10 ∷ []
+row_names from.Rfc3339 = codes "zone,instant,local,offset,daylight,abbreviation" ++ 10 ∷ []
+row_names (from.Local choice) = codes "zone,local,instant,offset,daylight,abbreviation" ++ 10 ∷ []
 
 -- a line, where a header is written and rows begin so
 abbrev pub names_of : RowStart → Header → List ℕ → List ℕ
@@ -56,8 +60,10 @@ names_of start.Fields header.First line = line
 names_of _ _ line = []
 
 -- the names of the fields that a row adds to its record: own choice
-abbrev pub added_names : List ℕ
-added_names = codes ",local,offset,daylight,abbreviation"
+abbrev pub added_names : TimeFrom → List ℕ
+added_names from.Count = codes ",local,offset,daylight,abbreviation"
+added_names from.Rfc3339 = codes ",local,offset,daylight,abbreviation"
+added_names (from.Local choice) = codes ",instant,offset,daylight,abbreviation"
 
 -- the own bytes of the header that is written, if one is, by those of all records
 abbrev pub own_header : Header → List (List ℕ) → List ℕ
@@ -66,19 +72,19 @@ own_header header.First texts = first_text texts
 own_header header.Skipped texts = []
 
 -- a column's header with those names, where rows begin with their records; a record has a byte or more
-abbrev pub header_of : RowStart → ℕ → List ℕ → List ℕ
-header_of start.Record delimiter (byte ∷ own) = (byte ∷ own) ++ (exchanged delimiter added_names ++ 10 ∷ [])
-header_of _ delimiter _ = []
+abbrev pub header_of : RowStart → TimeFrom → ℕ → List ℕ → List ℕ
+header_of start.Record time delimiter (byte ∷ own) = (byte ∷ own) ++ (exchanged delimiter (added_names time) ++ 10 ∷ [])
+header_of _ time delimiter _ = []
 
 -- what is written before a column is read: the line of names, or nothing
 abbrev pub names_line : Layout → List ℕ
-names_line layout = names_of layout.start layout.header (exchanged layout.delimiter row_names)
+names_line layout = names_of layout.start layout.header (exchanged layout.delimiter (row_names layout.from))
 
 -- and once its header was read
 abbrev pub own_line : Layout → List ℕ → List ℕ
-own_line layout column = header_of layout.start layout.delimiter (own_header layout.header (delimited_texts_by layout.records layout.delimiter (strip_bom column)))
+own_line layout column = header_of layout.start layout.from layout.delimiter (own_header layout.header (delimited_texts_by layout.records layout.delimiter (strip_bom column)))
 
--- The header that is written before the rows of a column: own choice. It is the line of names where rows begin with a name and an instant,
+-- The header that is written before the rows of a column: own choice. It is the line of names where rows begin with names,
 -- and else the column's own header, with the names of the fields that rows add. It is nothing where the column has none, or it is skipped.
 abbrev pub header_text : Layout → List ℕ → List ℕ
 header_text layout column = names_line layout ++ own_line layout column

@@ -1,13 +1,16 @@
--- The rows of a column's records, by a layout: own choice. A record has an instant, and perhaps a zone's name. Its row has the text of
--- what the file of that name answers at the instant, or a fault. A row with a fault ends the run, or has no local time.
-use Rattle.std.specs.Prelude.{◌≡◌, ℕ, ◌+◌, nat_le, ℤ, List, [], ◌∷◌, ◌++◌, length, Option, Some, None, option_map, is_some, IsSome, Contains, if◌then◌else◌}
+-- The rows of a column's records, by a layout: own choice. A record has an instant or a local time, and perhaps a zone's name. Its row has the
+-- text of what the file of that name answers at the instant, or a fault. A row with a fault ends the run, or has no more than its record.
+use Rattle.std.specs.Prelude.{◌≡◌, ℕ, ◌+◌, nat_le, ℤ, pos, ◌+ℤ◌, ◌*ℤ◌, List, [], ◌∷◌, ◌++◌, length, Option, Some, None, Result, Ok, Err, option_map, is_some, IsSome, Contains, slice_get, if◌then◌else◌}
 use Rattle.std.specs.Fmt.{signed_decimal}
 use Rattle.csv.specs.Writing.{default_writer, row_text, with_delimiter}
 use Rattle.zic_base.specs.Check.{Check, first_failed}
 use Rattle.zic_base.specs.State.{Shown}
 use Rattle.zic_tzif.specs.Answer.{Answers}
-use Rattle.zic_rows.specs.Count.{count_of, counted_rest_text, second_of}
-use Rattle.zic_rows.specs.DateTime.{rfc3339_count_of}
+use Rattle.zic_rows.specs.Count.{count_of, counted_rest_text, fraction_of, local_count_text, second_of, units_of_second}
+use Rattle.zic_rows.specs.DateTime.{local_count_of, rfc3339_count_of}
+use Rattle.zic_rows.specs.Row.{state_text}
+use Rattle.zic_local.specs.declared.disambiguation.Unresolved.{Unresolved}
+use Rattle.zic_local.specs.declared.disambiguation.Unresolved.TheVariants as unresolved
 use Rattle.zic_columns.specs.Exchange.{exchanged}
 use Rattle.zic_columns.specs.Own.{CsvRecord}
 use Rattle.zic_files.specs.File.{File}
@@ -23,58 +26,121 @@ use Rattle.zic_plan.specs.declared.layout.Unit.{Unit}
 use Rattle.zic_base.specs.declared.row_fault.RowFault.{RowFault}
 use Rattle.zic_base.specs.declared.row_fault.RowKind.{RowKind}
 use Rattle.zic_base.specs.declared.row_fault.RowKind.TheVariants as kind
-use Rattle.zic_zones.specs.Zones.{field_at, is_named, zone_in}
+use Rattle.zic_zones.specs.Resolved.{resolved}
+use Rattle.zic_zones.specs.Zones.{field_at, is_named, number_of, zone_in}
 use Rattle.zic_convert.specs.Rows.{is_closed, is_row_instant, row_checks}
 
--- the count that a field has: in decimals, or as a date and a time of day with a UT offset
+-- the count that a field has: of an instant, in decimals or as a date and a time of day with a UT offset, or of a local time
 abbrev pub count_by : TimeFrom → Unit → List ℕ → Option ℤ
 count_by from.Count u field = count_of u field
 count_by from.Rfc3339 u field = rfc3339_count_of u field
+count_by (from.Local choice) u field = local_count_of u field
 
--- the count that the field of the instant has
+-- the count that the field of the instant has, or of the local time
 abbrev pub count_in : Layout → List (List ℕ) → Option ℤ
 count_in layout fields = count_by layout.from layout.unit (field_at fields layout.time)
 
--- the checks of a record with this count as the row of a number, where there is a greatest number of rows
-abbrev pub checks_of : Layout → List File → ℕ → ℕ → List (List ℕ) → Option ℤ → List (Check RowKind)
-checks_of layout files most number fields count =
-    row_checks (nat_le number most) (is_closed fields) (has_count layout.count (length fields)) (is_named files (zone_in layout.zone fields)) (is_some count)
-    (is_row_instant (option_map (second_of layout.unit) count))
+-- the fault of a field that has none
+abbrev pub missing : TimeFrom → RowKind
+missing from.Count = kind.RowInstant
+missing from.Rfc3339 = kind.RowInstant
+missing (from.Local choice) = kind.RowLocal
+
+-- The count of the instant that is meant by a local time, with its fraction of a second, or the fault of a row that means none: in a gap, or in
+-- a fold. A file that rows are made by leaves local time open nowhere.
+abbrev pub moved : Unit → ℤ → Result ℤ Unresolved → Result ℤ RowKind
+moved u local (Ok t) = Ok ((t *ℤ pos (units_of_second u)) +ℤ pos (fraction_of u local))
+moved u local (Err unresolved.Gap) = Err kind.RowSkipped
+moved u local (Err unresolved.Fold) = Err kind.RowRepeated
+moved u local (Err unresolved.Unspecified) = Err kind.RowSkipped
+
+-- the count of the instant that a count in a field tells: itself, or what it means as local time of the file's clocks
+abbrev pub instant_by : TimeFrom → Unit → File → ℤ → Result ℤ RowKind
+instant_by from.Count u file count = Ok count
+instant_by from.Rfc3339 u file count = Ok count
+instant_by (from.Local choice) u file local = moved u local (resolved file.image.octets (second_of u local) choice)
+
+-- the file with this number, and the file of a name, where there is one
+abbrev pub file_at : List File → Option ℕ → Option File
+file_at files None = None
+file_at files (Some n) = slice_get files n
+
+abbrev pub file_named : List File → List ℕ → Option File
+file_named files name = file_at files (number_of files name)
+
+-- the count of a record's instant, by the file of its zone and the count in its field, or the fault of a record that has none (without a
+-- file that is RowZone)
+abbrev pub time_by : Layout → Option File → Option ℤ → Result ℤ RowKind
+time_by layout file None = Err (missing layout.from)
+time_by layout None (Some count) = Ok count
+time_by layout (Some file) (Some count) = instant_by layout.from layout.unit file count
+
+abbrev pub time_in : Layout → List File → List (List ℕ) → Result ℤ RowKind
+time_in layout files fields = time_by layout (file_named files (zone_in layout.zone fields)) (count_in layout fields)
+
+-- the count of an instant, where there is one, and else the fault
+abbrev pub told_count : Result ℤ RowKind → Option ℤ
+told_count (Ok count) = Some count
+told_count (Err fault) = None
+
+abbrev pub told_fault : Result ℤ RowKind → RowKind
+told_fault (Ok count) = kind.RowInstant
+told_fault (Err fault) = fault
+
+-- the checks of a record with this time as the row of a number, where there is a greatest number of rows
+abbrev pub checks_of : Layout → List File → ℕ → ℕ → List (List ℕ) → Result ℤ RowKind → List (Check RowKind)
+checks_of layout files most number fields time =
+    row_checks (nat_le number most) (is_closed fields) (has_count layout.count (length fields)) (is_named files (zone_in layout.zone fields)) (is_some (told_count time)) (told_fault time)
+    (is_row_instant (option_map (second_of layout.unit) (told_count time)))
 
 -- the checks of a record
 abbrev pub checks_by : Layout → List File → ℕ → ℕ → List (List ℕ) → List (Check RowKind)
-checks_by layout files most number fields = checks_of layout files most number fields (count_in layout fields)
+checks_by layout files most number fields = checks_of layout files most number fields (time_in layout files fields)
 
 -- the fault of a row: of the first check that fails, or none
 abbrev pub fault_by : Layout → List File → ℕ → ℕ → List (List ℕ) → Option RowKind
 fault_by layout files most number fields = first_failed (checks_by layout files most number fields)
 
--- what a row begins with: the name and the count of the instant, or the record's own bytes
-abbrev pub beginning : RowStart → ℕ → List ℕ → List ℕ → ℤ → List ℕ
-beginning start.Fields delimiter own name count = exchanged delimiter (name ++ 44 ∷ signed_decimal count)
-beginning start.Record delimiter own name count = own
+-- the text of the count in a field: its decimals, or the local time
+abbrev pub asked_text : TimeFrom → Unit → ℤ → List ℕ
+asked_text from.Count u count = signed_decimal count
+asked_text from.Rfc3339 u count = signed_decimal count
+asked_text (from.Local choice) u local = local_count_text u local
+
+-- what a row begins with: the name and that text, or the record's own bytes
+abbrev pub beginning : RowStart → ℕ → List ℕ → List ℕ → List ℕ → List ℕ
+beginning start.Fields delimiter own name asked = exchanged delimiter (name ++ 44 ∷ asked)
+beginning start.Record delimiter own name asked = own
 
 abbrev pub start_text : Layout → List ℕ → List ℕ → ℤ → List ℕ
-start_text layout own name count = beginning layout.start layout.delimiter own name count
+start_text layout own name count = beginning layout.start layout.delimiter own name (asked_text layout.from layout.unit count)
+
+-- what follows, with commas: the local time of an instant, or the instant of a local time, and the state
+abbrev pub rest_by : TimeFrom → Unit → ℤ → Shown → List ℕ
+rest_by from.Count u count state = counted_rest_text u count state
+rest_by from.Rfc3339 u count state = counted_rest_text u count state
+rest_by (from.Local choice) u count state = 44 ∷ (signed_decimal count ++ state_text state)
 
 -- The text of a record's row: what rows begin with, and the state that the file of the zone's name answers at the whole second of the
--- record's count. The delimiter stands in the place of commas; no name of a file and no field that a row adds to a record has it.
+-- instant's count. The delimiter stands in the place of commas; no name of a file and no field that a row adds to a record has it.
 pub record IsTextBy (layout : Layout) (files : List File) (row_record : CsvRecord) (text : List ℕ) : Type 0 where
   pub file : File
   pub among : Contains files file
   pub named : file.name ≡ zone_in layout.zone row_record.fields
+  pub asked : ℤ
+  pub says : count_in layout row_record.fields ≡ Some asked
   pub count : ℤ
-  pub says : count_in layout row_record.fields ≡ Some count
+  pub means : instant_by layout.from layout.unit file asked ≡ Ok count
   pub state : Shown
   pub answers : Answers file.image.content (second_of layout.unit count) (Some state)
-  pub is : text ≡ start_text layout row_record.own file.name count ++ exchanged layout.delimiter (counted_rest_text layout.unit count state)
+  pub is : text ≡ start_text layout row_record.own file.name asked ++ exchanged layout.delimiter (rest_by layout.from layout.unit count state)
 
 abbrev pub empty_fields : ℕ → List ℕ
 empty_fields delimiter = delimiter ∷ delimiter ∷ delimiter ∷ delimiter ∷ []
 
--- The text of a row without local time. Where rows begin with names, it is what a CSV writer with the layout's delimiter writes of six
--- fields: the zone's name, the field of the instant as it was read, and four empty ones. Where they begin with their records, it is the
--- record's own bytes and four empty fields.
+-- The text of a row without what a file answers. Where rows begin with names, it is what a CSV writer with the layout's delimiter writes of
+-- six fields: the zone's name, the field of the instant or of the local time as it was read, and four empty ones. Where they begin with their
+-- records, it is the record's own bytes and four empty fields.
 abbrev pub timeless_text : RowStart → Layout → CsvRecord → List ℕ
 timeless_text start.Fields layout row_record =
     row_text (with_delimiter default_writer layout.delimiter) (zone_in layout.zone row_record.fields ∷ field_at row_record.fields layout.time ∷ [] ∷ [] ∷ [] ∷ [] ∷ [])

@@ -373,19 +373,22 @@ fn ended<R>(
 /// row's zone and its instant come from, and how many fields a record has; and how an instant is
 /// written, and what it counts. An instant is an optional `-` and 1 to 18 digits, and as many more as
 /// a fraction of a second has; or, by the layout's `from`, a date and a time of day with a UT offset.
-/// A row shows local time of its whole second, rounded down, and with that fraction.
+/// A row shows local time of its whole second, rounded down, and with that fraction. Or a record has,
+/// by `from`, a local time, a date and a time of day without an offset: its row has that local time and
+/// the count of the instant that is meant by it.
 ///
-/// A row begins with the name and the instant, or with the record's own bytes as they stand in the
-/// column, as the layout's `start` says. Where it begins with the name and a header is written, the line
-/// `zone,instant,local,offset,daylight,abbreviation`, with the layout's delimiter, is written before
-/// the column is read. Where it begins with the record and a header is written, the column's own
-/// header comes first, with the names `local`, `offset`, `daylight` and `abbreviation` added.
+/// A row begins with the name and the instant, or the local time, or with the record's own bytes as
+/// they stand in the column, as the layout's `start` says. Where it begins with the name and a header
+/// is written, the line `zone,instant,local,offset,daylight,abbreviation`, with the layout's
+/// delimiter, is written before the column is read, or `zone,local,instant` and the same three. Where
+/// it begins with the record and a header is written, the column's own header comes first, with the
+/// names `local` or `instant`, `offset`, `daylight` and `abbreviation` added.
 ///
 /// As the layout's `at_fault` says, the first row with a fault ends the conversion, or rows with
-/// faults are written. Such a row has empty fields in the place of local time, and the instant as
-/// its record has it; where the record has another number of fields than the layout's, or is a line
-/// whose double quotes are open at its end, the row is only the record's own bytes. The log takes note
-/// of the fault. A header that is such a line is one as any other.
+/// faults are written. Such a row has the instant or the local time as its record has it, and empty
+/// fields in the place of the other four; where the record has another number of fields than the
+/// layout's, or is a line whose double quotes are open at its end, the row is only the record's own
+/// bytes. The log takes note of the fault. A header that is such a line is one as any other.
 ///
 /// The column is read in rounds. Before a round is converted, its zones are made ready. The plan's
 /// workers convert the pieces of a round, which have the number of records that the plan says, and

@@ -1,29 +1,48 @@
 //! Looks up what the row of a record shows, check by check.
 
-ghost use Rattle.std.specs.Prelude.{◌≡◌, IfOk, MatchOption};
+ghost use Rattle.std.specs.Prelude.{◌≡◌, ◌<◌, IfOk, IfSome, MatchOption, length, slice_get};
 ghost use Rattle.zic_columns.specs.Record.{IsSplit, StandsIn, field_text};
 ghost use Rattle.zic_rows.specs.Count.{count_of, second_of};
 ghost use Rattle.zic_rows.specs.Instant.{IsRowInstant};
+ghost use Rattle.zic_rows.specs.Local.{IsLocalSecond};
 ghost use Rattle.zic_plan.specs.declared.layout.TimeFrom.TheVariants as from;
-ghost use Rattle.zic_convert.specs.code.Batch.{IsLookup, IsFile, IsStateFor, count_at, wanted_by, zone_at};
+ghost use Rattle.zic_zones.specs.Resolved.{resolved};
+ghost use Rattle.zic_convert.specs.LayoutRows.{file_at, missing, moved};
+ghost use Rattle.zic_convert.specs.code.Batch.{AreTimesOf, IsCountFor, IsFile, IsLocal, IsLookup};
+ghost use Rattle.zic_convert.specs.code.Batch.{IsStateFor, count_at, count_of_times, wanted_by, zone_at};
 
 use crate::faulty::copy_field;
 use crate::piece::Piece;
 use std::alloc::{AllocError, Global};
+use zic_base::RowKind;
 use zic_columns::{Field, Record, push_field};
-use zic_plan::{TimeFrom, Unit};
-use zic_rows::{FIRST_INSTANT, LAST_INSTANT, moment_of, parse_count, parse_rfc3339};
+use zic_local::Unresolved;
+use zic_plan::{Disambiguation, TimeFrom, Unit};
+use zic_rows::{
+    FIRST_INSTANT, LAST_INSTANT, count_from, moment_of, parse_count, parse_local_time,
+    parse_rfc3339,
+};
 
-/// What was found for a record: the file of its zone and its count, if there are any, and the number of the
-/// state that the file shows at the whole second of the count.
+/// The counts of a record: the one that its field has, of an instant or of a local time, and the one
+/// of the instant.
+#[derive(Clone, Copy, Drop)]
+pub(crate) struct Counts {
+    pub(crate) asked: i128,
+    pub(crate) count: i128,
+}
+
+/// What was found for a record: the file of its zone, if there is one, its counts, or the fault of a
+/// row that has none, and the number of the state that the file shows at the whole second of the
+/// instant.
 #[derive(Clone, Copy, Drop)]
 pub(crate) struct Lookup {
     pub(crate) file: Option<usize>,
-    pub(crate) count: Option<i128>,
+    pub(crate) times: Result<Counts, RowKind>,
     pub(crate) state: usize,
 }
 
-/// Looks up the count of a record and the state at it. `file` is the file of the record's zone.
+/// Looks up the counts of a record and the state at its instant. `file` is the file of the record's
+/// zone.
 pub(crate) fn look_up(
     alloc: Global,
     piece: &Piece<'_, '_>,
@@ -34,14 +53,16 @@ pub(crate) fn look_up(
     requires file { file ≡ zone_at piece.now given.now }
     ensures { IfOk result (IsLookup piece.now given.now) }
 {
-    let count = match piece.layout.from {
+    let asked = match piece.layout.from {
         TimeFrom::Count => read_count(alloc, piece, given)?,
         TimeFrom::Rfc3339 => read_date_time(alloc, piece, given)?,
+        TimeFrom::Local(_) => read_local_time(alloc, piece, given)?,
     };
+    let times = times_of(piece, file, asked);
     Ok(Lookup {
         file,
-        count,
-        state: state_of(piece, file, count),
+        times,
+        state: state_of(piece, file, times),
     })
 }
 
@@ -97,6 +118,85 @@ fn read_date_time(
     Ok(parse_rfc3339(&text, piece.layout.unit))
 }
 
+/// Returns the count of the local time that a record's field has, if it has one, as
+/// [`read_date_time`] does that of an instant.
+fn read_local_time(
+    alloc: Global,
+    piece: &Piece<'_, '_>,
+    given: &Record,
+) -> Result<Option<i128>, AllocError>
+    requires split { IsSplit piece.now.bytes.now (wanted_by piece.now.layout.now) given.now }
+    requires from { IsLocal piece.now.layout.now.from }
+    ensures count { IfOk result (λ count. count ≡ count_at piece.now given.now) }
+    ensures local { IfOk result (λ count. IfSome count
+        (λ c. IsLocalSecond (second_of piece.now.layout.now.unit c))) }
+{
+    prove!(piece.layout.delimiter.byte() <= u8::MAX);
+    let text = copy_field(alloc, piece, given.time)?;
+    Ok(parse_local_time(&text, piece.layout.unit))
+}
+
+/// Returns the counts of a record, by the file of its zone and the count that its field has.
+///
+/// # Errors
+///
+/// The fault of the row, where it has no instant.
+fn times_of(
+    piece: &Piece<'_, '_>,
+    file: Option<usize>,
+    asked: Option<i128>,
+) -> Result<Counts, RowKind>
+    requires file { IsFile piece.now file }
+    requires sound { IfSome asked
+        (IsCountFor piece.now.layout.now.from piece.now.layout.now.unit) }
+    ensures { AreTimesOf piece.now.layout.now (file_at piece.now.zones.now file) asked result }
+{
+    let Some(asked) = asked else {
+        return Err(missing(piece.layout.from));
+    };
+    let count = match (piece.layout.from, file) {
+        (TimeFrom::Local(choice), Some(file)) => meant(piece, file, asked, choice)?,
+        _ => asked,
+    };
+    Ok(Counts { asked, count })
+}
+
+/// Returns the fault of a field that has no count.
+fn missing(from: TimeFrom) -> RowKind
+    ensures { result ≡ missing from }
+{
+    match from {
+        TimeFrom::Count | TimeFrom::Rfc3339 => RowKind::RowInstant,
+        TimeFrom::Local(_) => RowKind::RowLocal,
+    }
+}
+
+/// Returns the count of the instant that is meant by a local time of a file's clocks.
+///
+/// # Errors
+///
+/// `RowSkipped` in a gap and `RowRepeated` in a fold, where the choice refuses these.
+fn meant(
+    piece: &Piece<'_, '_>,
+    file: usize,
+    local: i128,
+    choice: Disambiguation,
+) -> Result<i128, RowKind>
+    requires within { file < length piece.now.zones.now }
+    requires local { IsLocalSecond (second_of piece.now.layout.now.unit local) }
+    ensures { IfSome (slice_get piece.now.zones.now file) (λ f. result ≡ moved
+        piece.now.layout.now.unit local (resolved f.image.octets
+        (second_of piece.now.layout.now.unit local) choice)) }
+{
+    let unit = piece.layout.unit;
+    let moment = moment_of(local, unit);
+    match piece.zones.instant(file, moment.second as i64, choice) {
+        Ok(t) => Ok(count_from(t, moment.fraction, unit)),
+        Err(Unresolved::Fold) => Err(RowKind::RowRepeated),
+        Err(Unresolved::Gap | Unresolved::Unspecified) => Err(RowKind::RowSkipped),
+    }
+}
+
 /// Returns the whole second of a count, where a row may have it.
 fn row_second(count: i128, unit: Unit) -> Option<i64>
     ensures { MatchOption result (IsRowInstant (second_of unit count) → ⊥)
@@ -109,16 +209,16 @@ fn row_second(count: i128, unit: Unit) -> Option<i64>
     Some(second as i64)
 }
 
-/// Returns the number of the state that a file shows at the whole second of a count, or any number
-/// where there is no file, or no row may have the count.
-fn state_of(piece: &Piece<'_, '_>, file: Option<usize>, count: Option<i128>) -> usize
+/// Returns the number of the state that a file shows at the whole second of an instant, or any number
+/// where there is no file, or no row may have the instant.
+fn state_of(piece: &Piece<'_, '_>, file: Option<usize>, times: Result<Counts, RowKind>) -> usize
     requires { IsFile piece.now file }
-    ensures { IsStateFor piece.now file count result }
+    ensures { IsStateFor piece.now file (count_of_times times) result }
 {
-    let (Some(number), Some(count)) = (file, count) else {
+    let (Some(number), Ok(counts)) = (file, times) else {
         return 0;
     };
-    let Some(second) = row_second(count, piece.layout.unit) else {
+    let Some(second) = row_second(counts.count, piece.layout.unit) else {
         return 0;
     };
     piece.zones.span(number, second).number

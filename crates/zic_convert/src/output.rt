@@ -4,7 +4,7 @@ ghost use Rattle.std.specs.Prelude.{◌≡◌, ◌+◌, ◌^◌, ◌<◌, [], If
 ghost use Rattle.zic_columns.specs.Exchange.{exchanged};
 ghost use Rattle.zic_counted.specs.Written.{FailsWithin};
 ghost use Rattle.zic_plan.specs.declared.layout.RowStart.TheVariants as start;
-ghost use Rattle.zic_convert.specs.Column.{header_of, names_line, names_of};
+ghost use Rattle.zic_convert.specs.Column.{added_names, header_of, names_line, names_of, row_names};
 ghost use Rattle.zic_convert.specs.code.Pieces.{joined};
 ghost use Rattle.zic_convert.specs.code.Written.{EndsAtHead, EndsInPieces, IsStopAt, Wrote, WroteRows};
 
@@ -16,25 +16,41 @@ use std::io::Write;
 use zic_base::{FaultLog, RowKind, RunStop};
 use zic_columns::exchange;
 use zic_counted::{Counted, WriteFailed};
-use zic_plan::{Header, Layout, RowStart};
+use zic_plan::{Header, Layout, RowStart, TimeFrom};
 
-/// The line of names before rows that begin with a name and an instant.
-const ROW_NAMES: &[u8; 48] = b"zone,instant,local,offset,daylight,abbreviation\n";
+/// Returns the line of names before rows that begin with a name and an instant, or a local time.
+fn row_names(from: TimeFrom) -> [u8; 48]
+    ensures { result ≡ row_names from }
+{
+    match from {
+        TimeFrom::Count | TimeFrom::Rfc3339 => {
+            *b"zone,instant,local,offset,daylight,abbreviation\n"
+        }
+        TimeFrom::Local(_) => *b"zone,local,instant,offset,daylight,abbreviation\n",
+    }
+}
 
-/// The names of the fields that a row adds to its record.
-const ADDED_NAMES: &[u8; 35] = b",local,offset,daylight,abbreviation";
+/// Returns the names of the fields that a row adds to its record.
+fn added_names(from: TimeFrom) -> &'static [u8]
+    ensures { result.now ≡ added_names from }
+{
+    match from {
+        TimeFrom::Count | TimeFrom::Rfc3339 => b",local,offset,daylight,abbreviation",
+        TimeFrom::Local(_) => b",instant,offset,daylight,abbreviation",
+    }
+}
 
 /// Adds the names of the fields that a row adds to its record, and a newline, to the own bytes of a
 /// header, in which the delimiter and the comma stand in each other's place. Does nothing where
 /// there is no header.
-fn add_names(line: &mut Vec<u8>, delimiter: u8) -> Result<(), AllocError>
+fn add_names(line: &mut Vec<u8>, from: TimeFrom, delimiter: u8) -> Result<(), AllocError>
     ensures { OnOk result (line.new.items
-        ≡ header_of start.Record delimiter (exchanged delimiter line.old.items)) }
+        ≡ header_of start.Record from delimiter (exchanged delimiter line.old.items)) }
 {
     if line.is_empty() {
         return Ok(());
     }
-    line.extend_from_slice(ADDED_NAMES)?;
+    line.extend_from_slice(added_names(from))?;
     put_back(line, 0, delimiter);
     line.push(b'\n')?;
     Ok(())
@@ -48,8 +64,8 @@ fn add_names(line: &mut Vec<u8>, delimiter: u8) -> Result<(), AllocError>
 ///
 /// Fails where memory is refused.
 fn header_line(layout: &Layout, own: Vec<u8>) -> Result<Vec<u8>, AllocError>
-    ensures { IfOk result (λ line. line.items ≡ header_of layout.now.start layout.now.delimiter
-        (exchanged layout.now.delimiter own.items)) }
+    ensures { IfOk result (λ line. line.items ≡ header_of layout.now.start layout.now.from
+        layout.now.delimiter (exchanged layout.now.delimiter own.items)) }
 {
     let mut line = own;
     match layout.start {
@@ -58,7 +74,7 @@ fn header_line(layout: &Layout, own: Vec<u8>) -> Result<Vec<u8>, AllocError>
             Ok(line)
         }
         RowStart::Record => {
-            add_names(&mut line, layout.delimiter.byte())?;
+            add_names(&mut line, layout.from, layout.delimiter.byte())?;
             Ok(line)
         }
     }
@@ -109,7 +125,7 @@ pub(crate) fn write_names<W: Write>(writer: &mut Counted<W>, layout: &Layout) ->
     ensures err { IfErr result (λ stop. (stop ≡ RunStop.WriteFailed)
         × FailsWithin W.contents writer.old writer.new (names_line layout.now)) }
 {
-    let mut line = *ROW_NAMES;
+    let mut line = row_names(layout.from);
     exchange(&mut line, layout.delimiter.byte());
     write_all(writer, names_of(layout.start, layout.header, &line))
 }
@@ -126,9 +142,10 @@ pub(crate) fn write_header<W: Write>(
     own: Vec<u8>,
 ) -> Result<(), RunStop>
     ensures ok { OnOk result (Wrote W.contents writer.old writer.new (header_of layout.now.start
-        layout.now.delimiter (exchanged layout.now.delimiter own.items))) }
+        layout.now.from layout.now.delimiter (exchanged layout.now.delimiter own.items))) }
     ensures err { IfErr result (EndsAtHead W.contents writer.old writer.new (header_of
-        layout.now.start layout.now.delimiter (exchanged layout.now.delimiter own.items))) }
+        layout.now.start layout.now.from layout.now.delimiter
+        (exchanged layout.now.delimiter own.items))) }
 {
     let Ok(line) = header_line(layout, own) else {
         return Err(RunStop::Memory);

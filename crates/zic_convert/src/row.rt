@@ -1,21 +1,22 @@
 //! The rows of records.
 
-ghost use Rattle.std.specs.Prelude.{◌≡◌, ◌+◌, ◌^◌, ◌<◌, ◌≤◌, ◌++◌, ℤ, Some, None, IfOk, OnOk, MatchResult};
+ghost use Rattle.std.specs.Prelude.{◌≡◌, ◌+◌, ◌^◌, ◌<◌, ◌≤◌, ◌++◌, ◌∷◌, ℤ, Some, None, IfOk, OnOk, MatchResult};
 ghost use Rattle.std.specs.Prelude.{ℕ, List, length};
 ghost use Rattle.std.specs.Fmt.{signed_decimal};
 ghost use Rattle.zic_columns.specs.Own.{CsvRecord};
 ghost use Rattle.zic_columns.specs.Record.{IsSplit, StandsIn, bytes_at, field_text, record_at};
-ghost use Rattle.zic_rows.specs.Count.{count_of, counted_rest_text, second_of};
+ghost use Rattle.zic_rows.specs.Count.{count_of, second_of};
+ghost use Rattle.zic_rows.specs.Instant.{IsRowInstant};
 ghost use Rattle.zic_zones.specs.Zones.{AnswersAt, IsShownAt, zone_in};
 ghost use Rattle.zic_plan.specs.declared.layout.TimeFrom.TheVariants as from;
-ghost use Rattle.zic_convert.specs.LayoutRows.{IsTextBy};
+ghost use Rattle.zic_convert.specs.LayoutRows.{IsTextBy, asked_text, rest_by};
 ghost use Rattle.zic_convert.specs.Rows.{is_row_instant};
 ghost use Rattle.zic_convert.specs.code.Batch.{AreColumns, AreStates, IsLookup, IsKnown, IsPen, IsQuickRow, IsRowQuery, IsSoundQuery, fault_at, records_of, wanted_by, zone_at};
-ghost use Rattle.zic_convert.specs.code.Row.{AreNext, AreRowsOf, comma_start, empty_rows, put_back};
+ghost use Rattle.zic_convert.specs.code.Row.{AreNext, AreRowsOf, empty_rows, field_start, put_back};
 
 use crate::batch::Batch;
 use crate::faulty::{ends_run, push_faulty, put_back};
-use crate::lookup::{Lookup, look_up};
+use crate::lookup::{Counts, Lookup, look_up};
 use crate::piece::Piece;
 use crate::quick::{Known, QuickRow, push_quick};
 use crate::shown::ShownStates;
@@ -25,7 +26,9 @@ use std::marker::Model;
 use zic_base::{RowFault, RowKind, State};
 use zic_columns::{Field, Record};
 use zic_plan::{Layout, RowStart, TimeFrom, Unit};
-use zic_rows::{FIRST_INSTANT, LAST_INSTANT, RowText, RowWriter, is_plain, moment_of};
+use zic_rows::{
+    FIRST_INSTANT, LAST_INSTANT, RowText, RowWriter, is_plain, moment_of, push_local_time,
+};
 use zic_zones::RowStates;
 
 /// The rows of records up to the first that ends the run: their text, their number, its fault, and
@@ -96,11 +99,11 @@ impl RowPen {
     }
 }
 
-/// A file, and a count that a row may have.
+/// A file, and counts of which a row may have that of the instant.
 #[derive(Clone, Copy, Drop)]
 struct RowQuery {
     file: usize,
-    count: i128,
+    counts: Counts,
 }
 
 /// Returns whether a row may have the whole second of a count.
@@ -117,7 +120,7 @@ fn is_in_range(count: i128, unit: Unit) -> bool
 /// # Errors
 ///
 /// The first fault of the row: a number above the greatest, no field, another number of fields, a name
-/// that no file has, no count, or a count that no row may have.
+/// that no file has, no instant, or an instant that no row may have.
 #[inline(always)]
 fn query(
     piece: &Piece<'_, '_>,
@@ -142,13 +145,14 @@ fn query(
     let Some(file) = lookup.file else {
         return Err(RowKind::RowZone);
     };
-    let Some(count) = lookup.count else {
-        return Err(RowKind::RowInstant);
+    let counts = match lookup.times {
+        Ok(counts) => counts,
+        Err(kind) => return Err(kind),
     };
-    if !is_in_range(count, piece.layout.unit) {
+    if !is_in_range(counts.count, piece.layout.unit) {
         return Err(RowKind::RowRange);
     }
-    Ok(RowQuery { file, count })
+    Ok(RowQuery { file, counts })
 }
 
 /// Appends a count: the field that has it, where that is in plain decimals, or else its decimals.
@@ -175,6 +179,27 @@ fn push_count(
     text.extend_from_slice(Buffer::new().format(count).as_bytes())
 }
 
+/// Appends a comma and the text of the count that a record's field has: a local time, or decimals.
+#[inline(always)]
+fn push_asked(
+    text: &mut Vec<u8>,
+    piece: &Piece<'_, '_>,
+    given: &Record,
+    query: RowQuery,
+) -> Result<(), AllocError>
+    requires split { IsSplit piece.now.bytes.now (wanted_by piece.now.layout.now) given.now }
+    requires query { IsRowQuery piece.now given.now query }
+    ensures { OnOk result (text.new.items ≡ text.old.items ++ 44 ∷ asked_text
+        piece.now.layout.now.from piece.now.layout.now.unit query.counts.asked) }
+{
+    if let TimeFrom::Local(_) = piece.layout.from {
+        return push_local_time(text, query.counts.asked, piece.layout.unit);
+    }
+    prove!(piece.layout.delimiter.byte() <= u8::MAX);
+    text.push(b',')?;
+    push_count(text, piece, given, query.counts.asked)
+}
+
 /// Appends what the row of a record begins with, with commas.
 #[inline(always)]
 fn push_start(
@@ -185,20 +210,40 @@ fn push_start(
 ) -> Result<(), AllocError>
     requires split { IsSplit piece.now.bytes.now (wanted_by piece.now.layout.now) given.now }
     requires query { IsRowQuery piece.now given.now query }
-    ensures { OnOk result (text.new.items ≡ text.old.items ++ comma_start
+    ensures { OnOk result (text.new.items ≡ text.old.items ++ field_start
         piece.now.layout.now.start (bytes_at piece.now.bytes.now given.now.own)
         (zone_in piece.now.layout.now.zone (record_at piece.now.bytes.now given.now).fields)
-        query.count) }
+        (asked_text piece.now.layout.now.from piece.now.layout.now.unit query.counts.asked)) }
 {
     match piece.layout.start {
         RowStart::Record => text.extend_from_slice(given.own.of(piece.bytes)),
         RowStart::Fields => {
-            prove!(piece.layout.delimiter.byte() <= u8::MAX);
             text.extend_from_slice(piece.zones.name(query.file))?;
-            text.push(b',')?;
-            push_count(text, piece, given, query.count)
+            push_asked(text, piece, given, query)
         }
     }
+}
+
+/// Appends what follows in a row, with commas: the local time of an instant, or the instant of a local
+/// time, and the state.
+#[inline(always)]
+fn push_rest(
+    text: &mut Vec<u8>,
+    layout: &Layout,
+    count: i128,
+    writer: &mut RowWriter,
+) -> Result<(), AllocError>
+    requires { IsRowInstant (second_of layout.now.unit count) }
+    ensures writer { writer.new ≡ writer.old }
+    ensures text { OnOk result (text.new.items ≡ text.old.items ++ rest_by layout.now.from
+        layout.now.unit count writer.old) }
+{
+    if let TimeFrom::Local(_) = layout.from {
+        text.push(b',')?;
+        text.extend_from_slice(Buffer::new().format(count).as_bytes())?;
+        return writer.push_state(text);
+    }
+    writer.push_counted_rest(text, count, layout.unit)
 }
 
 /// Appends the text of the row of a record, with the delimiter put back. Where memory runs out, a part
@@ -214,7 +259,7 @@ fn push_row(
     requires split { IsSplit piece.now.bytes.now (wanted_by piece.now.layout.now) given.now }
     requires query { IsRowQuery piece.now given.now query }
     requires answers { AnswersAt piece.now.zones.now query.file
-        (second_of piece.now.layout.now.unit query.count) writer.old }
+        (second_of piece.now.layout.now.unit query.counts.count) writer.old }
     ensures writer { writer.new ≡ writer.old }
     ensures text { OnOk result ((row : List ℕ) × (text.new.items ≡ text.old.items ++ row)
         × IsTextBy piece.now.layout.now piece.now.zones.now (put_back
@@ -224,8 +269,7 @@ fn push_row(
     piece.zones.are_sound();
     let start = text.len();
     push_start(text, piece, given, query)?;
-    let unit = piece.layout.unit;
-    writer.push_counted_rest(text, query.count, unit)?;
+    push_rest(text, piece.layout, query.counts.count, writer)?;
     put_back(text, start, piece.layout.delimiter.byte());
     Ok(())
 }

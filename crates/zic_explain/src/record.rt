@@ -10,7 +10,7 @@ use zic_plan::{TimeFrom, Unit};
 pub struct RecordForm {
     /// The index of the field with the name of the zone, from 0, if records have one.
     pub zone: Option<usize>,
-    /// The index of the field with the instant, from 0.
+    /// The index of the field with the instant, or with the local time, from 0.
     pub time: usize,
     /// How that field has it.
     pub from: TimeFrom,
@@ -25,7 +25,11 @@ impl RecordForm {
     fn faulty_index(self, kind: RowKind) -> Option<usize> {
         match kind {
             RowKind::RowZone => self.zone,
-            RowKind::RowInstant | RowKind::RowRange => Some(self.time),
+            RowKind::RowInstant
+            | RowKind::RowRange
+            | RowKind::RowLocal
+            | RowKind::RowSkipped
+            | RowKind::RowRepeated => Some(self.time),
             RowKind::RowFields | RowKind::TooManyRows | RowKind::RowQuote => None,
         }
     }
@@ -35,6 +39,7 @@ impl RecordForm {
         match (kind, self.from, self.unit) {
             (RowKind::RowZone, _, _) => "NAME",
             (_, TimeFrom::Rfc3339, _) => "INSTANT",
+            (_, TimeFrom::Local(_), _) => "LOCAL TIME",
             (_, TimeFrom::Count, Unit::Second) => "SECONDS",
             (_, TimeFrom::Count, Unit::Millisecond) => "MILLISECONDS",
             (_, TimeFrom::Count, Unit::Microsecond) => "MICROSECONDS",

@@ -586,13 +586,13 @@ It prints:
 
 Right:
   $ echo 'Etc/UTC,1970-01-01T00:00:00Z' | pzic convert --from rfc3339 utc.zi
-?  A date, which `--from rfc3339` takes with a time and a UT offset, a number
-  with a fraction, or the two fields swapped. A leap second, `23:59:60`, is
-  none. Or a stray double quote before the instant, after which line ends are
-  text.
+?  A date, which `--from rfc3339` takes with a time and a UT offset, and
+  `--from local` without one, a number with a fraction, or the two fields
+  swapped. A leap second, `23:59:60`, is none. Or a stray double quote before
+  the instant, after which line ends are text.
 @RowRange?The instant is outside the supported range.?  The instant is outside the supported range.
 ?  -62135510400 to 253402214399, which is 0001-01-02T00:00:00 to
-  9999-12-30T23:59:59 UT.
+  9999-12-30T23:59:59 UT. With `--from local` the instant of the local time.
 ?
 The examples use:
   $ echo 'Zone Etc/UTC 0 - UTC' >utc.zi
@@ -621,6 +621,66 @@ It prints:
 Right:
   $ printf 'Etc/UTC,0\nEtc/UTC,1\n' | pzic convert --max-rows 2 utc.zi
 ?  A longer column: convert it in parts (see "Long columns" in USING.md).
+@RowLocal?The field of the local time doesn't hold a local time.?  The field of the local time doesn't hold a local time.
+?  A date and a time of day without a UT offset, as `1970-01-01T00:00:00` or with
+  a space in place of the `T`, in the years 1 to 9999. With `--unit` a fraction
+  of at most 3, 6 or 9 digits.
+?
+The examples use:
+  $ echo 'Zone Etc/UTC 0 - UTC' >utc.zi
+
+Wrong:
+  $ echo 'Etc/UTC,1970-01-01T00:00:00Z' | pzic convert --from local utc.zi
+
+It prints:
+  row 1: RowLocal
+
+Right:
+  $ echo 'Etc/UTC,1970-01-01T00:00:00' | pzic convert --from local utc.zi
+?  A date with a `Z` or a UT offset, which `--from rfc3339` takes, a date without
+  a time of day, or the two fields swapped.
+@RowSkipped?Clocks pass over the local time.?  Clocks pass over the local time.
+?  A local time that clocks show. They pass over some where they go forward: a
+  gap.
+?
+The examples use:
+  $ echo 'Zone Etc/UTC 0 - UTC' >utc.zi
+
+Wrong:
+  $ printf 'Zone Test/One 0 - UTC 2000\n 1 - CET\n' >one.zi
+  $ echo 'Test/One,2000-01-01T00:30:00' | pzic convert --from local one.zi
+
+It prints:
+  row 1: RowSkipped
+
+Right:
+  $ printf 'Zone Test/One 0 - UTC 2000\n 1 - CET\n' >one.zi
+  $ echo 'Test/One,2000-01-01T00:30:00' | \
+  >   pzic convert --from local --ambiguous compatible one.zi
+?  A time of day that daylight saving time leaves out on one day of the year.
+  With `--ambiguous later` or `compatible` it is read by the UT offset before
+  the gap, and with `earlier` by the one after it.
+@RowRepeated?Clocks show the local time more than once.?  Clocks show the local time more than once.
+?  A local time that clocks show once. They show some again where they go back: a
+  fold.
+?
+The examples use:
+  $ echo 'Zone Etc/UTC 0 - UTC' >utc.zi
+
+Wrong:
+  $ printf 'Zone Test/One 1 - CET 2000\n 0 - UTC\n' >one.zi
+  $ echo 'Test/One,1999-12-31T23:30:00' | pzic convert --from local one.zi
+
+It prints:
+  row 1: RowRepeated
+
+Right:
+  $ printf 'Zone Test/One 1 - CET 2000\n 0 - UTC\n' >one.zi
+  $ echo 'Test/One,1999-12-31T23:30:00' | \
+  >   pzic convert --from local --ambiguous later one.zi
+?  A time of day in the hour that comes twice at the end of daylight saving time.
+  `--ambiguous earlier` or `compatible` takes the first instant, and `later` the
+  last.
 @ColumnTooLong?The column has more bytes than `--max-bytes` allows.?  The column has more bytes than `--max-bytes` allows.
 ?  At most 4,294,967,296 bytes, or the number given with the option. The message
   has no row number. The rows that were written are the first rows of the

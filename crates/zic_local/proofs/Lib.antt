@@ -5,3 +5,5 @@ pub mod Offsets
 pub mod Once
 pub mod Steps
 pub mod Walking
+pub mod Deciding
+pub mod Resolving

@@ -6,8 +6,8 @@ use Rattle.std.proofs.lemmas.List.{get_or_push, length_push}
 use Rattle.zic_base.specs.State.{Shown}
 use Rattle.zic_tzif.specs.Content.{Content}
 use Rattle.zic_tzif.proofs.AnswerLemmas.{one_answer}
-use Rattle.zic_local.specs.declared.disambiguation.Disambiguation.{Disambiguation}
-use Rattle.zic_local.specs.declared.disambiguation.Disambiguation.TheVariants as choice
+use Rattle.zic_plan.specs.declared.disambiguation.Disambiguation.{Disambiguation}
+use Rattle.zic_plan.specs.declared.disambiguation.Disambiguation.TheVariants as choice
 use Rattle.zic_local.specs.declared.disambiguation.Unresolved.{Unresolved}
 use Rattle.zic_local.specs.declared.disambiguation.Unresolved.TheVariants as unresolved
 use Rattle.zic_local.specs.declared.local_instants.Gap.{Gap}

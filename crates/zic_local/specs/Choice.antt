@@ -2,8 +2,8 @@
 -- `disambiguation` in ECMAScript's Temporal; `compatible` is what RFC 5545, 3.3.5, asks for.
 use Rattle.std.specs.Prelude.{◌≡◌, ℤ, ◌+ℤ◌, ◌≤ℤ◌, ◌⊎◌}
 use Rattle.zic_tzif.specs.Content.{Content}
-use Rattle.zic_local.specs.declared.disambiguation.Disambiguation.{Disambiguation}
-use Rattle.zic_local.specs.declared.disambiguation.Disambiguation.TheVariants as choice
+use Rattle.zic_plan.specs.declared.disambiguation.Disambiguation.{Disambiguation}
+use Rattle.zic_plan.specs.declared.disambiguation.Disambiguation.TheVariants as choice
 use Rattle.zic_local.specs.declared.disambiguation.Unresolved.{Unresolved}
 use Rattle.zic_local.specs.declared.disambiguation.Unresolved.TheVariants as unresolved
 use Rattle.zic_local.specs.declared.local_instants.Gap.{Gap}

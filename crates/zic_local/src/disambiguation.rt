@@ -1,19 +1,4 @@
-//! Which instant is meant by a local time that has none or several.
-
-/// What to take for a local time in a gap or in a fold. The names are those of ECMAScript's
-/// Temporal.
-#[derive(Clone, Copy, Debug, PartialEq, Eq)]
-pub enum Disambiguation {
-    /// Neither: only a local time with one instant will do.
-    Reject,
-    /// The first instant of a fold; in a gap the local time by the UT offset after it.
-    Earlier,
-    /// The last instant of a fold; in a gap the local time by the UT offset before it.
-    Later,
-    /// The first instant of a fold; in a gap the local time by the UT offset before it. RFC 5545,
-    /// 3.3.5.
-    Compatible,
-}
+//! Why no instant is meant by a local time.
 
 /// Why no instant is meant.
 #[derive(Clone, Copy, Debug, PartialEq, Eq)]

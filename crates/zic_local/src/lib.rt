@@ -10,7 +10,8 @@ mod local_time;
 mod lookup;
 mod reading;
 
-pub use disambiguation::{Disambiguation, Unresolved};
+pub use disambiguation::Unresolved;
 pub use local_instants::{Fold, Gap, LocalInstants};
 pub use local_time::LocalTime;
 pub use lookup::{instant, instants};
+pub use zic_plan::Disambiguation;

@@ -6,10 +6,11 @@ ghost use Rattle.zic_local.specs.LocalTime.{HaveOffsets, IsInRange, Tells};
 ghost use Rattle.zic_local.specs.Choice.{Means, IsUnresolved};
 ghost use Rattle.zic_local.specs.code.Walk.{HasNearOffset, IsInSpan, IsPassedAt};
 
-use crate::disambiguation::{Disambiguation, Unresolved};
+use crate::disambiguation::Unresolved;
 use crate::local_instants::{Gap, LocalInstants};
 use crate::reading::read_by;
 use zic_base::FARTHEST_FILE_OFFSET;
+use zic_plan::Disambiguation;
 use zic_tzif::{Answer, AnswerSpan, Zone};
 
 /// The farthest that an instant lies from its local time, in seconds.

@@ -4,6 +4,7 @@ ghost use Rattle.std.specs.Prelude.{◌≡◌};
 ghost use Rattle.zic_plan.specs.Layout.{HasPlainRows, has_count};
 
 use crate::delimiter::Delimiter;
+use crate::disambiguation::Disambiguation;
 
 /// What an instant counts from 1970-01-01T00:00:00 UT, without leap seconds.
 #[derive(Clone, Copy, Debug, PartialEq, Eq)]
@@ -14,13 +15,16 @@ pub enum Unit {
     Nanosecond,
 }
 
-/// How the field of the instant has it.
+/// How the field of the instant has it, or of the local time.
 #[derive(Clone, Copy, Debug, PartialEq, Eq)]
 pub enum TimeFrom {
     /// As a count of units.
     Count,
     /// As a date and a time of day with a UT offset, `2007-03-11T01:59:59-05:00`. RFC 3339, 5.6.
     Rfc3339,
+    /// As a date and a time of day on the clocks of the row's zone, `2007-03-11T01:59:59`. What is
+    /// chosen for gaps and folds tells the instant.
+    Local(Disambiguation),
 }
 
 /// Where the zone of a row comes from.
@@ -77,7 +81,7 @@ pub enum Header {
 /// What a row begins with.
 #[derive(Clone, Copy, Debug, PartialEq, Eq)]
 pub enum RowStart {
-    /// The name of its zone and its instant.
+    /// The name of its zone and its instant, or its local time.
     Fields,
     /// The bytes of its record, as they stand in the column, without its line end.
     Record,
@@ -98,7 +102,7 @@ pub enum AtFault {
 pub struct Layout {
     /// Where a row's zone comes from.
     pub zone: ZoneFrom,
-    /// The index of the field of the instant, from 0.
+    /// The index of the field of the instant, or of the local time, from 0.
     pub time: usize,
     /// How that field has it.
     pub from: TimeFrom,

@@ -3,9 +3,11 @@
 #![tactic(auto)]
 
 mod delimiter;
+mod disambiguation;
 mod layout;
 mod plan;
 
 pub use delimiter::Delimiter;
+pub use disambiguation::Disambiguation;
 pub use layout::{AtFault, FieldCount, Header, Layout, Records, RowStart, TimeFrom, Unit, ZoneFrom};
 pub use plan::{MAX_BYTES, MAX_OF_PIECE, MAX_ROWS, MAX_WORKERS, Plan};

@@ -23,6 +23,13 @@ power_few unit.Millisecond = omega arith
 power_few unit.Microsecond = omega arith
 power_few unit.Nanosecond = omega arith
 
+-- as many units as numbers of so many digits
+pub power_is : (u : Unit) → 10 ^ fraction_digits u ≡ units_of_second u
+power_is unit.Second = refl
+power_is unit.Millisecond = refl
+power_is unit.Microsecond = refl
+power_is unit.Nanosecond = refl
+
 -- a power of ten that fits 32 bits
 pub power_below : (u : Unit) (len : ℕ) → 10 ^ (fraction_digits u - len) < 2 ^ 32
 power_below u len =

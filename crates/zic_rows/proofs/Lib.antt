@@ -11,3 +11,4 @@ pub mod MarchDates
 pub mod DayTexts
 pub mod ClockTexts
 pub mod DateTimes
+pub mod LocalTimes

@@ -37,11 +37,11 @@ date_text-of_day day c supported is =
     ap (λ (y : ℤ). T y counted.month counted.day) same.0 ∙ ap (λ (m : ℕ). T c.year m counted.day) same.1 ∙ ap (λ (d : ℕ). T c.year c.month d) same.2
 
 -- the day and the second of local time, which is counted from 0001-01-01 in the code
-day_at-counted : (t : ℤ) (seconds : ℕ) → t +ℤ pos (719_162 * 86_400) ≡ pos seconds → day_at t ≡ pos (seconds / 86_400) -ℤ pos 719_162
+pub day_at-counted : (t : ℤ) (seconds : ℕ) → t +ℤ pos (719_162 * 86_400) ≡ pos seconds → day_at t ≡ pos (seconds / 86_400) -ℤ pos 719_162
 day_at-counted (pos a) seconds e = omega (arith, ints)
 day_at-counted (negsuc a) seconds e = omega (arith, ints)
 
-second_at-counted : (t : ℤ) (seconds : ℕ) → t +ℤ pos (719_162 * 86_400) ≡ pos seconds → second_at t ≡ seconds % 86_400
+pub second_at-counted : (t : ℤ) (seconds : ℕ) → t +ℤ pos (719_162 * 86_400) ≡ pos seconds → second_at t ≡ seconds % 86_400
 second_at-counted (pos a) seconds e = omega (arith, ints)
 second_at-counted (negsuc a) seconds e = omega (arith, ints)
 

@@ -8,7 +8,8 @@ use Rattle.zic_base.specs.State.{Shown}
 use Rattle.zic_plan.specs.declared.layout.Unit.{Unit}
 use Rattle.zic_plan.specs.declared.layout.Unit.TheVariants as unit
 use Rattle.zic_rows.specs.declared.limit.TheConstants.{MAX_DIGITS}
-use Rattle.zic_rows.specs.Row.{local_text, state_text}
+use Rattle.zic_rows.specs.Local.{local_time}
+use Rattle.zic_rows.specs.Row.{civil_text, local_text, state_text}
 
 -- the digits of a fraction of a second
 abbrev pub fraction_digits : Unit → ℕ
@@ -46,6 +47,10 @@ fraction_text unit.Second n = []
 fraction_text unit.Millisecond n = 46 ∷ three_digits n
 fraction_text unit.Microsecond n = 46 ∷ (three_digits (n / 1000) ++ three_digits (n % 1000))
 fraction_text unit.Nanosecond n = 46 ∷ (three_digits (n / 1_000_000) ++ three_digits (n / 1000 % 1000) ++ three_digits (n % 1000))
+
+-- the local time of a count from 1970-01-01T00:00:00 on the clocks of a place, as `1970-01-01T00:00:00.000`
+unfoldable pub local_count_text : Unit → ℤ → List ℕ
+local_count_text u count = civil_text (local_time (second_of u count)) ++ fraction_text u (fraction_of u count)
 
 -- what follows a count of this whole second and so many units: its local time and the state, as `,1970-01-01T00:00:00.000,+00:00:00,0,UTC` and a newline
 unfoldable pub timed_rest_text : Unit → ℤ → ℕ → Shown → List ℕ

@@ -1,6 +1,6 @@
 -- Local time: the civil time of a second, which counts from 1970-01-01T00:00:00 of local time. It is `zic_calendar`'s (`IsOnDay`,
 -- `IsAtSecond`), computed; the law `local_time_is_civil` says so.
-use Rattle.std.specs.Prelude.{ℕ, zero, suc, ◌+◌, ◌/◌, ◌%◌, ℤ, pos, ◌-ℤ◌, int_le, unsigned_abs, if◌then◌else◌}
+use Rattle.std.specs.Prelude.{ℕ, zero, suc, ◌+◌, ◌/◌, ◌%◌, ℤ, pos, neg_ℤ, ◌-ℤ◌, ◌≤ℤ◌, int_le, unsigned_abs, if◌then◌else◌}
 use Rattle.std.specs.Int.{int_div_euclid, int_rem_euclid}
 use Rattle.zic_calendar.specs.declared.civil_time.Civil.{Civil}
 use Rattle.zic_calendar.specs.Calendar.{year_start, month_start, IsSupportedDay}
@@ -44,6 +44,10 @@ civil_of day second = record {
 -- the civil time of a second, in the years 1 to 9999
 unfoldable pub local_time : ℤ → Civil
 local_time t = civil_of (day_at t) (second_at t)
+
+-- a second of the years 1 to 9999: 0001-01-01T00:00:00 to 9999-12-31T23:59:59
+abbrev pub IsLocalSecond : ℤ → Type 0
+IsLocalSecond t = (neg_ℤ (pos 62_135_596_800) ≤ℤ t) × (t ≤ℤ pos 253_402_300_799)
 
 -- on each day of the years 1 to 9999 that is the civil time
 abbrev pub IsCivilTime : Type 0

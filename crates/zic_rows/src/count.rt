@@ -1,6 +1,6 @@
 //! Instants as counts of units, perhaps parts of a second.
 
-ghost use Rattle.std.specs.Prelude.{◌≡◌, ◌<◌, ◌++◌, ◌^◌, ◌≤◌, ◌↔◌, pos, IfSome, IsTrue, OnOk};
+ghost use Rattle.std.specs.Prelude.{◌≡◌, ◌<◌, ◌++◌, ◌^◌, ◌≤◌, ◌↔◌, ◌*ℤ◌, ◌+ℤ◌, pos, IfSome, IsTrue, OnOk};
 ghost use Rattle.std.specs.Fmt.{signed_decimal};
 ghost use Rattle.zic_rows.specs.Count.{count_of, fraction_of, fraction_digits, fraction_text};
 ghost use Rattle.zic_rows.specs.Count.{second_of, three_digits, units_of_second};
@@ -109,6 +109,20 @@ pub fn moment_of(count: i128, unit: Unit) -> Moment
     Moment {
         second,
         fraction: fraction as u32,
+    }
+}
+
+/// Returns the count of a whole second and of so many units after it.
+pub fn count_from(second: i64, fraction: u32, unit: Unit) -> i128
+    ensures { result ≡ (second *ℤ pos (units_of_second unit)) +ℤ pos fraction }
+{
+    let second = i128::from(second);
+    let fraction = i128::from(fraction);
+    match unit {
+        Unit::Second => second + fraction,
+        Unit::Millisecond => second * 1_000 + fraction,
+        Unit::Microsecond => second * 1_000_000 + fraction,
+        Unit::Nanosecond => second * 1_000_000_000 + fraction,
     }
 }
 

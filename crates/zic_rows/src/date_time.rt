@@ -1,12 +1,13 @@
 //! Dates with a time of day in fields, as `2007-03-11T01:59:59`: RFC 3339, 5.6.
 
-ghost use Rattle.std.specs.Prelude.{◌≡◌, ◌<◌, ◌≤◌, ◌*ℤ◌, ◌+ℤ◌, ◌-ℤ◌, ◌^◌, drop, length, pos, take, unsigned_abs, IfSome};
-ghost use Rattle.zic_rows.specs.Count.{units_of_second};
+ghost use Rattle.std.specs.Prelude.{◌≡◌, ◌<◌, ◌≤◌, ◌-ℤ◌, ◌^◌, drop, length, take, unsigned_abs, IfSome};
+ghost use Rattle.zic_rows.specs.Count.{second_of, units_of_second};
 ghost use Rattle.zic_rows.specs.DateTime.{civil_in, civil_second, fraction_in, has_marks, is_clock, is_date, second_in};
 ghost use Rattle.zic_rows.specs.DateTime.{local_count_of, offset_in, offset_place, offset_size, rfc3339_count_of};
+ghost use Rattle.zic_rows.specs.Local.{IsLocalSecond};
 ghost use Rattle.zic_rows.specs.code.Civils.{IsCivil};
 
-use crate::count::fraction_digits;
+use crate::count::{count_from, fraction_digits};
 use crate::instant::short_number;
 use zic_calendar::{Civil, On, SECONDS_OF_DAY, day_of, days_in_month};
 use zic_plan::Unit;
@@ -17,14 +18,16 @@ const DATE_TIME: usize = 19;
 /// Returns the local time of a field, as a count of units from 1970-01-01T00:00:00 on the clocks of
 /// the place: `YYYY-MM-DDThh:mm:ss`, with a `T` or a space between date and time of day, and perhaps
 /// a fraction of at most as many digits as one of these units has. RFC 3339, 5.6, without an offset.
+/// The years are 1 to 9999.
 #[tactic(auto, unfolding(crate::specs::DateTime::local_count_of))]
 pub fn parse_local_time(field: &[u8], unit: Unit) -> Option<i128>
-    ensures { result ≡ local_count_of unit field.now }
+    ensures value { result ≡ local_count_of unit field.now }
+    ensures local { IfSome result (λ count. IsLocalSecond (second_of unit count)) }
 {
     let (date_time, fraction) = split(field);
     let second = parse_second(date_time)?;
     let units = parse_fraction(fraction, unit)?;
-    Some(count(second, units, unit))
+    Some(count_from(second, units, unit))
 }
 
 /// Returns the instant of a field as RFC 3339 writes it, as a count of units from
@@ -40,7 +43,7 @@ pub fn parse_rfc3339(field: &[u8], unit: Unit) -> Option<i128>
     let second = parse_second(date_time)?;
     let offset = parse_offset(offset)?;
     let units = parse_fraction(fraction, unit)?;
-    Some(count(less_offset(second, offset), units, unit))
+    Some(count_from(less_offset(second, offset), units, unit))
 }
 
 /// Splits a text into a date with a time of day and what follows it.
@@ -61,25 +64,11 @@ fn less_offset(second: i64, offset: i64) -> i64
     second - offset
 }
 
-/// Returns whole seconds and a fraction as a count of units.
-fn count(second: i64, units: u32, unit: Unit) -> i128
-    requires near { unsigned_abs second < 2 ^ 41 }
-    ensures { result ≡ (second *ℤ pos (units_of_second unit)) +ℤ pos units }
-{
-    let second = i128::from(second);
-    let units = i128::from(units);
-    match unit {
-        Unit::Second => second + units,
-        Unit::Millisecond => second * 1_000 + units,
-        Unit::Microsecond => second * 1_000_000 + units,
-        Unit::Nanosecond => second * 1_000_000_000 + units,
-    }
-}
-
 /// Returns the second of a text of 19 bytes, from 1970-01-01T00:00:00 of the same clocks.
 fn parse_second(text: &[u8]) -> Option<i64>
     ensures value { result ≡ second_in text.now }
     ensures near { IfSome result (λ second. unsigned_abs second < 2 ^ 40) }
+    ensures local { IfSome result IsLocalSecond }
 {
     let civil = parse_civil(text)?;
     Some(second_of(&civil))
@@ -141,6 +130,7 @@ fn second_of(civil: &Civil) -> i64
     requires { IsCivil civil.now }
     ensures value { result ≡ civil_second civil.now }
     ensures near { unsigned_abs result < 2 ^ 40 }
+    ensures local { IsLocalSecond result }
 {
     let day = day_of(civil.year, civil.month, On::Day(civil.day));
     let clock = civil.hour as u32 * 3600 + civil.minute as u32 * 60 + civil.second as u32;
@@ -150,7 +140,8 @@ fn second_of(civil: &Civil) -> i64
 /// Returns the units of a fraction of a second: none of an empty text.
 #[tactic(auto, unfolding(crate::specs::DateTime::fraction_in))]
 fn parse_fraction(text: &[u8], unit: Unit) -> Option<u32>
-    ensures { result ≡ fraction_in unit text.now }
+    ensures value { result ≡ fraction_in unit text.now }
+    ensures below { IfSome result (λ n. n < units_of_second unit) }
 {
     match text {
         [] => Some(0),

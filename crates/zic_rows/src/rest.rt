@@ -112,4 +112,11 @@ impl KeptRest {
         text.extend_from_slice(&self.octets[20..20 + self.len])?;
         Ok(())
     }
+
+    /// Appends the text of the state.
+    pub(crate) fn push_state(&self, text: &mut Vec<u8>) -> Result<(), AllocError>
+        ensures { OnOk result (text.new.items ≡ text.old.items ++ state_text self.now.state) }
+    {
+        text.extend_from_slice(&self.octets[20..20 + self.len])
+    }
 }

@@ -3,7 +3,7 @@
 ghost use Rattle.std.specs.Prelude.{◌≡◌, ◌+ℤ◌, ◌*◌, ◌<◌, ◌++◌, pos, OnOk};
 ghost use Rattle.zic_base.specs.State.{shown};
 ghost use Rattle.zic_rows.specs.Instant.{IsRowInstant, IsRowOffset};
-ghost use Rattle.zic_rows.specs.Row.{row_text, rest_text, IsRowState};
+ghost use Rattle.zic_rows.specs.Row.{row_text, rest_text, state_text, IsRowState};
 ghost use Rattle.zic_rows.specs.Count.{counted_rest_text, counted_row_text, second_of};
 
 use crate::count::moment_of;
@@ -145,6 +145,14 @@ impl RowWriter {
         self.rest.turn_to((seconds / DAY as u64) as u32);
         let second = (seconds % DAY as u64) as u32;
         self.rest.push_counted(text, second, unit, moment.fraction)
+    }
+
+    /// Appends the text of the state at the end of a row: the UT offset, the daylight flag and the
+    /// abbreviation after a comma each, and a newline. Where memory runs out, a part may be there.
+    pub fn push_state(&self, text: &mut Vec<u8>) -> Result<(), AllocError>
+        ensures { OnOk result (text.new.items ≡ text.old.items ++ state_text self.now) }
+    {
+        self.rest.push_state(text)
     }
 }
 

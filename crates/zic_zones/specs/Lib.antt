@@ -4,4 +4,5 @@ pub mod Source
 pub mod Tree
 pub mod Growing
 pub mod Laws
+pub mod Resolved
 pub mod code

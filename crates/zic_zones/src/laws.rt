@@ -1,6 +1,6 @@
 //! Laws of zones by name, each the contract of a function. No function here does anything.
 
-ghost use Rattle.zic_zones.specs.Laws.{RepliesAgree};
+ghost use Rattle.zic_zones.specs.Laws.{LocalTimesResolve, RepliesAgree};
 
 use zic_files::laws::files_stay;
 
@@ -10,3 +10,8 @@ pub fn replies_agree()
 {
     files_stay();
 }
+
+/// States that the function `resolved` tells what each choice means by the local times of a file.
+pub fn local_times_resolve()
+    ensures { LocalTimesResolve }
+{}

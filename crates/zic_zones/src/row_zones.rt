@@ -2,14 +2,20 @@
 
 ghost use Rattle.std.specs.Prelude.{◌≡◌, ◌<◌, ◌≤◌, ℤ, length, IfSome, slice_get, slice_range};
 ghost use Rattle.zic_files.specs.Sound.{AreSoundFiles};
+ghost use Rattle.zic_local.specs.LocalTime.{IsInRange};
 ghost use Rattle.zic_posix.specs.Instants.{Includes};
 ghost use Rattle.zic_rows.specs.Row.{IsRowState};
+ghost use Rattle.zic_zones.specs.Resolved.{resolved};
 ghost use Rattle.zic_zones.specs.Zones.{AnswersAt, IsShownAt, ShowsThroughout, number_of};
 
+use crate::laws::local_times_resolve;
 use crate::ready::Ready;
 use crate::row_states::RowStates;
 use std::marker::Model;
 use zic_files::Files;
+use zic_local::laws::{choices_mean_one, instants_are_near};
+use zic_local::{Unresolved, instant};
+use zic_plan::Disambiguation;
 use zic_rows::RowWriter;
 use zic_tzif::{Answer, Instants};
 
@@ -97,6 +103,26 @@ impl<'a> RowZones<'a> {
             },
             Answer::Unspecified => unreachable!(),
         }
+    }
+
+    /// Returns the instant that is meant by a local time of a file's clocks, both in seconds, or why
+    /// none is, as [`zic_local::instant`] does.
+    pub fn instant(
+        &self,
+        file: usize,
+        local: i64,
+        disambiguation: Disambiguation,
+    ) -> Result<i64, Unresolved>
+        requires within { file < length self.now }
+        requires range { IsInRange local }
+        ensures { IfSome (slice_get self.now file)
+            (λ f. result ≡ resolved f.image.octets local disambiguation) }
+    {
+        self.are_sound();
+        instants_are_near();
+        choices_mean_one();
+        local_times_resolve();
+        instant(self.files.zone(file), local, disambiguation)
     }
 
     /// Returns the states that the files show, by number.

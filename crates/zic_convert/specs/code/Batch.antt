@@ -1,5 +1,5 @@
 -- Some records of a piece, column by column: each column is told by those before it.
-use Rattle.std.specs.Prelude.{◌≡◌, ◌≢◌, ◌<◌, ◌≤◌, true, ℕ, ℤ, pos, List, Option, Some, None, IfSome, All, length, map, slice_index, slice_index_or, string_bytes, take}
+use Rattle.std.specs.Prelude.{◌≡◌, ◌≢◌, ◌<◌, ◌≤◌, true, ℕ, ℤ, pos, List, Option, Some, None, Result, Ok, Err, MatchResult, IfSome, All, length, map, slice_index, slice_index_or, string_bytes, take}
 use Rattle.zic_base.specs.Check.{first_failed}
 use Rattle.zic_base.specs.State.{Shown}
 use Rattle.zic_base.specs.declared.row_fault.RowKind.{RowKind}
@@ -13,7 +13,9 @@ use Rattle.zic_columns.specs.declared.fields.Span.{Span}
 use Rattle.zic_columns.specs.declared.fields.Wanted.{Wanted}
 use Rattle.zic_files.specs.File.{File}
 use Rattle.zic_plan.specs.Layout.{has_count}
+use Rattle.zic_plan.specs.declared.disambiguation.Disambiguation.{Disambiguation}
 use Rattle.zic_plan.specs.declared.layout.Layout.{Layout}
+use Rattle.zic_plan.specs.declared.layout.TimeFrom.{TimeFrom}
 use Rattle.zic_plan.specs.declared.layout.TimeFrom.TheVariants as from
 use Rattle.zic_plan.specs.declared.layout.Unit.{Unit}
 use Rattle.zic_plan.specs.declared.layout.Unit.TheVariants as unit
@@ -21,15 +23,17 @@ use Rattle.zic_plan.specs.declared.layout.ZoneFrom.{ZoneFrom}
 use Rattle.zic_plan.specs.declared.layout.ZoneFrom.TheVariants as zone
 use Rattle.zic_rows.specs.Count.{second_of}
 use Rattle.zic_rows.specs.Instant.{IsRowInstant}
+use Rattle.zic_rows.specs.Local.{IsLocalSecond}
 use Rattle.zic_rows.specs.PlainTime.{IsPlainTime}
 use Rattle.zic_rows.specs.declared.row_time.RowTime.{RowTime}
 use Rattle.zic_zones.specs.States.{HasState}
 use Rattle.zic_zones.specs.Zones.{AnswersAt, IsShownAt, number_of, zone_in}
-use Rattle.zic_convert.specs.LayoutRows.{checks_of, count_in}
+use Rattle.zic_convert.specs.LayoutRows.{checks_of, count_in, file_at, time_by}
 use Rattle.zic_convert.specs.code.Row.{put_back}
 use Rattle.zic_convert.specs.declared.piece.Piece.{Piece}
 use Rattle.zic_convert.specs.declared.batch.Batch.{Batch}
 use Rattle.zic_convert.specs.declared.batch.TheConstants.{NO_TIME}
+use Rattle.zic_convert.specs.declared.lookup.Counts.{Counts}
 use Rattle.zic_convert.specs.declared.lookup.Lookup.{Lookup}
 use Rattle.zic_convert.specs.declared.quick.Known.{Known}
 use Rattle.zic_convert.specs.declared.quick.QuickRow.{QuickRow}
@@ -63,16 +67,39 @@ IfTime time holds = time.second ≢ NO_TIME → holds time
 abbrev pub record_of : Piece → Record → CsvRecord
 record_of piece given = put_back piece.layout.now.delimiter (record_at piece.bytes.now given)
 
--- the number of the file of a record's zone, and the count of its instant
+-- the number of the file of a record's zone, the count in its field, and the count of its instant, or the fault of a row that has none
 abbrev pub zone_at : Piece → Record → Option ℕ
 zone_at piece given = number_of piece.zones.now (zone_in piece.layout.now.zone (record_at piece.bytes.now given).fields)
 
 abbrev pub count_at : Piece → Record → Option ℤ
 count_at piece given = count_in piece.layout.now (record_of piece given).fields
 
+abbrev pub time_at : Piece → Record → Result ℤ RowKind
+time_at piece given = time_by piece.layout.now (file_at piece.zones.now (zone_at piece given)) (count_at piece given)
+
 -- the fault of a record of a piece, as the row of a number
 abbrev pub fault_at : Piece → ℕ → Record → Option RowKind
-fault_at piece number given = first_failed (checks_of piece.layout.now piece.zones.now piece.most number (record_at piece.bytes.now given).fields (count_at piece given))
+fault_at piece number given = first_failed (checks_of piece.layout.now piece.zones.now piece.most number (record_at piece.bytes.now given).fields (time_at piece given))
+
+-- fields have local times
+abbrev pub IsLocal : TimeFrom → Type 0
+IsLocal time = (choice : Disambiguation) × (time ≡ from.Local choice)
+
+-- a count of a layout's fields, which is in the years 1 to 9999 where it is one of local time
+abbrev pub IsCountFor : TimeFrom → Unit → ℤ → Type 0
+IsCountFor from.Count u count = Prim.Unit {0}
+IsCountFor from.Rfc3339 u count = Prim.Unit {0}
+IsCountFor (from.Local choice) u count = IsLocalSecond (second_of u count)
+
+-- the counts that the record's field has and that its instant is of
+pub record AreCountsOf (layout : Layout) (file : Option File) (asked : Option ℤ) (counts : Counts) : Type 0 where
+  pub asked_is : asked ≡ Some counts.asked
+  pub sound : IsCountFor layout.from layout.unit counts.asked
+  pub time : time_by layout file asked ≡ Ok counts.count
+
+-- or the fault of its row
+abbrev pub AreTimesOf : Layout → Option File → Option ℤ → Result Counts RowKind → Type 0
+AreTimesOf layout file asked times = MatchResult times (AreCountsOf layout file asked) (λ kind. time_by layout file asked ≡ Err kind)
 
 -- where all rows are in one zone, the number is that of its file
 abbrev pub IsNamed : ZoneFrom → List File → Option ℕ → Type 0
@@ -136,23 +163,28 @@ pub record IsQuickRow (piece : Piece) (given : Record) (row : QuickRow) : Type 0
   pub time : IsTimeIn piece.layout.now.unit piece.bytes.now given.time row.time
   pub answers : AnswersAt piece.zones.now row.file row.time.second row.text.now
 
+-- where there are counts, those of an instant
+abbrev pub count_of_times : Result Counts RowKind → Option ℤ
+count_of_times (Ok counts) = Some counts.count
+count_of_times (Err kind) = None
+
 -- what a record asks for
 pub record IsLookup (piece : Piece) (given : Record) (lookup : Lookup) : Type 0 where
   pub file : lookup.file ≡ zone_at piece given
-  pub count : lookup.count ≡ count_at piece given
-  pub state : IsStateFor piece lookup.file lookup.count lookup.state
+  pub times : AreTimesOf piece.layout.now (file_at piece.zones.now (zone_at piece given)) (count_at piece given) lookup.times
+  pub state : IsStateFor piece lookup.file (count_of_times lookup.times) lookup.state
 
--- the file of a record's zone, and its count, which a row may have
+-- the file of a record's zone, and its counts, which a row may have
 pub record IsRowQuery (piece : Piece) (given : Record) (query : RowQuery) : Type 0 where
   pub file : zone_at piece given ≡ Some query.file
-  pub count : count_at piece given ≡ Some query.count
-  pub may : IsRowInstant (second_of piece.layout.now.unit query.count)
+  pub counts : AreCountsOf piece.layout.now (file_at piece.zones.now (zone_at piece given)) (count_at piece given) query.counts
+  pub may : IsRowInstant (second_of piece.layout.now.unit query.counts.count)
 
 -- the same of a lookup, and the row of this number has no fault
 pub record IsSoundQuery (piece : Piece) (number : ℕ) (given : Record) (lookup : Lookup) (query : RowQuery) : Type 0 where
   pub sound : fault_at piece number given ≡ None
   pub is : IsRowQuery piece given query
-  pub state : IsShownAt piece.zones.now query.file (second_of piece.layout.now.unit query.count) lookup.state
+  pub state : IsShownAt piece.zones.now query.file (second_of piece.layout.now.unit query.counts.count) lookup.state
 
 -- A pen shows the state of its number of its file, wherever the file shows that state.
 abbrev pub IsPen : List File → RowPen → Type 0

@@ -70,7 +70,7 @@ EndsInColumn layout most known why out files = IfSome known (λ column.
 
 -- the column's own header with names added, but for the delimiter of the column
 abbrev pub own_line_in : Layout → List ℕ → List ℕ
-own_line_in layout column = header_of layout.start layout.delimiter (exchanged layout.delimiter (own_header layout.header (texts_by layout.records (strip_bom column))))
+own_line_in layout column = header_of layout.start layout.from layout.delimiter (exchanged layout.delimiter (own_header layout.header (texts_by layout.records (strip_bom column))))
 
 -- The bytes that are left of a column have its records after those that are a header.
 abbrev pub BeginsRows : Layout → List ℕ → Option (List ℕ) → Type 0

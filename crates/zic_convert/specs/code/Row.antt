@@ -1,6 +1,5 @@
 -- Rows as the code has them.
-use Rattle.std.specs.Prelude.{◌≡◌, ◌+◌, ℕ, ℤ, List, [], ◌∷◌, ◌++◌, length, map, Option, Some, None, MatchOption}
-use Rattle.std.specs.Fmt.{signed_decimal}
+use Rattle.std.specs.Prelude.{◌≡◌, ◌+◌, ℕ, List, [], ◌∷◌, ◌++◌, length, map, Option, Some, None, MatchOption}
 use Rattle.std.specs.List.{concat, flat_map}
 use Rattle.zic_columns.specs.Exchange.{exchanged}
 use Rattle.zic_columns.specs.Lines.{open_record, records_by}
@@ -41,13 +40,10 @@ taken_rows delimiter taken.End pieces = []
 abbrev pub fields_of_all : List CsvRecord → List (List (List ℕ))
 fields_of_all row_records = map (λ (w : CsvRecord). w.fields) row_records
 
--- what a row begins with, before the delimiter is put back: with an instant as its field has it, or by its count
+-- what a row begins with, before the delimiter is put back, by the text of the field
 abbrev pub field_start : RowStart → List ℕ → List ℕ → List ℕ → List ℕ
 field_start start.Fields own name field = name ++ 44 ∷ field
 field_start start.Record own name field = own
-
-abbrev pub comma_start : RowStart → List ℕ → List ℕ → ℤ → List ℕ
-comma_start start own name count = field_start start own name (signed_decimal count)
 
 -- the text of some rows, how many there are, the fault of the row after them that ends the run, or none, and the faults that they have
 pub record RowsOf : Type 0 where

@@ -7,3 +7,8 @@ pub state_of-requires : goal.state_of-requires
 state_of-requires c =
     let piece = c.args.piece.now in
     rw c.requires.file (number_within piece.zones.now (zone_in piece.layout.now.zone (record_at piece.bytes.now c.args.given.now).fields))
+
+pub times_of-times-requires-clause-file : goal.times_of-times-requires-clause-file
+times_of-times-requires-clause-file c =
+    let piece = c.args.piece.now in
+    rw c.requires.file (number_within piece.zones.now (zone_in piece.layout.now.zone (record_at piece.bytes.now c.args.given.now).fields))

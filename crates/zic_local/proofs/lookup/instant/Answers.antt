@@ -1,5 +1,5 @@
 use Rattle.std.proofs.Common.{◌≡◌, ℤ, inl, inr, ◌+ℤ◌, ◌∷◌, [], ◌++◌, to_z-of_z, w64, FitsSigned, sym, subst, rules}
-use Rattle.zic_local.specs.declared.disambiguation.Disambiguation.{Disambiguation}
+use Rattle.zic_plan.specs.declared.disambiguation.Disambiguation.{Disambiguation}
 use Rattle.zic_local.specs.declared.local_instants.LocalInstants.TheVariants as instants
 use Rattle.zic_local.specs.LocalTime.{AreInstantsOf, IsFoldOf, Tells}
 use Rattle.zic_local.specs.Choice.{Means}

@@ -1,0 +1,28 @@
+use Rattle.std.proofs.Common.{◌≡◌, List, subst, to_z-of_z}
+use Rattle.std.specs.Prelude.{IfSome, slice_get}
+use Rattle.zic_base.proofs.Elements.{all_got, got}
+use Rattle.zic_base.proofs.Options.{if_at}
+use Rattle.zic_files.specs.File.{File}
+use Rattle.zic_files.specs.Sound.{IsSoundFile}
+use Rattle.zic_zones.specs.Resolved.{resolved}
+use Rattle.zic_zones.proofs.row_zones.RowZones.instant.Goals as goal
+
+pub instant-requires-clause-offsets : goal.instant-requires-clause-offsets
+instant-requires-clause-offsets c =
+    let files = c.args.self.now in
+    let (file, at) = got files c.args.file c.requires.within in
+    let zone = subst (λ (l : List File). IfSome (slice_get l c.args.file) (λ f. c.zone.result.now ≡ f.image.content)) c.self.view_is c.zone.ensures.zone in
+    let same = if_at (slice_get files c.args.file) (λ (f : File). c.zone.result.now ≡ f.image.content) file zone at in
+    let read = (all_got IsSoundFile files c.args.file file c.are_sound.ensures.each at).read in
+    rw same (c.instants_are_near.ensures.offsets file.image.octets file.image.content read)
+
+pub returns : goal.returns
+returns c =
+    let files = c.args.self.now in
+    let (file, at) = got files c.args.file c.requires.within in
+    let zone = subst (λ (l : List File). IfSome (slice_get l c.args.file) (λ f. c.zone.result.now ≡ f.image.content)) c.self.view_is c.zone.ensures.zone in
+    let same = if_at (slice_get files c.args.file) (λ (f : File). c.zone.result.now ≡ f.image.content) file zone at in
+    let read = (all_got IsSoundFile files c.args.file file c.are_sound.ensures.each at).read in
+    let meant = resolved file.image.octets c.args.local c.args.disambiguation in
+    rw at (c.choices_mean_one.ensures file.image.content c.args.local c.args.disambiguation c.instant.result meant
+    (rw (to_z-of_z c.ranges.local, same) at c.instant.ensures) (c.local_times_resolve.ensures file.image.octets file.image.content read c.args.local c.args.disambiguation))

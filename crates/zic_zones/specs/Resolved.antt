@@ -1,0 +1,10 @@
+-- What is meant by a local time, as a function of a file's bytes: for definitions that are functions themselves.
+use Rattle.std.specs.Prelude.{ℕ, ℤ, List, Result}
+use Rattle.zic_plan.specs.declared.disambiguation.Disambiguation.{Disambiguation}
+use Rattle.zic_local.specs.declared.disambiguation.Unresolved.{Unresolved}
+use Rattle.zic_local.proofs.Resolving.{resolved_by}
+
+-- The instant that is meant by a local time, or why none is: of the bytes of a file the one thing of which `Means` or `IsUnresolved` holds, as
+-- the law `LocalTimesResolve` says. Of bytes that are no file it says nothing.
+unfoldable pub resolved : List ℕ → ℤ → Disambiguation → Result ℤ Unresolved
+resolved octets local disambiguation = resolved_by octets local disambiguation
