@@ -154,7 +154,7 @@ static BUILD: [Word; 7] = [
     EXPLAIN,
 ];
 
-static CONVERT: [Word; 21] = [
+static CONVERT: [Word; 22] = [
     Word {
         name: "SOURCE",
         help: "A file of Rule, Zone and Link lines",
