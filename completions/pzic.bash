@@ -12,7 +12,7 @@ _pzic() {
     case ${COMP_WORDS[1]} in
     check) options='--workers --zone-piece --explain --help' ;;
     build) options='--links --sync --workers --zone-piece --explain --help' ;;
-    convert) options='--workers --zone-piece --row-piece --max-rows --max-bytes --tree --header --skip-header --zone --zone-field --time-field --delimiter --unit --from --append --keep-going --faults --progress --explain --help' ;;
+    convert) options='--workers --zone-piece --row-piece --max-rows --max-bytes --tree --header --skip-header --zone --zone-field --time-field --delimiter --unit --from --records --append --keep-going --faults --progress --explain --help' ;;
     show) options='--local --explain --help' ;;
     dump) options='--from --to --explain --help' ;;
     explain)
@@ -38,6 +38,11 @@ _pzic() {
     --unit)
         # shellcheck disable=SC2207
         COMPREPLY=($(compgen -W 's ms us ns' -- "$current"))
+        return
+        ;;
+    --records)
+        # shellcheck disable=SC2207
+        COMPREPLY=($(compgen -W 'csv lines' -- "$current"))
         return
         ;;
     --from)

@@ -1,8 +1,8 @@
 #!/usr/bin/env bash
 # Converts columns of 100,000 rows over all zones of the release, and compares each row with zoneinfo and reader.py.
 # It converts by the source and by trees of its files, over the program's files and those of the system's zic, by each option for
-# other columns. It compares what `show --local` prints near changes with zoneinfo too, and rows of local times by each choice
-# for gaps and folds.
+# other columns, and columns of lines with stray double quotes by Python's csv module. It compares what `show --local` prints near
+# changes with zoneinfo too, and rows of local times by each choice for gaps and folds.
 # Needs: tzdata, zic
 set -euo pipefail
 cd "$(dirname "${BASH_SOURCE[0]}")/../.."
@@ -15,6 +15,8 @@ zic -b fat -d "$work/fat" "$release"
 zic -b slim -d "$work/slim" "$release"
 python3 tests/outside/columns.py "$program" "$release" "$work" | sed 's/^/columns: /'
 python3 tests/outside/layouts.py "$program" "$release" "$work" | sed 's/^/columns: /'
+mkdir "$work/lines"
+python3 tests/outside/lines.py "$program" "$work/lines" | sed 's/^/columns: /'
 python3 tests/outside/local_times.py "$program" "$work" | sed 's/^/columns: /'
 python3 tests/outside/local_columns.py "$program" "$release" "$work" | sed 's/^/columns: /'
 python3 tests/outside/tree_columns.py "$program" "$release" "$work" | sed 's/^/columns: /'

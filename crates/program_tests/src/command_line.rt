@@ -63,31 +63,31 @@ static REQUESTS: [(&str, &str); 21] = [
     ),
     (
         "pzic convert a",
-        "Convert(Conversion { zones: Source(\"a\"), plan: Plan { workers: 4, zone_piece: 16, row_piece: 1024, max_rows: 100000000, max_bytes: 4294967296 }, layout: Layout { zone: Field(0), time: 1, from: Count, count: Exactly(2), unit: Second, delimiter: Delimiter { byte: 44 }, header: Absent, start: Fields, at_fault: End }, faults: None, progress: false })",
+        "Convert(Conversion { zones: Source(\"a\"), plan: Plan { workers: 4, zone_piece: 16, row_piece: 1024, max_rows: 100000000, max_bytes: 4294967296 }, layout: Layout { zone: Field(0), time: 1, from: Count, count: Exactly(2), unit: Second, delimiter: Delimiter { byte: 44 }, records: Csv, header: Absent, start: Fields, at_fault: End }, faults: None, progress: false })",
     ),
     (
         "pzic convert --workers 1 --zone-piece 2 a --row-piece 65536 --max-rows 0 --max-bytes 0",
-        "Convert(Conversion { zones: Source(\"a\"), plan: Plan { workers: 1, zone_piece: 2, row_piece: 65536, max_rows: 0, max_bytes: 0 }, layout: Layout { zone: Field(0), time: 1, from: Count, count: Exactly(2), unit: Second, delimiter: Delimiter { byte: 44 }, header: Absent, start: Fields, at_fault: End }, faults: None, progress: false })",
+        "Convert(Conversion { zones: Source(\"a\"), plan: Plan { workers: 1, zone_piece: 2, row_piece: 65536, max_rows: 0, max_bytes: 0 }, layout: Layout { zone: Field(0), time: 1, from: Count, count: Exactly(2), unit: Second, delimiter: Delimiter { byte: 44 }, records: Csv, header: Absent, start: Fields, at_fault: End }, faults: None, progress: false })",
     ),
     (
         "pzic convert --progress a --workers 64",
-        "Convert(Conversion { zones: Source(\"a\"), plan: Plan { workers: 64, zone_piece: 16, row_piece: 1024, max_rows: 100000000, max_bytes: 4294967296 }, layout: Layout { zone: Field(0), time: 1, from: Count, count: Exactly(2), unit: Second, delimiter: Delimiter { byte: 44 }, header: Absent, start: Fields, at_fault: End }, faults: None, progress: true })",
+        "Convert(Conversion { zones: Source(\"a\"), plan: Plan { workers: 64, zone_piece: 16, row_piece: 1024, max_rows: 100000000, max_bytes: 4294967296 }, layout: Layout { zone: Field(0), time: 1, from: Count, count: Exactly(2), unit: Second, delimiter: Delimiter { byte: 44 }, records: Csv, header: Absent, start: Fields, at_fault: End }, faults: None, progress: true })",
     ),
     (
         "pzic convert --header a --progress",
-        "Convert(Conversion { zones: Source(\"a\"), plan: Plan { workers: 4, zone_piece: 16, row_piece: 1024, max_rows: 100000000, max_bytes: 4294967296 }, layout: Layout { zone: Field(0), time: 1, from: Count, count: Exactly(2), unit: Second, delimiter: Delimiter { byte: 44 }, header: First, start: Fields, at_fault: End }, faults: None, progress: true })",
+        "Convert(Conversion { zones: Source(\"a\"), plan: Plan { workers: 4, zone_piece: 16, row_piece: 1024, max_rows: 100000000, max_bytes: 4294967296 }, layout: Layout { zone: Field(0), time: 1, from: Count, count: Exactly(2), unit: Second, delimiter: Delimiter { byte: 44 }, records: Csv, header: First, start: Fields, at_fault: End }, faults: None, progress: true })",
     ),
     (
         "pzic convert --skip-header --zone Etc/UTC --unit ms --delimiter tab a",
-        "Convert(Conversion { zones: Source(\"a\"), plan: Plan { workers: 4, zone_piece: 16, row_piece: 1024, max_rows: 100000000, max_bytes: 4294967296 }, layout: Layout { zone: Name(\"Etc/UTC\"), time: 0, from: Count, count: Exactly(1), unit: Millisecond, delimiter: Delimiter { byte: 9 }, header: Skipped, start: Fields, at_fault: End }, faults: None, progress: false })",
+        "Convert(Conversion { zones: Source(\"a\"), plan: Plan { workers: 4, zone_piece: 16, row_piece: 1024, max_rows: 100000000, max_bytes: 4294967296 }, layout: Layout { zone: Name(\"Etc/UTC\"), time: 0, from: Count, count: Exactly(1), unit: Millisecond, delimiter: Delimiter { byte: 9 }, records: Csv, header: Skipped, start: Fields, at_fault: End }, faults: None, progress: false })",
     ),
     (
-        "pzic convert --append --keep-going --faults f a",
-        "Convert(Conversion { zones: Source(\"a\"), plan: Plan { workers: 4, zone_piece: 16, row_piece: 1024, max_rows: 100000000, max_bytes: 4294967296 }, layout: Layout { zone: Field(0), time: 1, from: Count, count: AtLeast(2), unit: Second, delimiter: Delimiter { byte: 44 }, header: Absent, start: Record, at_fault: GoOn }, faults: Some(\"f\"), progress: false })",
+        "pzic convert --append --keep-going --records lines --faults f a",
+        "Convert(Conversion { zones: Source(\"a\"), plan: Plan { workers: 4, zone_piece: 16, row_piece: 1024, max_rows: 100000000, max_bytes: 4294967296 }, layout: Layout { zone: Field(0), time: 1, from: Count, count: AtLeast(2), unit: Second, delimiter: Delimiter { byte: 44 }, records: Lines, header: Absent, start: Record, at_fault: GoOn }, faults: Some(\"f\"), progress: false })",
     ),
     (
         "pzic convert --zone-field 3 --time-field 1 --unit ns --from rfc3339 --tree a",
-        "Convert(Conversion { zones: Tree(\"a\"), plan: Plan { workers: 4, zone_piece: 16, row_piece: 1024, max_rows: 100000000, max_bytes: 4294967296 }, layout: Layout { zone: Field(2), time: 0, from: Rfc3339, count: AtLeast(3), unit: Nanosecond, delimiter: Delimiter { byte: 44 }, header: Absent, start: Fields, at_fault: End }, faults: None, progress: false })",
+        "Convert(Conversion { zones: Tree(\"a\"), plan: Plan { workers: 4, zone_piece: 16, row_piece: 1024, max_rows: 100000000, max_bytes: 4294967296 }, layout: Layout { zone: Field(2), time: 0, from: Rfc3339, count: AtLeast(3), unit: Nanosecond, delimiter: Delimiter { byte: 44 }, records: Csv, header: Absent, start: Fields, at_fault: End }, faults: None, progress: false })",
     ),
     (
         "pzic convert --zone-field 3 --time-field 1 --from local --ambiguous later --tree a",

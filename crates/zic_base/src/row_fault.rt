@@ -21,13 +21,15 @@ pub enum RowKind {
     RowSkipped = 41,
     /// Clocks show the local time more than once.
     RowRepeated = 42,
+    /// The double quotes of a line are open at its end, where each line is a record.
+    RowQuote = 43,
 }
 
 impl RowKind {
     ghost use Rattle.std.specs.Prelude.{◌≢◌, MatchOption};
     ghost use Rattle.zic_base.specs.RowFault.{row_kind_number, row_kind_word};
 
-    /// Returns the number of the kind, 35 to 42: own choice.
+    /// Returns the number of the kind, 35 to 43: own choice.
     pub fn number(self) -> u8
         ensures { result ≡ row_kind_number self }
     {
@@ -47,6 +49,7 @@ impl RowKind {
             RowKind::RowLocal => "RowLocal",
             RowKind::RowSkipped => "RowSkipped",
             RowKind::RowRepeated => "RowRepeated",
+            RowKind::RowQuote => "RowQuote",
         }
     }
 
@@ -64,6 +67,7 @@ impl RowKind {
             40 => RowKind::RowLocal,
             41 => RowKind::RowSkipped,
             42 => RowKind::RowRepeated,
+            43 => RowKind::RowQuote,
             _ => return None,
         })
     }

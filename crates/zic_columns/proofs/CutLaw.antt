@@ -108,7 +108,7 @@ ends_in s (byte ∷ bytes) is before =
     ))
     (cases_Bool (is_end to.1))
 
-line_end_whole : (byte : ℕ) → ends_line byte ≡ true → AreWholeRecords (byte ∷ [])
+pub line_end_whole : (byte : ℕ) → ends_line byte ≡ true → AreWholeRecords (byte ∷ [])
 line_end_whole byte ends = ends_whole (byte ∷ []) (All-push (λ b. ends_line b ≡ true) [] byte (All-nil (λ b. ends_line b ≡ true)) ends)
 
 whole_up_to : (n : ℕ) (s : State) (bytes : List ℕ) → length bytes ≤ n → ends_at_end s ≡ false → ends_at_end (state_after s bytes) ≡ false → AreWholeRecords bytes

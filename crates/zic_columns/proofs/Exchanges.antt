@@ -61,7 +61,7 @@ step_same d st.InComment b c comma quote feed return = rw feed refl
 step_same d st.AfterCr b c comma quote feed return = rw (comma, quote, feed, return) refl
 
 module _ (d : ℕ) (can : CanDelimit d) where
-  step_exchanged : (s : State) (b : ℕ) → step (config_of d) s (exchange d b) ≡ step default_config s b
+  pub step_exchanged : (s : State) (b : ℕ) → step (config_of d) s (exchange d b) ≡ step default_config s b
   step_exchanged s b = step_same d s b (exchange d b) (as_comma d b)
       (as_other d 34 b (omega arith) (λ e. can.quote (sym e)))
       (as_other d 10 b (omega arith) (λ e. can.feed (sym e)))
@@ -113,7 +113,7 @@ module _ (d : ℕ) (can : CanDelimit d) where
         reached_exchanged p.1 t p.2 rest records reached.3,
       )
 
-  are_exchanged : (bytes : List ℕ) (records : List (List (List ℕ))) → AreRecords default_config st.StartRecord bytes records
+  pub are_exchanged : (bytes : List ℕ) (records : List (List (List ℕ))) → AreRecords default_config st.StartRecord bytes records
       → AreDelimitedRecords d (exchanged d bytes) (map (map (exchanged d)) records)
   are_exchanged bytes records are = (
     are.0,
@@ -149,7 +149,7 @@ module _ (d : ℕ) (can : CanDelimit d) where
       let ascii = can.ascii in
       rw (as_other d 0xEF a (omega arith) (omega (arith, ascii)), as_other d 0xBB b (omega arith) (omega (arith, ascii)), as_other d 0xBF c (omega arith) (omega (arith, ascii))) refl
 
-  strip_exchanged : (bytes : List ℕ) → strip_bom (exchanged d bytes) ≡ exchanged d (strip_bom bytes)
+  pub strip_exchanged : (bytes : List ℕ) → strip_bom (exchanged d bytes) ≡ exchanged d (strip_bom bytes)
   unfolding strip_bom
   strip_exchanged [] = refl
   strip_exchanged (a ∷ []) = refl

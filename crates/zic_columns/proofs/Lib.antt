@@ -11,6 +11,12 @@ pub mod Ranges
 pub mod Cuts
 pub mod Scanned
 pub mod Taking
+pub mod LineStates
+pub mod ClosedLines
+pub mod LineScans
+pub mod ByMode
+pub mod ScannedBy
+pub mod LinesExchanged
 pub mod CutLaw
 pub mod Masks
 pub mod RecordCounts

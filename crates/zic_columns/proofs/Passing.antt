@@ -1,64 +1,87 @@
 -- Bytes whose first record is passed over.
-use Rattle.std.proofs.Common.{◌≡◌, ◌⊎◌, ℕ, ◌≤◌, List, [], ◌∷◌, ◌++◌, length, take, drop, Option, Some, None, IfSome, refl, sym, ap, ◌∙◌, arith, subst, ⊎_elim, append_assoc}
-use Rattle.std.proofs.lemmas.List.{append-nil, drop_all, drop_at, length-append, length-drop, length-take, nil_from_length, take-append-drop}
+use Rattle.std.proofs.Common.{◌≡◌, ◌⊎◌, ℕ, ◌≤◌, List, [], ◌∷◌, ◌++◌, length, map, take, drop, Option, Some, None, IfSome, inr, refl, sym, ap, ◌∙◌, arith, subst, ⊎_elim, append_assoc}
+use Rattle.std.proofs.lemmas.List.{append-nil, drop_all, drop_at, length-append, length-drop, length-map, length-take, map-append, nil_from_length, take-append-drop, take_all}
 use Rattle.std.specs.Io.KnownBytes.{prepend_known}
+use Rattle.zic_plan.specs.declared.layout.Records.{Records}
 use Rattle.zic_columns.specs.Column.{AreWholeRecords, column_records}
+use Rattle.zic_columns.specs.Lines.{records_by, texts_by}
+use Rattle.zic_columns.specs.Own.{CsvRecord, csv_records, first_own, first_text, own_texts}
+use Rattle.zic_columns.specs.Round.{PassesFirst, Takes}
 use Rattle.zic_columns.specs.code.Cut.{AreCutAfter}
-use Rattle.zic_columns.specs.Own.{CsvRecord, first_own, first_text, own_texts, csv_records}
-use Rattle.zic_columns.specs.Round.{PassesFirst}
-use Rattle.zic_columns.specs.code.Hand.{AreSomeRecords, CanBeCut, Takes}
+use Rattle.zic_columns.specs.code.Hand.{AreSomeRecords, CanBeCut, ClosedBy, OpensWith}
+use Rattle.zic_columns.specs.declared.line_scan.OpenLine.{OpenLine}
+use Rattle.zic_columns.proofs.ByMode.{alike_by, front_by, joined_by, owns_by}
 use Rattle.zic_columns.proofs.OwnFacts.{own_counted}
-use Rattle.zic_columns.proofs.Wholes.{owns_joined, owns_same, wholes_counted, wholes_cut, wholes_joined}
+use Rattle.zic_columns.proofs.Wholes.{wholes_counted, wholes_owns}
 
 -- ---- where bytes were gathered before
 
-pub passes_next : (old mid new : Option (List ℕ)) → Takes old mid [] → PassesFirst mid new → PassesFirst old new
-passes_next None mid new first next = tt
-passes_next (Some bytes) mid new first next =
+pub passes_next : (mode : Records) (old mid new : Option (List ℕ)) → Takes mode old mid [] → PassesFirst mode mid new → PassesFirst mode old new
+passes_next mode None mid new first next = tt
+passes_next mode (Some bytes) mid new first next =
     let later = rw first.1 at next in
     (later.0, later.1, later.2 ∙ ap (drop 1) (sym first.2))
 
 -- these are the own bytes of the first record, where the bytes are known
-abbrev pub AreFirstOwn : List ℕ → Option (List ℕ) → Type 0
-AreFirstOwn own known = IfSome known (λ bytes. own ≡ first_own bytes)
+abbrev pub AreFirstOwn : Records → List ℕ → Option (List ℕ) → Type 0
+AreFirstOwn mode own known = IfSome known (λ bytes. own ≡ first_text (texts_by mode bytes))
 
-pub own_next : (own : List ℕ) (old mid : Option (List ℕ)) → Takes old mid [] → AreFirstOwn own mid → AreFirstOwn own old
-own_next own None mid first next = tt
-own_next own (Some bytes) mid first next =
-    let later : own ≡ first_own first.0 = rw first.1 at next in
-    later ∙ sym (ap first_text (owns_same bytes first.0 first.2))
+-- the same records have the same own bytes
+owns_same : (mode : Records) (bytes rest : List ℕ) → records_by mode bytes ≡ records_by mode rest → texts_by mode bytes ≡ texts_by mode rest
+owns_same mode bytes rest same = sym (owns_by mode bytes) ∙ ap (map (λ (w : CsvRecord). w.own)) same ∙ owns_by mode rest
+
+pub own_next : (mode : Records) (own : List ℕ) (old mid : Option (List ℕ)) → Takes mode old mid [] → AreFirstOwn mode own mid → AreFirstOwn mode own old
+own_next mode own None mid first next = tt
+own_next mode own (Some bytes) mid first next =
+    let later : own ≡ first_text (texts_by mode first.0) = rw first.1 at next in
+    later ∙ sym (ap first_text (owns_same mode bytes first.0 first.2))
+
+-- ---- an open line
+
+pub passes_open : (mode : Records) (held : List ℕ) (come : Option (List ℕ)) (line : OpenLine) → OpensWith mode held come line
+    → PassesFirst mode (prepend_known held come) (prepend_known (drop line.len held) come)
+passes_open mode held None line is = tt
+passes_open mode held (Some more) line is = (drop line.len held ++ more, refl, sym (ap (drop 1) is.opens))
+
+pub is_open_own : (mode : Records) (held : List ℕ) (come : Option (List ℕ)) (line : OpenLine) → OpensWith mode held come line
+    → AreFirstOwn mode (take line.own held) (prepend_known held come)
+is_open_own mode held None line is = tt
+is_open_own mode held (Some more) line is = ap first_text (sym (ap (map (λ (w : CsvRecord). w.own)) is.opens) ∙ owns_by mode (held ++ more))
 
 -- ---- one record, and those after it
 
 -- the first bytes have one record, or none where there is no other
-record AreInTwo (bytes first after : List ℕ) : Type 0 where
-  parts : csv_records bytes ≡ csv_records first ++ csv_records after
+record AreInTwo (mode : Records) (bytes first after : List ℕ) : Type 0 where
+  parts : records_by mode bytes ≡ csv_records first ++ records_by mode after
   few : length (column_records first) ≤ 1
-  some : length (column_records first) ≡ 0 → length (column_records after) ≡ 0
+  some : length (column_records first) ≡ 0 → length (records_by mode after) ≡ 0
 
 drop_first : (first after : List CsvRecord) → length first ≤ 1 → (length first ≡ 0 → length after ≡ 0) → drop 1 (first ++ after) ≡ after
 drop_first [] after few some = let none = nil_from_length after (some refl) in rw none refl
 drop_first (w ∷ []) after few some = refl
 drop_first (w ∷ v ∷ ws) after few some = absurd (omega (arith, few))
 
-left_after : (bytes first after : List ℕ) → AreInTwo bytes first after → csv_records after ≡ drop 1 (csv_records bytes)
-left_after bytes first after two =
+left_after : (mode : Records) (bytes first after : List ℕ) → AreInTwo mode bytes first after → records_by mode after ≡ drop 1 (records_by mode bytes)
+left_after mode bytes first after two =
     let few : length (csv_records first) ≤ 1 = omega (arith, two.few, wholes_counted first) in
-    let some : length (csv_records first) ≡ 0 → length (csv_records after) ≡ 0 =
-    λ none. wholes_counted after ∙ two.some (sym (wholes_counted first) ∙ none) in
-    sym (ap (drop 1) two.parts ∙ drop_first (csv_records first) (csv_records after) few some)
+    let some : length (csv_records first) ≡ 0 → length (records_by mode after) ≡ 0 = λ none. two.some (sym (wholes_counted first) ∙ none) in
+    sym (ap (drop 1) two.parts ∙ drop_first (csv_records first) (records_by mode after) few some)
 
 text_first : (first after : List (List ℕ)) → (length first ≡ 0 → length after ≡ 0) → first_text (first ++ after) ≡ first_text first
 text_first [] after some = let none = nil_from_length after (some refl) in rw none refl
 text_first (text ∷ first) after some = refl
 
-own_first : (bytes first after : List ℕ) → AreInTwo bytes first after → first_own first ≡ first_own bytes
-own_first bytes first after two =
-    let some : length (own_texts first) ≡ 0 → length (own_texts after) ≡ 0 =
-    λ none. own_counted after ∙ two.some (sym (own_counted first) ∙ none) in
-    sym (ap first_text (owns_joined bytes first after two.parts) ∙ text_first (own_texts first) (own_texts after) some)
+own_first : (mode : Records) (bytes first after : List ℕ) → AreInTwo mode bytes first after → first_own first ≡ first_text (texts_by mode bytes)
+own_first mode bytes first after two =
+    let own = λ (w : CsvRecord). w.own in
+    let some : length (own_texts first) ≡ 0 → length (map own (records_by mode after)) ≡ 0 =
+    λ none. length-map (records_by mode after) own ∙ two.some (sym (own_counted first) ∙ none) in
+    let texts : texts_by mode bytes ≡ own_texts first ++ map own (records_by mode after) =
+    sym (owns_by mode bytes) ∙ ap (map own) two.parts ∙ map-append own (csv_records first) (records_by mode after)
+    ∙ ap (λ (t : List (List ℕ)). t ++ map own (records_by mode after)) (wholes_owns first) in
+    sym (ap first_text texts ∙ text_first (own_texts first) (map own (records_by mode after)) some)
 
-module _ (held : List ℕ) (count : ℕ) (first rest : List ℕ) (cut : AreCutAfter (take count held) 1 first rest) where
+module _ (mode : Records) (held : List ℕ) (count : ℕ) (first rest : List ℕ) (cut : AreCutAfter (take count held) 1 first rest) where
   in_hand : held ≡ first ++ (rest ++ drop count held)
   in_hand = sym (take-append-drop count held) ∙ ap (λ (b : List ℕ). b ++ drop count held) cut.parts ∙ append_assoc first rest (drop count held)
 
@@ -72,6 +95,12 @@ module _ (held : List ℕ) (count : ℕ) (first rest : List ℕ) (cut : AreCutAf
   number : length (column_records first) ≡ length (take 1 (column_records (take count held)))
   number = ap length cut.first_records
 
+  first_whole : (rest ≡ []) ⊎ AreWholeRecords first
+  first_whole = cut.whole
+
+  first_closed : ClosedBy mode (take count held) → ClosedBy mode first
+  first_closed closed = front_by mode first rest first_whole (subst (ClosedBy mode) cut.parts closed)
+
   module _ (more : List ℕ) where
     abbrev after : List ℕ
     after = drop (length first) held ++ more
@@ -80,43 +109,50 @@ module _ (held : List ℕ) (count : ℕ) (first rest : List ℕ) (cut : AreCutAf
     in_two : held ++ more ≡ first ++ after
     in_two = ap (λ (b : List ℕ). b ++ more) (in_hand ∙ ap (λ (b : List ℕ). first ++ b) (sym left_in_hand)) ∙ append_assoc first (drop (length first) held) more
 
+    two_parts : ClosedBy mode (take count held) → (after ≡ []) ⊎ AreWholeRecords first → records_by mode (held ++ more) ≡ csv_records first ++ records_by mode after
+    two_parts closed whole = ap (records_by mode) in_two ∙ joined_by mode first after whole (first_closed closed)
+
     -- whatever follows the bytes in hand
-    some_in_two : AreSomeRecords (take count held) → AreInTwo (held ++ more) first after
-    some_in_two some =
+    some_in_two : ClosedBy mode (take count held) → AreSomeRecords (take count held) → AreInTwo mode (held ++ more) first after
+    some_in_two closed some =
         let whole : AreWholeRecords first = ⊎_elim
         (λ (none : rest ≡ []). subst AreWholeRecords (cut.parts ∙ ap (λ (b : List ℕ). first ++ b) none ∙ append-nil first) some.0)
         (λ (whole : AreWholeRecords first). whole)
         cut.whole in
         let size = length-take 1 (column_records (take count held)) in
         record {
-          parts = ap csv_records in_two ∙ wholes_cut first after whole;
+          parts = two_parts closed (inr whole);
           few = omega (arith, number, size);
           some = λ none. absurd (omega (arith, number, size, some.1, none));
         }
 
     -- at the end of the column
-    end_in_two : (count ≡ length held) × (more ≡ []) → AreInTwo (held ++ more) first after
-    end_in_two last =
+    end_in_two : ClosedBy mode (take count held) → (count ≡ length held) × (more ≡ []) → AreInTwo mode (held ++ more) first after
+    end_in_two closed last =
+        let all : take count held ≡ held = take_all count held (omega (arith, last.0)) in
         let none : drop count held ≡ [] = drop_all count held (omega (arith, last.0)) in
         let left : after ≡ rest = ap (λ (b : List ℕ). drop (length first) held ++ b) last.1 ∙ append-nil (drop (length first) held) ∙ left_in_hand
         ∙ ap (λ (b : List ℕ). rest ++ b) none ∙ append-nil rest in
         let size = length-take 1 (column_records (take count held)) in
-        let others = length-drop 1 (column_records (take count held)) in
+        let parts = two_parts closed (subst (λ (r : List ℕ). (r ≡ []) ⊎ AreWholeRecords first) (sym left) cut.whole) in
+        let total : length (records_by mode (held ++ more)) ≡ length (column_records (take count held)) =
+        ap (λ (b : List ℕ). length (records_by mode (held ++ b))) last.1 ∙ ap (λ (b : List ℕ). length (records_by mode b)) (append-nil held ∙ sym all)
+        ∙ ap length (alike_by mode (take count held) closed) ∙ wholes_counted (take count held) in
         record {
-          parts = ap csv_records in_two ∙ wholes_joined first after (subst (λ (r : List ℕ). (r ≡ []) ⊎ AreWholeRecords first) (sym left) cut.whole);
+          parts = parts;
           few = omega (arith, number, size);
-          some = λ no. ap (λ (b : List ℕ). length (column_records b)) left ∙ ap length cut.rest_records ∙ omega (arith, number, size, others, no);
+          some = λ no. omega (arith, number, size, no, total, ap length parts, length-append (csv_records first) (records_by mode after));
         }
 
-    are_in_two : CanBeCut held (Some more) count → AreInTwo (held ++ more) first after
-    are_in_two can = ⊎_elim some_in_two end_in_two can.1
+    are_in_two : CanBeCut mode held (Some more) count → AreInTwo mode (held ++ more) first after
+    are_in_two can = ⊎_elim (some_in_two can.closed) (end_in_two can.closed) can.some
 
   -- the first record in hand is passed over
-  pub passes_first : (come : Option (List ℕ)) → CanBeCut held come count → PassesFirst (prepend_known held come) (prepend_known (drop (length first) held) come)
+  pub passes_first : (come : Option (List ℕ)) → CanBeCut mode held come count → PassesFirst mode (prepend_known held come) (prepend_known (drop (length first) held) come)
   passes_first None can = tt
-  passes_first (Some more) can = (after more, refl, left_after (held ++ more) first (after more) (are_in_two more can))
+  passes_first (Some more) can = (after more, refl, left_after mode (held ++ more) first (after more) (are_in_two more can))
 
   -- and its own bytes are the first
-  pub are_first_own : (come : Option (List ℕ)) → CanBeCut held come count → AreFirstOwn (first_own first) (prepend_known held come)
+  pub are_first_own : (come : Option (List ℕ)) → CanBeCut mode held come count → AreFirstOwn mode (first_own first) (prepend_known held come)
   are_first_own None can = tt
-  are_first_own (Some more) can = own_first (held ++ more) first (after more) (are_in_two more can)
+  are_first_own (Some more) can = own_first mode (held ++ more) first (after more) (are_in_two more can)

@@ -11,7 +11,7 @@ use Rattle.zic_columns.specs.code.Quote.{IsFirstQuote}
 use Rattle.zic_columns.specs.code.Cut.{AreCutAfterLines}
 use Rattle.zic_columns.specs.code.Hand.{BeginWithLines, IsScanned}
 use Rattle.zic_columns.specs.code.Machine.{BeginsRecord, IsEndOfRecord, ReadsTo, state_at}
-use Rattle.zic_columns.specs.declared.hand.Scan.{Scan}
+use Rattle.zic_columns.specs.declared.hand.CsvScan.{CsvScan}
 use Rattle.zic_columns.specs.declared.machine.Place.{Place}
 use Rattle.zic_columns.proofs.MachineFacts.{ends_both, one_whole, reads_both}
 use Rattle.zic_columns.proofs.SomeRecords.{whole_both, whole_lines, whole_none}
@@ -155,7 +155,7 @@ module _ (bytes : List ℕ) (before : ℕ) (within : before ≤ length bytes) wh
 
 -- ---- after whole records were taken
 
-pub scanned_passed : (bytes : List ℕ) (scan : Scan) → IsScanned bytes scan → IsScanned (drop scan.whole bytes) (record { whole = 0; begun = scan.begun })
+pub scanned_passed : (bytes : List ℕ) (scan : CsvScan) → IsScanned bytes scan → IsScanned (drop scan.whole bytes) (record { whole = 0; begun = scan.begun })
 scanned_passed bytes scan scanned = record { within = omega arith; whole = whole_none; begun = scanned.begun }
 
 pub scanned_none : IsScanned [] (record { whole = 0; begun = None })

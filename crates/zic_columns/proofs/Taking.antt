@@ -1,110 +1,139 @@
 -- What comes first of the records of bytes, where rounds are taken.
-use Rattle.std.proofs.Common.{◌≡◌, ◌⊎◌, ℕ, ◌-◌, ◌≤◌, Bool, true, false, cond, List, [], ◌∷◌, ◌++◌, length, take, drop, Option, Some, None, IfSome, refl, sym, ap, ◌∙◌, arith, subst, ⊎_elim, append_assoc}
+use Rattle.std.proofs.Common.{◌≡◌, ◌⊎◌, ℕ, ◌-◌, ◌≤◌, Bool, true, false, cond, List, [], ◌∷◌, ◌++◌, length, take, drop, Option, Some, None, IfSome, inl, inr, refl, sym, ap, ◌∙◌, arith, subst, ⊎_elim, append_assoc}
 use Rattle.std.proofs.lemmas.List.{append-nil, length-append, length-drop, length-take, nil_from_length, take-append-drop, take-take, take_all}
 use Rattle.std.proofs.KnownBytes.{Consumes-nil, Consumes-trans}
 use Rattle.std.specs.Io.KnownBytes.{IsAtEnd, Keeps, prepend_known}
 use Rattle.csv.specs.Reading.{is_bom, strip_bom}
 use Rattle.zic_columns.specs.Column.{AreWholeRecords, column_records}
+use Rattle.zic_columns.specs.Lines.{open_record, records_by}
 use Rattle.zic_columns.specs.Own.{CsvRecord, csv_records}
-use Rattle.zic_columns.specs.Round.{ColumnOf, HasNoRecord, StaysWithin, TakesOf, may_take, wholes_of}
-use Rattle.zic_columns.specs.code.Hand.{AreSomeRecords, CanBeCut, Takes}
+use Rattle.zic_columns.specs.Round.{ColumnOf, HasNoRecord, StaysWithin, Takes, TakesOf, may_take, wholes_of}
+use Rattle.zic_columns.specs.code.Hand.{AreSomeRecords, CanBeCut, ClosedBy, OpensWith}
+use Rattle.zic_columns.specs.declared.line_scan.OpenLine.{OpenLine}
+use Rattle.zic_plan.specs.declared.layout.Records.{Records}
+use Rattle.zic_columns.proofs.ByMode.{alike_by, front_by, joined_by}
 use Rattle.zic_columns.specs.code.Cutting.{IsCut}
 use Rattle.zic_columns.specs.code.Mark.{ShowsMark}
 use Rattle.zic_columns.specs.code.Range.{pieces_at}
 use Rattle.zic_columns.specs.declared.pieces.Cut.{Cut}
 use Rattle.zic_columns.specs.declared.pieces.PieceRange.{PieceRange}
 use Rattle.zic_columns.proofs.Cuts.{pieces_cut}
-use Rattle.zic_columns.proofs.Wholes.{none_of_wholes, wholes_cut, wholes_joined, wholes_none}
+use Rattle.zic_columns.proofs.Wholes.{wholes_none}
 
 -- bytes that stay have no record taken
-pub takes_none : (old new : Option (List ℕ)) → Keeps old new → Takes old new []
-takes_none None new keeps = tt
-takes_none (Some bytes) None keeps = absurd keeps
-takes_none (Some bytes) (Some rest) keeps = (rest, refl, ap csv_records (sym keeps))
+pub takes_none : (mode : Records) (old new : Option (List ℕ)) → Keeps old new → Takes mode old new []
+takes_none mode None new keeps = tt
+takes_none mode (Some bytes) None keeps = absurd keeps
+takes_none mode (Some bytes) (Some rest) keeps = (rest, refl, ap (records_by mode) (sym keeps))
 
-pub takes_next : (old mid new : Option (List ℕ)) (pieces : List (List ℕ)) → Takes old mid [] → Takes mid new pieces → Takes old new pieces
-takes_next None mid new pieces first next = tt
-takes_next (Some bytes) mid new pieces first next =
-    let later = rw first.1 at next in
-    (later.0, later.1, first.2 ∙ later.2)
+pub takes_next : (mode : Records) (old mid new : Option (List ℕ)) (first : List CsvRecord) → Takes mode old mid [] → Takes mode mid new first → Takes mode old new first
+takes_next mode None mid new first none next = tt
+takes_next mode (Some bytes) mid new first none next =
+    let later = rw none.1 at next in
+    (later.0, later.1, none.2 ∙ later.2)
 
 -- the first bytes in hand, and the others with those to come
 in_two : (held rest : List ℕ) (count : ℕ) → held ++ rest ≡ take count held ++ (drop count held ++ rest)
 in_two held rest count = ap (λ (b : List ℕ). b ++ rest) (sym (take-append-drop count held)) ∙ append_assoc (take count held) (drop count held) rest
 
--- records are taken of bytes that are whole records
-whole_taken : (held rest : List ℕ) (len : ℕ) → AreWholeRecords (take len held) → csv_records (held ++ rest) ≡ csv_records (take len held) ++ csv_records (drop len held ++ rest)
-whole_taken held rest len whole = ap csv_records (in_two held rest len) ∙ wholes_cut (take len held) (drop len held ++ rest) whole
-
-module _ (held : List ℕ) (count size : ℕ) (cut : Cut) (is : IsCut (take count held) size cut) where
+module _ (mode : Records) (held : List ℕ) (count size : ℕ) (cut : Cut) (is : IsCut (take count held) size cut) where
   pieces_of : List (List ℕ)
   pieces_of = pieces_at (take cut.len held) cut.ranges.items
+
+  abbrev front : List ℕ
+  front = take cut.len held
 
   cut_within : (cut.len ≤ count) × (cut.len ≤ length held)
   cut_within = (omega (arith, is.within, length-take count held), omega (arith, is.within, length-take count held))
 
-  cut_records : csv_records (take cut.len held) ≡ wholes_of pieces_of
+  cut_records : csv_records front ≡ wholes_of pieces_of
   unfolding pieces_of
   cut_records = ap csv_records (sym (take-take cut.len count held cut_within.0)) ∙ is.records ∙ ap wholes_of (pieces_cut held count size cut is)
 
-  -- where nothing is left of what was to be cut
-  cut_all : drop cut.len (take count held) ≡ [] → take cut.len held ≡ take count held
+  -- nothing is left of what was to be cut, or whole records were cut off
+  cut_whole : (drop cut.len (take count held) ≡ []) ⊎ AreWholeRecords front
+  cut_whole = ⊎_elim (λ none. inl none) (λ (one : AreWholeRecords (take cut.len (take count held))). inr (subst AreWholeRecords (take-take cut.len count held cut_within.0) one)) is.whole
+
+  -- where nothing is left, all was cut off
+  cut_all : drop cut.len (take count held) ≡ [] → front ≡ take count held
   cut_all none =
       let left = ap length none in
       sym (take-take cut.len count held cut_within.0) ∙ take_all cut.len (take count held) (omega (arith, left, length-drop cut.len (take count held)))
 
-  whole_cut : AreWholeRecords (take count held) → AreWholeRecords (take cut.len held)
-  whole_cut whole = ⊎_elim
-      (λ none. subst AreWholeRecords (sym (cut_all none)) whole)
-      (λ (one : AreWholeRecords (take cut.len (take count held))). subst AreWholeRecords (take-take cut.len count held cut_within.0) one)
-      is.whole
+  cut_closed : ClosedBy mode (take count held) → ClosedBy mode front
+  cut_closed closed =
+      let parts : take count held ≡ front ++ drop cut.len (take count held) =
+      sym (take-append-drop cut.len (take count held)) ∙ ap (λ (b : List ℕ). b ++ drop cut.len (take count held)) (take-take cut.len count held cut_within.0) in
+      front_by mode front (drop cut.len (take count held)) cut_whole (subst (ClosedBy mode) parts closed)
 
-  -- at the end of the column
-  last_cut : count ≡ length held → csv_records (held ++ []) ≡ wholes_of pieces_of ++ csv_records (drop cut.len held ++ [])
-  last_cut all =
-      let same : take count held ≡ held = take_all count held (omega (arith, all)) in
-      let left : (drop cut.len held ≡ []) ⊎ AreWholeRecords (take cut.len held) = subst (λ (b : List ℕ). (drop cut.len b ≡ []) ⊎ AreWholeRecords (take cut.len b)) same is.whole in
-      ap csv_records (append-nil held ∙ sym (take-append-drop cut.len held)) ∙ wholes_joined (take cut.len held) (drop cut.len held) left
-      ∙ ap (λ (r : List CsvRecord). r ++ csv_records (drop cut.len held)) cut_records
-      ∙ ap (λ (b : List ℕ). wholes_of pieces_of ++ csv_records b) (sym (append-nil (drop cut.len held)))
+  -- what is left follows whole records, or is nothing
+  cut_left : (rest : List ℕ) → AreSomeRecords (take count held) ⊎ ((count ≡ length held) × (rest ≡ [])) → (drop cut.len held ++ rest ≡ []) ⊎ AreWholeRecords front
+  cut_left rest some = ⊎_elim
+      (λ (records : AreSomeRecords (take count held)). ⊎_elim
+      (λ (none : drop cut.len (take count held) ≡ []). inr (subst AreWholeRecords (sym (cut_all none)) records.0))
+      (λ (one : AreWholeRecords front). inr one)
+      cut_whole)
+      (λ (last : (count ≡ length held) × (rest ≡ [])).
+      let all : take count held ≡ held = take_all count held (omega (arith, last.0)) in
+      ⊎_elim
+      (λ (none : drop cut.len (take count held) ≡ []).
+      inl (ap (λ (b : List ℕ). drop cut.len held ++ b) last.1 ∙ append-nil (drop cut.len held) ∙ ap (drop cut.len) (sym all) ∙ none))
+      (λ (one : AreWholeRecords front). inr one)
+      cut_whole)
+      some
+
+  cut_off : (rest : List ℕ) → CanBeCut mode held (Some rest) count → records_by mode (held ++ rest) ≡ wholes_of pieces_of ++ records_by mode (drop cut.len held ++ rest)
+  cut_off rest can =
+      ap (records_by mode) (in_two held rest cut.len) ∙ joined_by mode front (drop cut.len held ++ rest) (cut_left rest can.some) (cut_closed can.closed)
+      ∙ ap (λ (r : List CsvRecord). r ++ records_by mode (drop cut.len held ++ rest)) cut_records
 
   -- pieces are cut of the first bytes in hand
-  pub takes_cut : (come : Option (List ℕ)) → CanBeCut held come count → Takes (prepend_known held come) (prepend_known (drop cut.len held) come) (pieces_at (take cut.len held) cut.ranges.items)
+  pub takes_cut : (come : Option (List ℕ)) → CanBeCut mode held come count
+      → Takes mode (prepend_known held come) (prepend_known (drop cut.len held) come) (wholes_of (pieces_at (take cut.len held) cut.ranges.items))
   unfolding pieces_of
   takes_cut None can = tt
-  takes_cut (Some rest) can = ⊎_elim
-      (λ (some : AreSomeRecords (take count held)). (
-        drop cut.len held ++ rest,
-        refl,
-        whole_taken held rest cut.len (whole_cut some.0) ∙ ap (λ (r : List CsvRecord). r ++ csv_records (drop cut.len held ++ rest)) cut_records,
-      ))
-      (λ (last : (count ≡ length held) × (rest ≡ [])). (
-        drop cut.len held ++ rest,
-        refl,
-        subst (λ (r : List ℕ). csv_records (held ++ r) ≡ wholes_of pieces_of ++ csv_records (drop cut.len held ++ r)) (sym last.1) (last_cut last.0),
-      ))
-      can.1
+  takes_cut (Some rest) can = (drop cut.len held ++ rest, refl, cut_off rest can)
+
+  -- no piece has no record
+  no_pieces : length cut.ranges.items ≡ 0 → wholes_of pieces_of ≡ []
+  unfolding pieces_of
+  no_pieces nil = ap (λ (r : List PieceRange). wholes_of (pieces_at (take cut.len held) r)) (nil_from_length cut.ranges.items nil)
 
   -- nothing is left where there is no piece
-  pub none_left : (come : Option (List ℕ)) → CanBeCut held come count → length cut.ranges.items ≡ 0 → HasNoRecord (prepend_known (drop cut.len held) come)
-  unfolding pieces_of
+  pub none_left : (come : Option (List ℕ)) → CanBeCut mode held come count → length cut.ranges.items ≡ 0 → HasNoRecord mode (prepend_known (drop cut.len held) come)
   none_left None can nil = tt
   none_left (Some rest) can nil = ⊎_elim
       (λ (some : AreSomeRecords (take count held)). absurd (omega (arith, some.1, ap length (is.none nil))))
       (λ (last : (count ≡ length held) × (rest ≡ [])).
-      let all : column_records held ≡ [] = ap column_records (sym (take_all count held (omega (arith, last.0)))) ∙ is.none nil in
-      let taken : wholes_of pieces_of ≡ [] = ap (λ (r : List PieceRange). wholes_of (pieces_at (take cut.len held) r)) (nil_from_length cut.ranges.items nil) in
-      let parts = sym (last_cut last.0) ∙ ap csv_records (append-nil held) ∙ wholes_none held all in
-      subst (λ (r : List ℕ). column_records (drop cut.len held ++ r) ≡ []) (sym last.1)
-      (none_of_wholes (drop cut.len held ++ []) (sym (ap (λ (r : List CsvRecord). r ++ csv_records (drop cut.len held ++ [])) taken) ∙ parts)))
-      can.1
+      let all : take count held ≡ held = take_all count held (omega (arith, last.0)) in
+      let none : records_by mode (held ++ rest) ≡ [] =
+      ap (λ (b : List ℕ). records_by mode (held ++ b)) last.1 ∙ ap (records_by mode) (append-nil held) ∙ alike_by mode held (subst (ClosedBy mode) all can.closed)
+      ∙ wholes_none held (ap column_records (sym all) ∙ is.none nil) in
+      sym (ap (λ (r : List CsvRecord). r ++ records_by mode (drop cut.len held ++ rest)) (no_pieces nil)) ∙ sym (cut_off rest can) ∙ none)
+      can.some
+
+  -- and then no record is taken
+  pub takes_none_left : (come : Option (List ℕ)) → CanBeCut mode held come count → length cut.ranges.items ≡ 0 → Takes mode (prepend_known held come) (prepend_known (drop cut.len held) come) []
+  takes_none_left None can nil = tt
+  takes_none_left (Some rest) can nil =
+      (drop cut.len held ++ rest, refl, cut_off rest can ∙ ap (λ (r : List CsvRecord). r ++ records_by mode (drop cut.len held ++ rest)) (no_pieces nil))
 
 -- whole records that are none are passed over
-pub takes_blank : (held : List ℕ) (come : Option (List ℕ)) (count : ℕ) → AreWholeRecords (take count held) → column_records (take count held) ≡ []
-    → Takes (prepend_known held come) (prepend_known (drop count held) come) []
-takes_blank held None count whole none = tt
-takes_blank held (Some rest) count whole none =
-    (drop count held ++ rest, refl, whole_taken held rest count whole ∙ ap (λ (r : List CsvRecord). r ++ csv_records (drop count held ++ rest)) (wholes_none (take count held) none))
+pub takes_blank : (mode : Records) (held : List ℕ) (come : Option (List ℕ)) (count : ℕ) → AreWholeRecords (take count held) → ClosedBy mode (take count held) → column_records (take count held) ≡ []
+    → Takes mode (prepend_known held come) (prepend_known (drop count held) come) []
+takes_blank mode held None count whole closed none = tt
+takes_blank mode held (Some rest) count whole closed none = (
+  drop count held ++ rest,
+  refl,
+  ap (records_by mode) (in_two held rest count) ∙ joined_by mode (take count held) (drop count held ++ rest) (inr whole) closed
+      ∙ ap (λ (r : List CsvRecord). r ++ records_by mode (drop count held ++ rest)) (wholes_none (take count held) none),
+)
+
+-- an open line is taken
+pub takes_open : (mode : Records) (held : List ℕ) (come : Option (List ℕ)) (line : OpenLine) → OpensWith mode held come line
+    → Takes mode (prepend_known held come) (prepend_known (drop line.len held) come) (open_record (take line.own held) ∷ [])
+takes_open mode held None line is = tt
+takes_open mode held (Some rest) line is = (drop line.len held ++ rest, refl, is.opens)
 
 -- ---- the limit
 

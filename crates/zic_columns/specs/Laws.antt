@@ -1,12 +1,14 @@
 -- Laws about the records of a column.
-use Rattle.std.specs.Prelude.{◌≡◌, ℕ, List, [], ◌∷◌, ◌++◌, All, length, map}
+use Rattle.std.specs.Prelude.{◌≡◌, ℕ, true, List, [], ◌∷◌, ◌++◌, All, length, map}
 use Rattle.csv.specs.Reading.{strip_bom}
 use Rattle.csv.specs.Writing.{default_writer, row_text, with_delimiter}
-use Rattle.zic_columns.specs.Column.{AreColumnRecords, AreWholeRecords, HasNoQuote, StandsBeforeRecord, column_records, plain_records}
+use Rattle.zic_columns.specs.Column.{AreColumnRecords, AreWholeRecords, HasNoQuote, StandsBeforeRecord, column_records, ends_line, plain_records}
 use Rattle.zic_columns.specs.Ends.{AreBetweenEnds, BeginsWithin}
 use Rattle.zic_columns.specs.Exchange.{AreDelimitedRecords, CanDelimit, exchanged}
+use Rattle.zic_columns.specs.Lines.{AreRecordsBy, delimited_texts_by, exchanged_record, line_records, records_by, texts_by}
 use Rattle.zic_columns.specs.Own.{CsvRecord, beside, delimited_texts, own_texts, csv_records}
 use Rattle.zic_columns.specs.Record.{whole_of}
+use Rattle.zic_plan.specs.declared.layout.Records.{Records}
 use Rattle.zic_columns.specs.Round.{records_of, wholes_of}
 
 -- a CSV reader gives bytes these records
@@ -88,3 +90,31 @@ RecordsAreOfOwnBytes = (bytes : List ℕ) → csv_records bytes ≡ map whole_of
 -- A column is the own bytes of its records, in order, and line ends; nothing else.
 abbrev pub ColumnIsOwnBytes : Type 0
 ColumnIsOwnBytes = (bytes : List ℕ) → AreBetweenEnds (own_texts bytes) bytes
+
+-- Without a double quote the records are the same whether each line is one or not.
+abbrev pub LinesWithoutQuotesAreCsv : Type 0
+LinesWithoutQuotesAreCsv = (bytes : List ℕ) → HasNoQuote bytes → line_records bytes ≡ csv_records bytes
+
+-- Where each line is a record, a column can be cut after any line end: its records are those of its parts.
+abbrev pub LinesAreCut : Type 0
+LinesAreCut = (lines rest : List ℕ) (end : ℕ) → ends_line end ≡ true
+    → line_records ((lines ++ end ∷ []) ++ rest) ≡ line_records (lines ++ end ∷ []) ++ line_records rest
+
+-- Wherever records end, bytes have one list of records with a delimiter.
+abbrev pub RecordsByAreOne : Type 0
+RecordsByAreOne = (by : Records) (delimiter : ℕ) (bytes : List ℕ) (a b : List CsvRecord) → AreRecordsBy by delimiter bytes a → AreRecordsBy by delimiter bytes b → a ≡ b
+
+-- Wherever records end, each has its own bytes.
+abbrev pub TextsByAreOfRecords : Type 0
+TextsByAreOfRecords = (by : Records) (bytes : List ℕ) → map (λ (w : CsvRecord). w.own) (records_by by bytes) ≡ texts_by by bytes
+
+-- Wherever records end, the records of a column with another delimiter are those of the column in which it and the comma stand in each
+-- other's place, with the two put back.
+abbrev pub RecordsByAreExchanged : Type 0
+RecordsByAreExchanged = (by : Records) (delimiter : ℕ) (column : List ℕ) → CanDelimit delimiter
+    → AreRecordsBy by delimiter (strip_bom column) (map (exchanged_record delimiter) (records_by by (strip_bom (exchanged delimiter column))))
+
+-- And so are their own bytes.
+abbrev pub TextsByAreExchanged : Type 0
+TextsByAreExchanged = (by : Records) (delimiter : ℕ) (column : List ℕ) → CanDelimit delimiter
+    → delimited_texts_by by delimiter (strip_bom column) ≡ map (exchanged delimiter) (texts_by by (strip_bom (exchanged delimiter column)))

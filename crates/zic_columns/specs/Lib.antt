@@ -3,6 +3,7 @@ pub mod Record
 pub mod Round
 pub mod Exchange
 pub mod Own
+pub mod Lines
 pub mod Ends
 pub mod Laws
 pub mod code

@@ -4,17 +4,22 @@ use Rattle.std.specs.Int.{IsInRange}
 use Rattle.std.specs.List.{flat_map}
 use Rattle.std.specs.Io.KnownBytes.{Consumes, prepend_known}
 use Rattle.zic_columns.specs.Column.{column_records}
+use Rattle.zic_columns.specs.Lines.{open_record, records_by}
 use Rattle.zic_columns.specs.Own.{CsvRecord, csv_records}
+use Rattle.zic_columns.specs.declared.columns.Taken.{Taken}
+use Rattle.zic_columns.specs.declared.columns.Taken.TheVariants as taken
+use Rattle.zic_plan.specs.declared.layout.Records.{Records}
 
 -- the byte beyond the limit, if there was one, and then the known bytes
 abbrev pub with_past : Option ℕ → Option (List ℕ) → Option (List ℕ)
 with_past None known = known
 with_past (Some byte) known = prepend_known (byte ∷ []) known
 
--- A column, as far as it was taken: the pieces of the round that was taken last, the bytes in hand
--- that no round had, the byte beyond the limit, if there was one, the number of bytes that the reader
--- may still give, and the reader.
+-- A column, as far as it was taken: where its records end, the pieces of the round that was taken last,
+-- the bytes in hand that no round had, the byte beyond the limit, if there was one, the number of bytes
+-- that the reader may still give, and the reader.
 pub record ColumnOf (R : Type 0) : Type 0 where
+  pub by : Records
   pub round : List (List ℕ)
   pub held : List ℕ
   pub past : Option ℕ
@@ -46,25 +51,26 @@ records_of pieces = flat_map column_records pieces
 abbrev pub wholes_of : List (List ℕ) → List CsvRecord
 wholes_of pieces = flat_map csv_records pieces
 
--- The records of some bytes, each with its own bytes, are those of the pieces, and then those of the rest.
-abbrev pub TakesPieces : List ℕ → List ℕ → List (List ℕ) → Type 0
-TakesPieces bytes rest pieces = csv_records bytes ≡ wholes_of pieces ++ csv_records rest
+-- the records that were taken: those of the pieces of a round, or that of an open line
+abbrev pub taken_records : Taken → List (List ℕ) → List CsvRecord
+taken_records taken.Round pieces = wholes_of pieces
+taken_records (taken.OpenLine line) pieces = open_record line.items ∷ []
+taken_records taken.End pieces = []
 
--- The records of a round were taken, where the bytes are known.
-abbrev pub TakesRound : {R : Type 0} → (R → Option (List ℕ)) → ColumnOf R → ColumnOf R → Type 0
-TakesRound remaining old new =
-    IfSome (unread remaining old) (λ bytes. (rest : List ℕ) × (unread remaining new ≡ Some rest) × TakesPieces bytes rest new.round)
+-- Where the bytes that are left of a column are known, these records come first, and then those of the bytes that are left then.
+abbrev pub Takes : Records → Option (List ℕ) → Option (List ℕ) → List CsvRecord → Type 0
+Takes by old new first = IfSome old (λ bytes. (rest : List ℕ) × (new ≡ Some rest) × (records_by by bytes ≡ first ++ records_by by rest))
 
 -- The first record was passed over, if there was one, where the bytes before and after are known: the others are left.
-abbrev pub PassesFirst : Option (List ℕ) → Option (List ℕ) → Type 0
-PassesFirst old new = IfSome old (λ bytes. (rest : List ℕ) × (new ≡ Some rest) × (csv_records rest ≡ drop 1 (csv_records bytes)))
+abbrev pub PassesFirst : Records → Option (List ℕ) → Option (List ℕ) → Type 0
+PassesFirst by old new = IfSome old (λ bytes. (rest : List ℕ) × (new ≡ Some rest) × (records_by by rest ≡ drop 1 (records_by by bytes)))
 
 abbrev pub PassesRecord : {R : Type 0} → (R → Option (List ℕ)) → ColumnOf R → ColumnOf R → Type 0
-PassesRecord remaining old new = PassesFirst (unread remaining old) (unread remaining new)
+PassesRecord remaining old new = PassesFirst old.by (unread remaining old) (unread remaining new)
 
 -- No record is left, where the bytes are known.
-abbrev pub HasNoRecord : Option (List ℕ) → Type 0
-HasNoRecord known = IfSome known (λ bytes. column_records bytes ≡ [])
+abbrev pub HasNoRecord : Records → Option (List ℕ) → Type 0
+HasNoRecord by known = IfSome known (λ bytes. records_by by bytes ≡ [])
 
 -- each piece has `size` records, but for the last, which has 1 to `size`
 abbrev pub ArePiecesOf : ℕ → List (List ℕ) → Type 0

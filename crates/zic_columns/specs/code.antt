@@ -7,6 +7,7 @@ pub mod Ends
 pub mod Field
 pub mod Hand
 pub mod Line
+pub mod LineScan
 pub mod Machine
 pub mod Mark
 pub mod Own

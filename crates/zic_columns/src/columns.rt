@@ -1,26 +1,29 @@
 //! A column that is read in rounds.
 
-ghost use Rattle.std.specs.Prelude.{◌≡◌, ◌↔◌, ◌⊎◌, ◌+◌, ◌<◌, ◌≤◌, [], Some, false, length, take, drop, IfOk, IfSome, IsTrue};
+ghost use Rattle.std.specs.Prelude.{◌≡◌, ◌↔◌, ◌⊎◌, ◌+◌, ◌<◌, ◌≤◌, ◌++◌, [], List, ℕ, None, Some, length, take, drop, IfOk, IfSome};
 ghost use Rattle.std.specs.Io.KnownBytes.{IsAtEnd, Keeps};
 ghost use Rattle.csv.specs.Reading.{strip_bom};
-ghost use Rattle.zic_columns.specs.Own.{first_own};
-ghost use Rattle.zic_columns.specs.Round.{ArePiecesOf, HasNoRecord, PassesRecord, StaysWithin, TakesOf, TakesRound, may_take, unread};
+ghost use Rattle.zic_columns.specs.Lines.{texts_by};
+ghost use Rattle.zic_columns.specs.Own.{first_text};
+ghost use Rattle.zic_columns.specs.Round.{ArePiecesOf, HasNoRecord, PassesRecord, StaysWithin, Takes, TakesOf, may_take, taken_records, unread};
 ghost use Rattle.zic_columns.specs.declared.pieces.TheConstants.{MAX_ROUND_PIECES};
 ghost use Rattle.zic_columns.specs.code.Range.{AreWithin, pieces_at};
 ghost use Rattle.zic_columns.specs.code.Mark.{ShowsMark};
-ghost use Rattle.zic_columns.specs.code.Hand.{CanBeCut, Takes, to_come};
+ghost use Rattle.zic_columns.specs.code.Hand.{CanBeCut, IsAtHand, UnendedBy, to_come};
 
 use crate::buffer::Window;
 use crate::first::{first_record, split_records};
-use crate::hand::{Scan, scan_on, scan_rest};
 use crate::limit::Bounded;
+use crate::line_scan::{OpenLine, is_open};
 use crate::mark::{shows_mark, without_mark};
 use crate::own::first_own_bytes;
 use crate::pieces::{PieceRange, cut_pieces};
 use crate::rounds::Round;
+use crate::scan::Scan;
 use std::alloc::{AllocError, Global};
 use std::io::{self, Read};
 use std::marker::Model;
+use zic_plan::Records;
 
 /// The number of bytes that show whether a column begins with a byte order mark, whatever they are.
 const MARK_LEN: usize = 3;
@@ -42,7 +45,28 @@ impl From<io::Error> for Unread {
     }
 }
 
-/// A column that is read in rounds. Clauses see it as the round that was taken last, the bytes in
+/// What was taken of a column.
+#[derive(Debug, Drop)]
+pub enum Taken {
+    /// A round.
+    Round,
+    /// A line that is open, by itself: its own bytes. Only a column in which each line is a record has
+    /// such lines.
+    OpenLine(Vec<u8>),
+    /// Nothing: the column has no more records.
+    End,
+}
+
+/// What is in hand first.
+#[derive(Clone, Copy, Drop)]
+enum AtHand {
+    /// Records, in this number of bytes.
+    Records(usize),
+    /// An open line.
+    Line(OpenLine),
+}
+
+/// A column that is read in rounds. Clauses see it as where its records end, the round that was taken last, the bytes in
 /// hand that no round had, and the reader that gives the others, with the number of bytes that it
 /// may still give.
 ///
@@ -66,9 +90,10 @@ impl<R: Read> Model for Column<R> {
 
     ghost use Rattle.zic_columns.specs.code.Window.{held_bytes, taken_bytes};
     ghost use Rattle.zic_columns.specs.code.Range.{AreWithin, pieces_at};
-    ghost use Rattle.zic_columns.specs.code.Hand.{IsScanned};
+    ghost use Rattle.zic_columns.specs.code.Hand.{IsScannedBy, mode_of};
 
     ghost view = { λ column. record {
+      by = mode_of column.scan;
       round = pieces_at (taken_bytes column.window) column.ranges.items;
       held = held_bytes column.window;
       past = column.reader.past;
@@ -78,12 +103,13 @@ impl<R: Read> Model for Column<R> {
 
     ghost invariant = { λ column.
         AreWithin column.ranges.items (length (taken_bytes column.window))
-        × IsScanned (held_bytes column.window) column.scan };
+        × IsScannedBy (held_bytes column.window) column.scan };
 }
 
 impl<R: Read + Drop> Column<R> {
-    /// Begins the column of a reader, of at most `most` bytes. Reads once, and again only while the
-    /// bytes in hand are a proper beginning of a byte order mark.
+    /// Begins the column of a reader, of at most `most` bytes, whose records end as the last parameter
+    /// says. Reads once, and again only while the bytes in hand are a proper beginning of a byte order
+    /// mark.
     ///
     /// At most `most` bytes are taken of the reader, now and later, and one beyond, which shows that
     /// there are more.
@@ -91,7 +117,8 @@ impl<R: Read + Drop> Column<R> {
     /// # Errors
     ///
     /// Fails where the reader fails or gives more bytes, or memory is refused.
-    pub fn new(alloc: Global, reader: R, most: u64) -> Result<Column<R>, Unread>
+    pub fn new(alloc: Global, reader: R, most: u64, records: Records) -> Result<Column<R>, Unread>
+        ensures by { IfOk result (λ column. column.by ≡ records) }
         ensures bytes { IfOk result (λ column. IfSome (R.remaining reader)
             (λ bytes. unread R.remaining column ≡ Some (strip_bom bytes))) }
         ensures limit { IfOk result (λ column. TakesOf (R.remaining reader)
@@ -100,10 +127,7 @@ impl<R: Read + Drop> Column<R> {
         let mut column = Column {
             reader: Bounded::new(reader, most),
             window: Window::new(alloc),
-            scan: Scan {
-                whole: 0,
-                begun: None,
-            },
+            scan: Scan::new(records),
             ranges: Vec::new(alloc),
         };
         column.read_mark()?;
@@ -115,56 +139,65 @@ impl<R: Read + Drop> Column<R> {
 }
 
 impl<R: Read> Column<R> {
-    /// Takes the next round, in pieces of `size` records each, the last of which may have fewer.
-    /// Returns `false` at the end of the column, where there is no round.
+    /// Takes the next round, in pieces of `size` records each, the last of which may have fewer, or an
+    /// open line, with an empty round. At the end of the column takes nothing.
     ///
-    /// A round has all whole records in hand. Reads only while no whole record is in hand. A read
-    /// asks for up to `wanted` bytes: at first for 64 KiB, and for more where reads give all that
-    /// was asked for, or a record is longer.
+    /// A round has all whole records in hand up to the first open line. Reads only while neither a
+    /// whole record nor an open line is in hand. A read asks for up to `wanted` bytes: at first for
+    /// 64 KiB, and for more where reads give all that was asked for, or a record is longer.
     ///
     /// # Errors
     ///
     /// Fails where the reader fails or gives more bytes than the column may have, or memory is
     /// refused.
-    pub fn next_round(&mut self, alloc: Global, wanted: usize, size: usize) -> Result<bool, Unread>
+    pub fn next_round(&mut self, alloc: Global, wanted: usize, size: usize) -> Result<Taken, Unread>
         requires { 0 < size }
-        ensures takes { IfOk result (λ _. TakesRound R.remaining self.old self.new) }
-        ensures some { IfOk result (λ some. IsTrue some ↔ (0 < length self.new.round)) }
+        ensures by { self.new.by ≡ self.old.by }
+        ensures takes { IfOk result (λ taken. Takes self.old.by (unread R.remaining self.old)
+            (unread R.remaining self.new) (taken_records taken self.new.round)) }
+        ensures some { IfOk result (λ taken. taken ≡ Taken.Round ↔ (0 < length self.new.round)) }
         ensures end { IfOk result
-            (λ some. some ≡ false → HasNoRecord (unread R.remaining self.new)) }
+            (λ taken. taken ≡ Taken.End → HasNoRecord self.old.by (unread R.remaining self.new)) }
         ensures few { IfOk result (λ _. length self.new.round ≤ MAX_ROUND_PIECES) }
         ensures cut { IfOk result (λ _. ArePiecesOf size self.new.round) }
         ensures limit { StaysWithin R.remaining self.old self.new }
     {
-        let count = self.gather(alloc, wanted)?;
-        let cut = cut_pieces(alloc, &self.window.held()[..count], size)?;
-        let some = !cut.ranges.is_empty();
-        self.pass(cut.len, cut.ranges);
-        Ok(some)
+        match self.gather(alloc, wanted)? {
+            AtHand::Records(count) => self.take_round(alloc, count, size),
+            AtHand::Line(line) => {
+                let own = Vec::from_slice(alloc, &self.window.held()[..line.own])?;
+                self.pass(line.len, Vec::new(alloc));
+                Ok(Taken::OpenLine(own))
+            }
+        }
     }
 
     /// Passes over the first record that no round had, if there is one, and leaves an empty round.
     /// Returns the record's own bytes, or no bytes where there is no record.
     ///
-    /// Reads only while no whole record is in hand, as [`Column::next_round`] does.
+    /// Reads only while neither a whole record nor an open line is in hand, as
+    /// [`Column::next_round`] does.
     ///
     /// # Errors
     ///
     /// Fails where the reader fails or gives more bytes than the column may have, or memory is
     /// refused.
     pub fn pass_record(&mut self, alloc: Global, wanted: usize) -> Result<Vec<u8>, Unread>
+        ensures by { self.new.by ≡ self.old.by }
         ensures passes { IfOk result (λ _. PassesRecord R.remaining self.old self.new) }
         ensures own { IfOk result (λ own. IfSome (unread R.remaining self.old)
-            (λ bytes. own.items ≡ first_own bytes)) }
+            (λ bytes. own.items ≡ first_text (texts_by self.old.by bytes))) }
         ensures none { IfOk result (λ _. self.new.round ≡ []) }
         ensures limit { StaysWithin R.remaining self.old self.new }
     {
-        let count = self.gather(alloc, wanted)?;
-        let (record, _) = split_records(&self.window.held()[..count], 1);
-        let own = first_own_bytes(alloc, record)?;
-        let len = record.len();
-        self.pass(len, Vec::new(alloc));
-        Ok(own)
+        match self.gather(alloc, wanted)? {
+            AtHand::Records(count) => self.pass_first(alloc, count),
+            AtHand::Line(line) => {
+                let own = Vec::from_slice(alloc, &self.window.held()[..line.own])?;
+                self.pass(line.len, Vec::new(alloc));
+                Ok(own)
+            }
+        }
     }
 
     /// Returns the round that was taken last.
@@ -179,6 +212,7 @@ impl<R: Read> Column<R> {
 
     /// Reads until the bytes in hand show whether the column begins with a byte order mark.
     fn read_mark(&mut self) -> Result<(), Unread>
+        ensures by { self.new.by ≡ self.old.by }
         ensures keeps { IfOk result
             (λ _. Keeps (unread R.remaining self.old) (unread R.remaining self.new)) }
         ensures shows { IfOk result
@@ -196,38 +230,104 @@ impl<R: Read> Column<R> {
         Ok(())
     }
 
-    /// Reads on until whole records are in hand, or the column ends. Returns the number of bytes
-    /// that can be cut.
-    fn gather(&mut self, alloc: Global, wanted: usize) -> Result<usize, Unread>
-        ensures takes { IfOk result
-            (λ _. Takes (unread R.remaining self.old) (unread R.remaining self.new) []) }
-        ensures cut { IfOk result (CanBeCut self.new.held (to_come R.remaining self.new)) }
+    /// Takes a round of the first `count` bytes in hand, or nothing where they have no record.
+    fn take_round(&mut self, alloc: Global, count: usize, size: usize) -> Result<Taken, Unread>
+        requires some { 0 < size }
+        requires hand { CanBeCut self.old.by self.old.held (to_come R.remaining self.old) count }
+        ensures by { self.new.by ≡ self.old.by }
+        ensures takes { IfOk result (λ taken. Takes self.old.by (unread R.remaining self.old)
+            (unread R.remaining self.new) (taken_records taken self.new.round)) }
+        ensures some { IfOk result (λ taken. taken ≡ Taken.Round ↔ (0 < length self.new.round)) }
+        ensures end { IfOk result
+            (λ taken. taken ≡ Taken.End → HasNoRecord self.old.by (unread R.remaining self.new)) }
+        ensures few { IfOk result (λ _. length self.new.round ≤ MAX_ROUND_PIECES) }
+        ensures cut { IfOk result (λ _. ArePiecesOf size self.new.round) }
+        ensures limit { StaysWithin R.remaining self.old self.new }
+    {
+        let cut = cut_pieces(alloc, &self.window.held()[..count], size)?;
+        let none = cut.ranges.is_empty();
+        self.pass(cut.len, cut.ranges);
+        if none {
+            return Ok(Taken::End);
+        }
+        Ok(Taken::Round)
+    }
+
+    /// Passes over the first record of the first `count` bytes in hand, if they have one. Returns the
+    /// record's own bytes, or no bytes.
+    fn pass_first(&mut self, alloc: Global, count: usize) -> Result<Vec<u8>, Unread>
+        requires { CanBeCut self.old.by self.old.held (to_come R.remaining self.old) count }
+        ensures by { self.new.by ≡ self.old.by }
+        ensures passes { IfOk result (λ _. PassesRecord R.remaining self.old self.new) }
+        ensures own { IfOk result (λ own. IfSome (unread R.remaining self.old)
+            (λ bytes. own.items ≡ first_text (texts_by self.old.by bytes))) }
+        ensures none { IfOk result (λ _. self.new.round ≡ []) }
+        ensures limit { StaysWithin R.remaining self.old self.new }
+    {
+        let (record, _) = split_records(&self.window.held()[..count], 1);
+        let own = first_own_bytes(alloc, record)?;
+        let len = record.len();
+        self.pass(len, Vec::new(alloc));
+        Ok(own)
+    }
+
+    /// Reads on until whole records or an open line are in hand, or the column ends. Returns what is in
+    /// hand first.
+    fn gather(&mut self, alloc: Global, wanted: usize) -> Result<AtHand, Unread>
+        ensures by { self.new.by ≡ self.old.by }
+        ensures takes { IfOk result (λ _. Takes self.old.by
+            (unread R.remaining self.old) (unread R.remaining self.new) []) }
+        ensures hand { IfOk result
+            (IsAtHand self.new.by self.new.held (to_come R.remaining self.new)) }
         ensures limit { StaysWithin R.remaining self.old self.new }
     {
         for _ in 0..u64::MAX {
-            if let Some(count) = self.records_at_hand(alloc) {
-                return Ok(count);
+            if let Some(hand) = self.at_hand(alloc) {
+                return Ok(hand);
             }
             if self.read_on(wanted)? == 0 {
-                return Ok(self.window.held().len());
+                return Ok(self.last_at_hand());
             }
         }
         Err(Unread)
     }
 
-    /// Returns the number of bytes in whole records, or `None` where there is no record: then drops
-    /// the lines in hand, which are without a byte.
-    fn records_at_hand(&mut self, alloc: Global) -> Option<usize>
-        ensures takes { Takes (unread R.remaining self.old) (unread R.remaining self.new) [] }
-        ensures cut { IfSome result (CanBeCut self.new.held (to_come R.remaining self.new)) }
+    /// Returns the whole records in hand, or the open line, or `None` where there is neither: then
+    /// drops the lines in hand, which are without a byte.
+    fn at_hand(&mut self, alloc: Global) -> Option<AtHand>
+        ensures by { self.new.by ≡ self.old.by }
+        ensures takes { Takes self.old.by
+            (unread R.remaining self.old) (unread R.remaining self.new) [] }
+        ensures hand { IfSome result
+            (IsAtHand self.new.by self.new.held (to_come R.remaining self.new)) }
+        ensures none { result ≡ None → UnendedBy self.new.by self.new.held }
         ensures limit { StaysWithin R.remaining self.old self.new }
     {
-        let whole = self.scan.whole;
+        let whole = self.scan.whole();
         if first_record(&self.window.held()[..whole]).is_some() {
-            return Some(whole);
+            return Some(AtHand::Records(whole));
         }
+        let opened = self.scan.opened();
         self.pass(whole, Vec::new(alloc));
-        None
+        match opened {
+            Some(line) => Some(AtHand::Line(line)),
+            None => None,
+        }
+    }
+
+    /// Returns what is in hand at the end of the column, where no line has its end.
+    fn last_at_hand(&self) -> AtHand
+        requires end { IsAtEnd (to_come R.remaining self.now) }
+        requires unended { UnendedBy self.now.by self.now.held }
+        ensures { IsAtHand self.now.by self.now.held (to_come R.remaining self.now) result }
+    {
+        let held = self.window.held();
+        let len = held.len();
+        match self.scan.records() {
+            Records::Csv => AtHand::Records(len),
+            Records::Lines if is_open(held) => AtHand::Line(OpenLine { own: len, len }),
+            Records::Lines => AtHand::Records(len),
+        }
     }
 
     /// Drops the round and reads once. Returns the number of bytes that came, 0 at the end of the
@@ -235,7 +335,9 @@ impl<R: Read> Column<R> {
     fn read_on(&mut self, wanted: usize) -> Result<usize, Unread>
         ensures keeps { IfOk result
             (λ _. Keeps (unread R.remaining self.old) (unread R.remaining self.new)) }
-        ensures grows { IfOk result (λ n. length self.new.held ≡ length self.old.held + n) }
+        ensures by { self.new.by ≡ self.old.by }
+        ensures grows { IfOk result (λ n. (more : List ℕ) × (length more ≡ n)
+            × (self.new.held ≡ self.old.held ++ more)) }
         ensures end { IfOk result (λ n. n ≡ 0 → IsAtEnd (to_come R.remaining self.new)) }
         ensures limit { StaysWithin R.remaining self.old self.new }
     {
@@ -243,7 +345,7 @@ impl<R: Read> Column<R> {
         self.window.make_room(wanted)?;
         let before = self.window.held().len();
         let count = self.window.read_from(&mut self.reader)?;
-        self.scan = scan_on(self.window.held(), before, self.scan);
+        self.scan = self.scan.on(self.window.held(), before);
         Ok(count)
     }
 
@@ -252,6 +354,7 @@ impl<R: Read> Column<R> {
         requires within { count ≤ length self.old.held }
         requires ranges { AreWithin ranges.items count }
         ensures { self.new ≡ record {
+          by = self.old.by;
           round = pieces_at (take count self.old.held) ranges.items;
           held = drop count self.old.held;
           past = self.old.past;
@@ -259,7 +362,7 @@ impl<R: Read> Column<R> {
           reader = self.old.reader;
         } }
     {
-        let scan = scan_rest(self.window.held(), count, self.scan);
+        let scan = self.scan.rest(self.window.held(), count);
         self.window.take(count);
         self.scan = scan;
         self.ranges = ranges;

@@ -13,7 +13,7 @@ use memchr::memrchr2;
 /// The number of bytes that are whole records, and the place of a CSV reader in the record of the
 /// others, if there are any.
 #[derive(Clone, Copy, Drop)]
-pub(crate) struct Scan {
+pub(crate) struct CsvScan {
     pub(crate) whole: usize,
     pub(crate) begun: Option<Place>,
 }
@@ -29,7 +29,7 @@ pub(crate) fn split_lines(bytes: &[u8]) -> (&[u8], &[u8])
 }
 
 /// Returns the number of bytes in whole lines before that of the first double quote.
-fn lines_before_quote(bytes: &[u8]) -> usize
+pub(crate) fn lines_before_quote(bytes: &[u8]) -> usize
     ensures { BeginWithLines bytes.now result }
 {
     if bytes.len() > 0 && bytes[0] == b'"' {
@@ -45,7 +45,7 @@ fn lines_before_quote(bytes: &[u8]) -> usize
 ///
 /// Lines are passed over together. From the line of a double quote on, the bytes are read one by
 /// one up to the end of its record.
-pub(crate) fn scan_from(bytes: &[u8], start: usize) -> Scan
+pub(crate) fn scan_from(bytes: &[u8], start: usize) -> CsvScan
     requires within { start ≤ length bytes.now }
     requires whole { AreWholeRecords (take start bytes.now) }
     ensures { IsScanned bytes.now result }
@@ -59,18 +59,18 @@ pub(crate) fn scan_from(bytes: &[u8], start: usize) -> Scan
         match whole_record_end(&bytes[whole..]) {
             Ok(len) => whole += len,
             Err(place) => {
-                return Scan {
+                return CsvScan {
                     whole,
                     begun: Some(place),
                 };
             }
         }
     }
-    Scan { whole, begun: None }
+    CsvScan { whole, begun: None }
 }
 
 /// Scans on where more bytes came after the first `before`, which were scanned.
-pub(crate) fn scan_on(bytes: &[u8], before: usize, scan: Scan) -> Scan
+pub(crate) fn scan_on(bytes: &[u8], before: usize, scan: CsvScan) -> CsvScan
     requires within { before ≤ length bytes.now }
     requires scanned { IsScanned (take before bytes.now) scan }
     ensures { IsScanned bytes.now result }
@@ -80,7 +80,7 @@ pub(crate) fn scan_on(bytes: &[u8], before: usize, scan: Scan) -> Scan
     };
     match record_end(place, &bytes[before..]) {
         Ok(len) => scan_from(bytes, before + len),
-        Err(place) => Scan {
+        Err(place) => CsvScan {
             whole: scan.whole,
             begun: Some(place),
         },
@@ -88,13 +88,13 @@ pub(crate) fn scan_on(bytes: &[u8], before: usize, scan: Scan) -> Scan
 }
 
 /// Returns the scan of the bytes after the first `count`.
-pub(crate) fn scan_rest(bytes: &[u8], count: usize, scan: Scan) -> Scan
+pub(crate) fn scan_rest(bytes: &[u8], count: usize, scan: CsvScan) -> CsvScan
     requires within { count ≤ length bytes.now }
     requires scanned { IsScanned bytes.now scan }
     ensures { IsScanned (drop count bytes.now) result }
 {
     if count == scan.whole {
-        return Scan {
+        return CsvScan {
             whole: 0,
             begun: scan.begun,
         };

@@ -5,6 +5,8 @@ ghost use Rattle.zic_columns.specs.Laws.{DelimitedRecordsAreOne, RecordsAreExcha
 ghost use Rattle.zic_columns.specs.Laws.{RowsAreExchanged};
 ghost use Rattle.zic_columns.specs.Laws.{BesideIsKept, OwnTextsAreOfRecords, PiecesHaveRecords};
 ghost use Rattle.zic_columns.specs.Laws.{ColumnIsOwnBytes, OwnBytesAreRecords, OwnBytesAreTrimmed, RecordsAreOfOwnBytes};
+ghost use Rattle.zic_columns.specs.Laws.{LinesAreCut, LinesWithoutQuotesAreCsv, RecordsByAreExchanged};
+ghost use Rattle.zic_columns.specs.Laws.{RecordsByAreOne, TextsByAreExchanged, TextsByAreOfRecords};
 ghost use Rattle.zic_columns.specs.Laws.{TextsAreCounted, TextsAreExchanged, WholeRecordsAreCut};
 
 /// States that a CSV reader gives bytes their records.
@@ -94,4 +96,36 @@ pub fn records_are_of_own_bytes()
 /// and after them.
 pub fn column_is_own_bytes()
     ensures { ColumnIsOwnBytes }
+{}
+
+/// States that bytes without a double quote have the same records whether each line is one or not.
+pub fn lines_without_quotes_are_csv()
+    ensures { LinesWithoutQuotesAreCsv }
+{}
+
+/// States that a column in which each line is a record can be cut after any line end.
+pub fn lines_are_cut()
+    ensures { LinesAreCut }
+{}
+
+/// States that bytes have one list of records with a delimiter, wherever records end.
+pub fn records_by_are_one()
+    ensures { RecordsByAreOne }
+{}
+
+/// States that each record has its own bytes, wherever records end.
+pub fn texts_by_are_of_records()
+    ensures { TextsByAreOfRecords }
+{}
+
+/// States that a column with another delimiter has the records of the column in which the delimiter
+/// and the comma stand in each other's place, wherever records end.
+pub fn records_by_are_exchanged()
+    ensures { RecordsByAreExchanged }
+{}
+
+/// States that a column with another delimiter has the own bytes of the column in which the
+/// delimiter and the comma stand in each other's place, wherever records end.
+pub fn texts_by_are_exchanged()
+    ensures { TextsByAreExchanged }
 {}

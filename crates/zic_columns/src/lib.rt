@@ -3,8 +3,10 @@
 //! The records of a column are those that a CSV reader gives of its bytes, without a byte order
 //! mark at its start: fields end at commas, records at a carriage return, a line feed or both, and
 //! a line without a byte makes no record. Between double quotes, commas and line ends are text. A
-//! column can be cut wherever a CSV reader stands before a record. The functions of `laws` do
-//! nothing: their contracts state what holds of records. The tests stand in `program_tests`.
+//! column can be cut wherever a CSV reader stands before a record. A column may also be read line by
+//! line: then a record ends at its line's end, also between double quotes, and a line whose double
+//! quotes are open there is a record without fields. The functions of `laws` do nothing: their
+//! contracts state what holds of records. The tests stand in `program_tests`.
 #![tactic(auto)]
 
 mod blocks;
@@ -19,6 +21,7 @@ mod hand;
 pub mod laws;
 mod limit;
 mod line;
+mod line_scan;
 mod machine;
 mod mark;
 mod own;
@@ -26,10 +29,11 @@ mod pieces;
 mod plain;
 mod quote;
 mod rounds;
+mod scan;
 mod splits;
 mod walk;
 
-pub use columns::{Column, Unread};
+pub use columns::{Column, Taken, Unread};
 pub use delimiter::{Exchanged, exchange};
 pub use fields::{Field, Record, Span, Wanted, push_field};
 pub use mark::without_mark;

@@ -76,7 +76,7 @@ pub(crate) fn field_len(bytes: &[u8]) -> usize
 }
 
 /// Returns the place after a byte of a record, or `None` where the byte ends the record.
-fn place_after(place: Place, byte: u8) -> Option<Place>
+pub(crate) fn place_after(place: Place, byte: u8) -> Option<Place>
     ensures { MatchOption result (EndsRecord (state_at place) byte)
         (λ next. GoesOn (state_at place) byte (state_at next)) }
 {

@@ -21,6 +21,9 @@ const TIME_WORDS: [&str; 3] = ["count", "rfc3339", "local"];
 /// The words for what is taken for local times in gaps and in folds.
 const CHOICE_WORDS: [&str; 4] = ["reject", "earlier", "later", "compatible"];
 
+/// The words for what a record is.
+const RECORD_WORDS: [&str; 2] = ["csv", "lines"];
+
 /// The greatest number that a field can have in an option.
 const MOST_FIELDS: i64 = 65_536;
 
@@ -54,6 +57,8 @@ enum Form {
     Time,
     /// An option that is one of `CHOICE_WORDS`.
     Choice,
+    /// An option that is one of `RECORD_WORDS`, the first by default.
+    Records,
 }
 
 /// A number in a range.
@@ -149,7 +154,7 @@ static BUILD: [Word; 7] = [
     EXPLAIN,
 ];
 
-static CONVERT: [Word; 21] = [
+static CONVERT: [Word; 22] = [
     Word {
         name: "SOURCE",
         help: "A file of Rule, Zone and Link lines",
@@ -236,6 +241,11 @@ static CONVERT: [Word; 21] = [
         name: "ambiguous",
         help: "Of local times: reject, earlier, later or compatible",
         form: Form::Choice,
+    },
+    Word {
+        name: "records",
+        help: "What a record is: csv or lines",
+        form: Form::Records,
     },
     Word {
         name: "append",
@@ -418,6 +428,7 @@ fn option<'a>(argument: Arg<'a>, form: &'a Form) -> Arg<'a> {
         Form::Unit => choice(argument.value_name("UNIT"), &UNIT_WORDS).default_value("s"),
         Form::Time => choice(argument.value_name("FORM"), &TIME_WORDS).default_value("count"),
         Form::Choice => choice(argument.value_name("C"), &CHOICE_WORDS),
+        Form::Records => choice(argument.value_name("KIND"), &RECORD_WORDS).default_value("csv"),
         Form::Zone => argument.value_name("NAME"),
         Form::Path => argument.value_name("FILE"),
         Form::Folder => argument.value_name("DIR"),

@@ -5,8 +5,8 @@ use crate::no_request::NoRequest;
 use clap::ArgMatches;
 use std::alloc::Global;
 use zic_plan::{
-    AtFault, Delimiter, Disambiguation, FieldCount, Header, Layout, RowStart, TimeFrom, Unit,
-    ZoneFrom,
+    AtFault, Delimiter, Disambiguation, FieldCount, Header, Layout, Records, RowStart, TimeFrom,
+    Unit, ZoneFrom,
 };
 
 /// Returns how a column is read.
@@ -20,6 +20,7 @@ pub(crate) fn layout(alloc: Global, matches: &ArgMatches<'_>) -> Result<Layout, 
     let delimiter = delimiter(alloc, matches)?;
     let unit = unit(alloc, matches)?;
     let from = time_from(alloc, matches)?;
+    let records = records(alloc, matches)?;
     let header = header(alloc, matches)?;
     let (zone, time) = match matches.get_str("zone") {
         Some(_) if zone_field.is_some() => {
@@ -49,6 +50,7 @@ pub(crate) fn layout(alloc: Global, matches: &ArgMatches<'_>) -> Result<Layout, 
         count,
         unit,
         delimiter,
+        records,
         header,
         start,
         at_fault,
@@ -154,5 +156,14 @@ fn disambiguation(alloc: Global, choice: Option<&str>) -> Result<Disambiguation,
         "later" => Ok(Disambiguation::Later),
         "compatible" => Ok(Disambiguation::Compatible),
         _ => Err(usage(alloc, "--ambiguous is reject, earlier, later or compatible")),
+    }
+}
+
+/// Returns where a record ends.
+fn records(alloc: Global, matches: &ArgMatches<'_>) -> Result<Records, NoRequest> {
+    match matches.get_str("records") {
+        Some("csv") => Ok(Records::Csv),
+        Some("lines") => Ok(Records::Lines),
+        _ => Err(usage(alloc, "--records is csv or lines")),
     }
 }

@@ -10,10 +10,10 @@ use Rattle.csv.specs.Reading.{strip_bom}
 use Rattle.zic_words.specs.Dash.{is_dash}
 use Rattle.zic_words.specs.Name.{is_name, is_name_byte, is_name_part}
 use Rattle.zic_words.specs.declared.name.TheConstants.{LONGEST_NAME}
-use Rattle.zic_columns.specs.Column.{column_records}
 use Rattle.zic_columns.specs.Exchange.{CanDelimit, exchange, exchanged}
-use Rattle.zic_columns.specs.Laws.{RecordsAreExchanged, TextsAreExchanged}
-use Rattle.zic_columns.specs.Own.{CsvRecord, beside, delimited_texts, first_text, own_texts}
+use Rattle.zic_columns.specs.Laws.{RecordsByAreExchanged, TextsByAreExchanged}
+use Rattle.zic_columns.specs.Lines.{texts_by}
+use Rattle.zic_columns.specs.Own.{first_text}
 use Rattle.zic_plan.specs.Delimiter.{is_csv_byte, is_delimiter, is_row_byte}
 use Rattle.zic_plan.specs.Layout.{records_before}
 use Rattle.zic_plan.specs.declared.layout.Header.{Header}
@@ -22,7 +22,7 @@ use Rattle.zic_plan.specs.declared.layout.Layout.{Layout}
 use Rattle.zic_zones.specs.Zones.{field_at}
 use Rattle.zic_convert.specs.Column.{AreRowRecords, header_of, own_header, own_line}
 use Rattle.zic_convert.specs.code.Progress.{own_line_in}
-use Rattle.zic_convert.specs.code.Row.{put_back, csv_records_in}
+use Rattle.zic_convert.specs.code.Row.{records_in}
 
 -- what a byte that can stand between fields is not
 pub record IsOutside (d : ℕ) : Type 0 where
@@ -95,37 +95,14 @@ module _ (d : ℕ) (o : IsOutside d) where
   pub field_same : (fields : List (List ℕ)) (index : ℕ) → field_at (map (exchanged d) fields) index ≡ exchanged d (field_at fields index)
   field_same fields index = get_or-map (exchanged d) fields index []
 
--- records and their own bytes, with the delimiter put back in both
-beside_put : (d : ℕ) (texts : List (List ℕ)) (records : List (List (List ℕ)))
-    → beside (map (exchanged d) texts) (map (map (exchanged d)) records) ≡ map (put_back d) (beside texts records)
-beside_put d [] records = refl
-beside_put d (own ∷ texts) [] = refl
-beside_put d (own ∷ texts) (fields ∷ records) =
-    ap (λ (l : List CsvRecord). record { own = exchanged d own; fields = map (exchanged d) fields } ∷ l) (beside_put d texts records)
-
 -- the records of a column with another delimiter that make rows are those with the delimiter put back
-wholes_delimited : (layout : Layout) → TextsAreExchanged → is_delimiter layout.delimiter ≡ true → (column : List ℕ)
-    → let d = layout.delimiter in
-    let inside = strip_bom (exchanged d column) in
-    let k = records_before layout.header in
-    drop k (beside (delimited_texts d (strip_bom column)) (map (map (exchanged d)) (column_records inside))) ≡ drop k (csv_records_in d inside)
-wholes_delimited layout own_law is column =
-    let d = layout.delimiter in
-    let inside = strip_bom (exchanged d column) in
-    let records = column_records inside in
-    let k = records_before layout.header in
-    ap (λ (t : List (List ℕ)). drop k (beside t (map (map (exchanged d)) records))) (own_law d column (can_delimit d is)) ∙ ap (drop k) (beside_put d (own_texts inside) records)
-
--- so are its records that make rows
-pub records_alike : (layout : Layout) → RecordsAreExchanged → TextsAreExchanged → is_delimiter layout.delimiter ≡ true → (column : List ℕ)
-    → AreRowRecords layout column (drop (records_before layout.header) (csv_records_in layout.delimiter (strip_bom (exchanged layout.delimiter column))))
-records_alike layout law own_law is column =
-    let d = layout.delimiter in
-    record {
-      records = map (map (exchanged d)) (column_records (strip_bom (exchanged d column)));
-      are = law d column (can_delimit d is);
-      is = sym (wholes_delimited layout own_law is column);
-    }
+pub records_alike : (layout : Layout) → RecordsByAreExchanged → is_delimiter layout.delimiter ≡ true → (column : List ℕ)
+    → AreRowRecords layout column (drop (records_before layout.header) (records_in layout (strip_bom (exchanged layout.delimiter column))))
+records_alike layout law is column = record {
+  all = records_in layout (strip_bom (exchanged layout.delimiter column));
+  are = law layout.records layout.delimiter column (can_delimit layout.delimiter is);
+  is = refl;
+}
 
 first_put : (d : ℕ) (texts : List (List ℕ)) → exchanged d (first_text texts) ≡ first_text (map (exchanged d) texts)
 first_put d [] = refl
@@ -137,9 +114,9 @@ header_put d headers.First texts = first_put d texts
 header_put d headers.Skipped texts = refl
 
 -- and so is its own header
-pub own_line_delimited : (layout : Layout) → TextsAreExchanged → is_delimiter layout.delimiter ≡ true → (column : List ℕ)
+pub own_line_delimited : (layout : Layout) → TextsByAreExchanged → is_delimiter layout.delimiter ≡ true → (column : List ℕ)
     → own_line_in layout (exchanged layout.delimiter column) ≡ own_line layout column
 own_line_delimited layout own_law is column =
     let d = layout.delimiter in
-    let texts = own_texts (strip_bom (exchanged d column)) in
-    ap (header_of layout.start layout.from d) (header_put d layout.header texts ∙ ap (own_header layout.header) (sym (own_law d column (can_delimit d is))))
+    let texts = texts_by layout.records (strip_bom (exchanged d column)) in
+    ap (header_of layout.start layout.from d) (header_put d layout.header texts ∙ ap (own_header layout.header) (sym (own_law layout.records d column (can_delimit d is))))

@@ -36,7 +36,7 @@ module _ {W : Type 0} (contents : W → Option (List ℕ)) (once : FilesAnswerOn
     (left : Option (List ℕ)) (n : ℕ) (old : Option (List ℕ)) (mid new : Counts W) (log now last : Option (List RowFault))
     (far : IsSoFar layout files most all left n (output old (contents mid.inner) log now)) where
   -- a row ends the run, or the writer failed
-  pub ends_in_rows : (rs : List CsvRecord) → ComeNext layout.delimiter left rs → (rows : RowsOf) → AreRowsOf layout files most (n + 1) rs rows → (why : RunStop)
+  pub ends_in_rows : (rs : List CsvRecord) → ComeNext layout left rs → (rows : RowsOf) → AreRowsOf layout files most (n + 1) rs rows → (why : RunStop)
       → EndsInRows contents mid new now last layout files most (n + 1) rs rows why → EndsIn layout files most [] all why (output old (contents new.inner) log last)
   ends_in_rows rs come rows are (stop.Row row kind) h =
       subst (λ (k : ℕ). EndsAtRow layout files most [] all k kind (output old (contents new.inner) log last)) (sym h.1)

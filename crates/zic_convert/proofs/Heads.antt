@@ -8,8 +8,9 @@ use Rattle.std.specs.Prelude.{IfErr, IfOk, IfSome, Result, Ok, Err, option_map}
 use Rattle.csv.specs.Reading.{strip_bom}
 use Rattle.csv.proofs.WriteFacts.{appends-none}
 use Rattle.zic_columns.specs.Exchange.{exchanged}
-use Rattle.zic_columns.specs.Laws.{RecordsAreExchanged, TextsAreExchanged}
-use Rattle.zic_columns.specs.Own.{CsvRecord, own_texts, csv_records}
+use Rattle.zic_columns.specs.Laws.{RecordsByAreExchanged, TextsByAreExchanged}
+use Rattle.zic_columns.specs.Lines.{records_by, texts_by}
+use Rattle.zic_columns.specs.Own.{CsvRecord}
 use Rattle.zic_counted.specs.Counts.{Counts}
 use Rattle.zic_counted.specs.Written.{FailsWithin}
 use Rattle.zic_tzif.specs.Laws.{FilesAnswerOnce}
@@ -25,7 +26,7 @@ use Rattle.zic_convert.specs.Column.{AreRowRecords, header_of, own_header, own_l
 use Rattle.zic_convert.specs.Run.{EndsAfterLines, EndsIn, WritesRows}
 use Rattle.zic_convert.specs.code.Halt.{IsCauseOfHalt, stop_of}
 use Rattle.zic_convert.specs.code.Progress.{BeginsRows, ConvertsColumn, ConvertsRest, EndsInColumn, EndsInRest, HaltsAtHead, output, own_line_in}
-use Rattle.zic_convert.specs.code.Row.{put_back, csv_records_in}
+use Rattle.zic_convert.specs.code.Row.{put_back, records_in}
 use Rattle.zic_convert.specs.code.Written.{EndsAtHead, Wrote}
 use Rattle.zic_convert.specs.declared.halt.Halt.{Halt}
 use Rattle.zic_convert.specs.declared.halt.Halt.TheVariants as halt
@@ -52,7 +53,7 @@ module _ {W : Type 0} (contents : W → Option (List ℕ)) where
 
   module _ (old new : Counts W) (layout : Layout) (known : Option (List ℕ)) where
     -- a header was not written whole
-    pub halts_before : (own : List ℕ) → IfSome known (λ column. own ≡ own_header layout.header (own_texts (strip_bom column))) → (why : RunStop)
+    pub halts_before : (own : List ℕ) → IfSome known (λ column. own ≡ own_header layout.header (texts_by layout.records (strip_bom column))) → (why : RunStop)
         → EndsAtHead contents old new (header_of layout.start layout.from layout.delimiter (exchanged layout.delimiter own)) why → HaltsAtHead contents old new layout known (halt.Stop why)
     halts_before own is stop.WriteFailed fails = (
       fails.failed,
@@ -95,13 +96,13 @@ no_line once layout files most sound head row_records why old new log part start
     }
 
 -- a column was converted in which the delimiter and commas are exchanged
-module _ (layout : Layout) (most : ℕ) (law : RecordsAreExchanged) (own_law : TextsAreExchanged) (can : is_delimiter layout.delimiter ≡ true) (known inside : Option (List ℕ))
+module _ (layout : Layout) (most : ℕ) (law : RecordsByAreExchanged) (own_law : TextsByAreExchanged) (can : is_delimiter layout.delimiter ≡ true) (known inside : Option (List ℕ))
     (is : inside ≡ option_map (exchanged layout.delimiter) known) where
   within : (column : List ℕ) → known ≡ Some column → inside ≡ Some (exchanged layout.delimiter column)
   within column e = is ∙ ap (option_map (exchanged layout.delimiter)) e
 
   abbrev row_wholes : List ℕ → List CsvRecord
-  row_wholes column = drop (records_before layout.header) (csv_records_in layout.delimiter (strip_bom (exchanged layout.delimiter column)))
+  row_wholes column = drop (records_before layout.header) (records_in layout (strip_bom (exchanged layout.delimiter column)))
 
   -- the rows of a column did not begin
   module _ {W : Type 0} (contents : W → Option (List ℕ)) (once : FilesAnswerOnce) (old new : Counts W) (log : Option (List RowFault)) (files : List File) (sound : AreSoundFiles files) where
@@ -109,7 +110,7 @@ module _ (layout : Layout) (most : ℕ) (law : RecordsAreExchanged) (own_law : T
         × EndsAfterLines layout files most (own_line layout column) row_records why (output (contents old.inner) (contents old.inner) log log))
     none_written why = if_some known _ (λ column e. (
       row_wholes column,
-      records_alike layout law own_law can column,
+      records_alike layout law can column,
       no_line once layout files most sound (own_line layout column) (row_wholes column) why (contents old.inner) (contents old.inner) log [] refl (appends-none (contents old.inner)) (inl refl),
     ))
 
@@ -120,7 +121,7 @@ module _ (layout : Layout) (most : ℕ) (law : RecordsAreExchanged) (own_law : T
         let fails = for_some inside _ (exchanged layout.delimiter column) failed.1 (within column e) in
         let same = own_line_delimited layout own_law can column in (
           row_wholes column,
-          records_alike layout law own_law can column,
+          records_alike layout law can column,
           no_line once layout files most sound (own_line layout column) (row_wholes column) stop.WriteFailed (contents old.inner) (contents new.inner) log fails.part
               (subst (λ (l : List ℕ). StartsWith l fails.part) same fails.starts) fails.wrote (inr refl),
         ))
@@ -132,20 +133,20 @@ module _ (layout : Layout) (most : ℕ) (law : RecordsAreExchanged) (own_law : T
 
   -- the rest of a column was converted, once its header was written
   module _ (files : List File) (left : Option (List ℕ)) (old mid new : Option (List ℕ)) (log last : Option (List RowFault))
-      (begins : IfSome inside (λ bytes. BeginsRows layout.header bytes left)) (head : IfSome inside (λ bytes. Appends old mid (own_line_in layout bytes))) where
+      (begins : IfSome inside (λ bytes. BeginsRows layout bytes left)) (head : IfSome inside (λ bytes. Appends old mid (own_line_in layout bytes))) where
     begun_as : (P : List CsvRecord → Type 0) (Q : List ℕ → List CsvRecord → Type 0)
         → ((column : List ℕ) (row_records : List CsvRecord) → Appends old mid (own_line layout column) → P row_records → Q column row_records)
-        → IfSome left (λ bytes. P (csv_records_in layout.delimiter bytes)) → IfSome known (λ column. (row_records : List CsvRecord) × AreRowRecords layout column row_records × Q column row_records)
+        → IfSome left (λ bytes. P (records_in layout bytes)) → IfSome known (λ column. (row_records : List CsvRecord) × AreRowRecords layout column row_records × Q column row_records)
     begun_as P Q below p = if_some known _ (λ column e.
         let d = layout.delimiter in
         let k = records_before layout.header in
         let text = exchanged d column in
         let (rest, at, same) = for_some inside _ text begins (within column e) in
-        let all : csv_records_in d rest ≡ drop k (csv_records_in d (strip_bom text)) = ap (map (put_back d)) same ∙ sym (drop-map (put_back d) k (csv_records (strip_bom text))) in
+        let all : records_in layout rest ≡ drop k (records_in layout (strip_bom text)) = ap (map (put_back d)) same ∙ sym (drop-map (put_back d) k (records_by layout.records (strip_bom text))) in
         let line = subst (λ (l : List ℕ). Appends old mid l) (own_line_delimited layout own_law can column) (for_some inside _ text head (within column e)) in (
-          drop k (csv_records_in d (strip_bom text)),
-          records_alike layout law own_law can column,
-          below column (drop k (csv_records_in d (strip_bom text))) line (subst P all (for_some left _ rest p at)),
+          drop k (records_in layout (strip_bom text)),
+          records_alike layout law can column,
+          below column (drop k (records_in layout (strip_bom text))) line (subst P all (for_some left _ rest p at)),
         ))
 
     pub converts_column : (n : ℕ) → ConvertsRest layout most left n (output mid new log last) files → ConvertsColumn layout most known n (output old new log last) files

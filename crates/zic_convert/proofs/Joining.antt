@@ -9,9 +9,11 @@ use lib.ListN.{get_elem?}
 use Rattle.zic_columns.specs.Round.{ArePiecesOf, records_of}
 use Rattle.zic_columns.specs.Column.{column_records}
 use Rattle.zic_columns.specs.Own.{CsvRecord}
+use Rattle.zic_columns.specs.declared.columns.Taken.{Taken}
+use Rattle.zic_columns.specs.declared.columns.Taken.TheVariants as taken
 use Rattle.zic_pieces.specs.Task.{AreValues}
 use Rattle.zic_files.specs.File.{File}
-use Rattle.zic_convert.specs.code.Row.{AreRowsOf, RowsOf, csv_records_in, wholes_of_all}
+use Rattle.zic_convert.specs.code.Row.{AreRowsOf, RowsOf, csv_records_in, taken_rows, wholes_of_all}
 use Rattle.zic_convert.specs.code.Written.{EndsInPieces, EndsInRound, EndsInRows, WritesRound}
 use Rattle.zic_counted.specs.Counts.{Counts}
 use Rattle.zic_plan.specs.declared.layout.Layout.{Layout}
@@ -123,6 +125,11 @@ some_of_records size (p ∷ q ∷ ps) has positive cut = omega (arith, length-ap
 
 pub some_records : (d size : ℕ) (pieces : List (List ℕ)) → 0 < length pieces → 0 < size → ArePiecesOf size pieces → 0 < length (wholes_of_all d pieces)
 some_records d size pieces has positive cut = omega (arith, as_many_of_all d pieces, some_of_records size pieces has positive cut)
+
+pub taken_some : (d size : ℕ) (next : Taken) (pieces : List (List ℕ)) → (next ≡ taken.End → ⊥) → (next ≡ taken.Round → 0 < length pieces) → 0 < size → ArePiecesOf size pieces → 0 < length (taken_rows d next pieces)
+taken_some d size taken.Round pieces goes has positive cut = some_records d size pieces (has refl) positive cut
+taken_some d size (taken.OpenLine line) pieces goes has positive cut = omega arith
+taken_some d size taken.End pieces goes has positive cut = absurd (goes refl)
 
 -- and few enough for their numbers
 product : (a b : ℕ) → a ≤ 4294967296 → b ≤ 65536 → a * b ≤ 281474976710656

@@ -20,6 +20,7 @@ pub mod Plain
 pub mod Progress
 pub mod PutBack
 pub mod Rounds
+pub mod OpenLines
 pub mod RowFaults
 pub mod Stated
 pub mod Sounds

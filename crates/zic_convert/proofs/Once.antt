@@ -5,8 +5,8 @@ use Rattle.std.proofs.lemmas.List.Elements.{All-contains}
 use Rattle.std.proofs.lemmas.Option.{same_Some}
 use Rattle.csv.specs.Reading.{strip_bom}
 use Rattle.zic_columns.specs.Exchange.{exchanged}
-use Rattle.zic_columns.specs.Own.{CsvRecord, beside, delimited_texts}
-use Rattle.zic_columns.specs.Laws.{DelimitedRecordsAreOne, RecordsAreOne}
+use Rattle.zic_columns.specs.Own.{CsvRecord}
+use Rattle.zic_columns.specs.Laws.{RecordsAreOne, RecordsByAreOne}
 use Rattle.zic_tzif.specs.Answer.{Answers}
 use Rattle.zic_tzif.specs.Laws.{FilesAnswerOnce}
 use Rattle.zic_rows.specs.Count.{second_of}
@@ -97,14 +97,13 @@ module _ (answers : FilesAnswerOnce) (files : List File) (sound : AreSoundFiles 
         (ap (λ (l : List ℕ). l ∷ ts) first ∙ ap (λ (l : List (List ℕ)). u ∷ l) rest.0, rest.1)
 
 -- and so does a column
-pub columns_once : RecordsAreOne → DelimitedRecordsAreOne → FilesAnswerOnce → ColumnsConvertOnce
-columns_once one delimited answers = record {
+pub columns_once : RecordsAreOne → RecordsByAreOne → FilesAnswerOnce → ColumnsConvertOnce
+columns_once one by_mode answers = record {
   all = λ files most column a b fault other sound come then.
       (let same = one _ come.records then.records come.are then.are in
       once answers files sound most 1 come.records a b fault other come.rows (rw same then.rows));
   by = λ files layout most column a b fault other sound come then.
-      (let same = delimited layout.delimiter _ come.are.records then.are.records come.are.are then.are.are in
-      let row_records : come.row_records ≡ then.row_records = come.are.is
-      ∙ ap (λ (records : List (List (List ℕ))). drop (records_before layout.header) (beside (delimited_texts layout.delimiter (strip_bom column)) records)) same ∙ sym then.are.is in
+      (let same = by_mode layout.records layout.delimiter (strip_bom column) come.are.all then.are.all come.are.are then.are.are in
+      let row_records : come.row_records ≡ then.row_records = come.are.is ∙ ap (drop (records_before layout.header)) same ∙ sym then.are.is in
       once_by answers files sound most layout 1 come.row_records a b fault other come.rows (rw row_records then.rows));
 }

@@ -1,6 +1,6 @@
 -- Records of two plain fields, by a layout.
 use Rattle.std.proofs.Common.{◌≡◌, ◌+◌, ◌==◌, ℕ, ℤ, Bool, true, false, List, [], ◌∷◌, ◌++◌, length, Option, Some, None, Result, Ok, append_assoc, refl, sym, ap, subst, ◌∙◌, arith, drop}
-use Rattle.std.specs.Prelude.{◌↔◌, is_some, option_map}
+use Rattle.std.specs.Prelude.{◌↔◌, is_some, nat_le, option_map}
 use Rattle.std.specs.Fmt.{signed_decimal}
 use Rattle.std.proofs.lemmas.Bool.{eqb-true, ne_eqb}
 use Rattle.std.proofs.lemmas.List.{map-append}
@@ -14,11 +14,14 @@ use Rattle.zic_columns.proofs.Wholes.{wholes_fields}
 use Rattle.zic_columns.specs.Column.{AreColumnRecords, column_records}
 use Rattle.zic_columns.specs.Exchange.{config_of, exchange, exchanged}
 use Rattle.zic_columns.specs.Laws.{ColumnRecordsAreRead, DelimitedRecordsAreOne}
-use Rattle.zic_columns.specs.Own.{CsvRecord, csv_records}
+use Rattle.zic_columns.specs.Lines.{AreRecordsBy}
+use Rattle.zic_columns.specs.Own.{CsvRecord, beside, csv_records, own_texts}
 use Rattle.zic_files.specs.File.{File}
 use Rattle.zic_plan.specs.Layout.{HasPlainRows, records_before}
 use Rattle.zic_plan.specs.declared.layout.Header.TheVariants as header
 use Rattle.zic_plan.specs.declared.layout.Layout.{Layout}
+use Rattle.zic_plan.specs.declared.layout.Records.{Records}
+use Rattle.zic_plan.specs.declared.layout.Records.TheVariants as by
 use Rattle.zic_plan.specs.declared.layout.RowStart.TheVariants as starts
 use Rattle.zic_plan.specs.declared.layout.Unit.{Unit}
 use Rattle.zic_plan.specs.declared.layout.Unit.TheVariants as unit
@@ -30,7 +33,7 @@ use Rattle.zic_tzif.specs.Answer.{Answers}
 use Rattle.zic_zones.specs.Zones.{is_named, zone_in}
 use Rattle.zic_convert.specs.Column.{AreRowRecords, ConvertsBodyTo, ConvertsBy, ConvertsTo}
 use Rattle.zic_convert.specs.Laws.{PlainColumnsConvertAlike}
-use Rattle.zic_convert.specs.Rows.{RecordsConvertTo, IsTextOf, fault_of, instant_in, is_row_instant, name_in}
+use Rattle.zic_convert.specs.Rows.{RecordsConvertTo, IsTextOf, fault_of, instant_in, is_closed, is_row_instant, name_in}
 use Rattle.zic_convert.specs.LayoutRows.{RecordsConvertBy, IsRowAt, IsTextBy, count_in, ends_by, fault_by, file_named, rest_by, start_text, time_by, told_count, told_fault}
 use Rattle.zic_convert.specs.code.Row.{field_start, fields_of_all}
 
@@ -42,10 +45,11 @@ same_instant : (a b : ℤ) → ◌≡◌ {A = Result ℤ RowKind} (Ok a) (Ok b) 
 same_instant a b same = cc
 
 -- checks that all pass
-second_passes : (a b c d e : Bool) (k l m n o : RowKind) → first_failed (check a k ∷ check b l ∷ check c m ∷ check d n ∷ check e o ∷ []) ≡ None → b ≡ true
-second_passes false b c d e k l m n o h = absurd (cc h)
-second_passes true false c d e k l m n o h = absurd (cc h)
-second_passes true true c d e k l m n o h = refl
+third_passes : (a b c d e f : Bool) (k l m n o p : RowKind) → first_failed (check a k ∷ check b l ∷ check c m ∷ check d n ∷ check e o ∷ check f p ∷ []) ≡ None → c ≡ true
+third_passes false b c d e f k l m n o p h = absurd (cc h)
+third_passes true false c d e f k l m n o p h = absurd (cc h)
+third_passes true true false d e f k l m n o p h = absurd (cc h)
+third_passes true true true d e f k l m n o p h = refl
 
 two_fields : (fields : List (List ℕ)) → length fields ≡ 2 → (name : List ℕ) × (field : List ℕ) × (fields ≡ name ∷ field ∷ [])
 two_fields [] e = absurd (omega (arith, e))
@@ -138,7 +142,8 @@ module _ (layout : Layout) (plain : HasPlainRows layout) (files : List File) whe
   -- a record without a fault has two fields
   two_of : (most number : ℕ) (fields : List (List ℕ)) → fault_of files most number fields ≡ None → (name : List ℕ) × (field : List ℕ) × (fields ≡ name ∷ field ∷ [])
   two_of most number fields none =
-      let two = second_passes _ (length fields == 2) (is_named files (name_in fields)) (is_some (instant_in fields)) (is_row_instant (instant_in fields)) _ _ _ _ _ none in
+      let two = third_passes (nat_le number most) (is_closed fields) (length fields == 2) (is_named files (name_in fields)) (is_some (instant_in fields)) (is_row_instant (instant_in fields))
+      kind.TooManyRows kind.RowQuote kind.RowFields kind.RowZone kind.RowInstant kind.RowRange none in
       two_fields fields (eqb-true (length fields) 2 two)
 
   -- plain columns come to the same
@@ -182,14 +187,16 @@ module _ (read : ColumnRecordsAreRead) (one : DelimitedRecordsAreOne) (files : L
   -- those that make rows, with their own bytes
   rows_are : (row_records : List CsvRecord) → AreRowRecords layout column row_records → row_records ≡ drop (records_before layout.header) (csv_records (strip_bom column))
   rows_are row_records are =
-      let same = records_are are.records (rw plain.delimiter at are.are) in
-      rw (plain.delimiter, same) at are.is
+      let of : AreRecordsBy by.Csv 44 (strip_bom column) are.all = subst (λ (d : ℕ). AreRecordsBy by.Csv d (strip_bom column) are.all) plain.delimiter
+      (subst (λ (mode : Records). AreRecordsBy mode layout.delimiter (strip_bom column) are.all) plain.records are.are) in
+      let same = records_are of.0 of.1 in
+      are.is ∙ ap (drop (records_before layout.header)) (of.2 ∙ ap (beside (own_texts (strip_bom column))) same)
 
   all_rows : AreRowRecords layout column (drop (records_before layout.header) (csv_records (strip_bom column)))
   all_rows = record {
-    records = column_records (strip_bom column);
-    are = rw plain.delimiter (read (strip_bom column));
-    is = rw plain.delimiter refl;
+    all = csv_records (strip_bom column);
+    are = rw (plain.delimiter, plain.records) (column_records (strip_bom column), read (strip_bom column), refl);
+    is = refl;
   }
 
   -- the rows of a column are those of its records after the header, if it has one, without a layout

@@ -8,12 +8,17 @@ use Rattle.std.proofs.Math.Seq.{take-append_seam}
 use Rattle.std.proofs.lemmas.List.{append-nil, length-append, map-append}
 use Rattle.std.proofs.lemmas.List.Folds.{concat-append}
 use Rattle.csv.proofs.WriteFacts.{appends-more, appends-none}
-use Rattle.zic_columns.specs.Own.{CsvRecord, csv_records}
-use Rattle.zic_columns.specs.Round.{HasNoRecord, TakesPieces, wholes_of}
+use Rattle.zic_columns.specs.Lines.{records_by}
+use Rattle.zic_columns.specs.Own.{CsvRecord}
+use Rattle.zic_columns.specs.Round as Columns
+use Rattle.zic_columns.specs.Round.{HasNoRecord, taken_records}
+use Rattle.zic_columns.specs.declared.columns.Taken.{Taken}
+use Rattle.zic_columns.specs.declared.columns.Taken.TheVariants as taken
 use Rattle.zic_tzif.specs.Laws.{FilesAnswerOnce}
 use Rattle.zic_files.specs.File.{File}
 use Rattle.zic_files.specs.Sound.{AreSoundFiles}
 use Rattle.zic_plan.specs.declared.layout.Layout.{Layout}
+use Rattle.zic_plan.specs.declared.layout.Records.{Records}
 use Rattle.zic_base.specs.declared.row_fault.RowFault.{RowFault}
 use Rattle.zic_base.specs.declared.row_fault.RowKind.{RowKind}
 use Rattle.zic_base.specs.declared.run_stop.RunStop.{RunStop}
@@ -21,7 +26,7 @@ use Rattle.zic_base.specs.declared.run_stop.RunStop.TheVariants as stop
 use Rattle.zic_convert.specs.LayoutRows.{RecordsConvertBy, faults_by}
 use Rattle.zic_convert.specs.Run.{EndsAfterLines, EndsAtRow, Notes, WritesRows}
 use Rattle.zic_convert.specs.code.Progress.{ComeNext, IsSoFar, Takes, output}
-use Rattle.zic_convert.specs.code.Row.{AreRowsOf, RowsOf, empty_rows, put_back, csv_records_in, wholes_of_all}
+use Rattle.zic_convert.specs.code.Row.{AreRowsOf, RowsOf, empty_rows, put_back, records_in, taken_rows}
 use Rattle.zic_convert.proofs.Bytes.{starts_later}
 use Rattle.zic_convert.proofs.Coming.{all_texts, come_after, come_more, faults_after, faults_more, no_rows}
 use Rattle.zic_convert.proofs.Fronts.{faults_front, front_texts, take_after}
@@ -29,27 +34,34 @@ use Rattle.zic_convert.proofs.Logs.{notes_more, notes_none}
 use Rattle.zic_convert.proofs.Options.{for_some, if_some}
 use Rattle.zic_convert.proofs.Sounds.{all_known}
 use Rattle.zic_convert.proofs.Totals.{come_to_more}
-use Rattle.zic_convert.proofs.Wholes.{all_put, none_in}
+use Rattle.zic_convert.proofs.Wholes.{all_put}
 
--- a round that is taken takes the records of its pieces
-pub round_taken : (d : ℕ) (old new : Option (List ℕ)) (pieces : List (List ℕ))
-    → IfSome old (λ bytes. (rest : List ℕ) × (new ≡ Some rest) × TakesPieces bytes rest pieces) → Takes d old new (wholes_of_all d pieces)
-round_taken d old new pieces takes = if_some old _ (λ bytes e.
-    let (rest, at, same) = for_some old _ bytes takes e in
-    (rest, at, ap (map (put_back d)) same ∙ map-append (put_back d) (wholes_of pieces) (csv_records rest) ∙ ap (λ (l : List CsvRecord). l ++ csv_records_in d rest) (sym (all_put d pieces))))
+-- what was taken, with the delimiter put back
+rows_put : (d : ℕ) (next : Taken) (pieces : List (List ℕ)) → map (put_back d) (taken_records next pieces) ≡ taken_rows d next pieces
+rows_put d taken.Round pieces = sym (all_put d pieces)
+rows_put d (taken.OpenLine line) pieces = refl
+rows_put d taken.End pieces = refl
+
+-- what is taken takes its records
+pub rows_taken : (layout : Layout) (mode : Records) → mode ≡ layout.records → (old new : Option (List ℕ)) (next : Taken) (pieces : List (List ℕ))
+    → Columns.Takes mode old new (taken_records next pieces) → Takes layout old new (taken_rows layout.delimiter next pieces)
+rows_taken layout mode is old new next pieces takes = if_some old _ (λ bytes e.
+    let d = layout.delimiter in
+    let here : Columns.Takes layout.records old new (taken_records next pieces) = subst (λ (m : Records). Columns.Takes m old new (taken_records next pieces)) is takes in
+    let (rest, at, same) = for_some old _ bytes here e in (
+      rest,
+      at,
+      ap (map (put_back d)) same ∙ map-append (put_back d) (taken_records next pieces) (records_by layout.records rest)
+          ∙ ap (λ (l : List CsvRecord). l ++ records_in layout rest) (rows_put d next pieces),
+    ))
 
 -- records that are taken come next
-pub taken_come_next : (d : ℕ) (old new : Option (List ℕ)) (rs : List CsvRecord) → Takes d old new rs → ComeNext d old rs
-taken_come_next d old new rs takes = if_some old _ (λ bytes e. (let t = for_some old _ bytes takes e in (csv_records_in d t.0, t.2)))
-
--- a round without a piece takes no record
-pub no_piece : (d : ℕ) (old new : Option (List ℕ)) (pieces : List (List ℕ)) → (0 < length pieces → ⊥) → Takes d old new (wholes_of_all d pieces) → Takes d old new []
-no_piece d old new [] none takes = takes
-no_piece d old new (p ∷ ps) none takes = absurd (none (omega arith))
+pub taken_come_next : (layout : Layout) (old new : Option (List ℕ)) (rs : List CsvRecord) → Takes layout old new rs → ComeNext layout old rs
+taken_come_next layout old new rs takes = if_some old _ (λ bytes e. (let t = for_some old _ bytes takes e in (records_in layout t.0, t.2)))
 
 module _ (layout : Layout) (files : List File) (most : ℕ) (all : List CsvRecord) where
   -- nothing yet
-  pub at_start : (known held : Option (List ℕ)) (log : Option (List RowFault)) (bytes : List ℕ) → known ≡ Some bytes → all ≡ csv_records_in layout.delimiter bytes
+  pub at_start : (known held : Option (List ℕ)) (log : Option (List RowFault)) (bytes : List ℕ) → known ≡ Some bytes → all ≡ records_in layout bytes
       → IsSoFar layout files most all known 0 (output held held log log)
   at_start known held log bytes is same = record {
     row_records = [];
@@ -64,7 +76,7 @@ module _ (layout : Layout) (files : List File) (most : ℕ) (all : List CsvRecor
   }
 
   -- what is left changes, where no record was taken
-  pub none_taken : (left next : Option (List ℕ)) (n : ℕ) (old new : Option (List ℕ)) (log now : Option (List RowFault)) → Takes layout.delimiter left next []
+  pub none_taken : (left next : Option (List ℕ)) (n : ℕ) (old new : Option (List ℕ)) (log now : Option (List RowFault)) → Takes layout left next []
       → IsSoFar layout files most all left n (output old new log now) → IsSoFar layout files most all next n (output old new log now)
   none_taken left next n old new log now takes far =
       let t = for_some left _ far.rest takes far.bytes in
@@ -82,9 +94,9 @@ module _ (layout : Layout) (files : List File) (most : ℕ) (all : List CsvRecor
 
   -- no record is left, and what the writer held back is passed on
   pub all_written : (left : Option (List ℕ)) (n : ℕ) (old mid new : Option (List ℕ)) (log now : Option (List RowFault)) → IsSoFar layout files most all left n (output old mid log now)
-      → HasNoRecord left → Appends mid new [] → WritesRows layout files most [] all n (output old new log now)
+      → HasNoRecord layout.records left → Appends mid new [] → WritesRows layout files most [] all n (output old new log now)
   all_written left n old mid new log now far none flushed =
-      let last = none_in layout.delimiter far.rest (for_some left _ far.rest none far.bytes) in
+      let last : records_in layout far.rest ≡ [] = ap (map (put_back layout.delimiter)) (for_some left _ far.rest none far.bytes) in
       let same = far.goes_on ∙ ap (λ (r : List CsvRecord). far.row_records ++ r) last ∙ append-nil far.row_records in (
         record {
           texts = far.texts;
@@ -124,7 +136,7 @@ module _ (layout : Layout) (files : List File) (most : ℕ) (all : List CsvRecor
           (notes_more log now last _ rows.faults far.noted noted)
 
       -- more rows
-      pub later : (next : Option (List ℕ)) → rows.fault ≡ None → Takes layout.delimiter left next rs → Appends mid new rows.text → Notes now last rows.faults
+      pub later : (next : Option (List ℕ)) → rows.fault ≡ None → Takes layout left next rs → Appends mid new rows.text → Notes now last rows.faults
           → IsSoFar layout files most all next (n + rows.count) (output old new log last)
       later next none takes wrote noted =
           let t = for_some left _ far.rest takes far.bytes in
@@ -133,14 +145,14 @@ module _ (layout : Layout) (files : List File) (most : ℕ) (all : List CsvRecor
             texts = far.texts ++ are.texts;
             rest = t.0;
             bytes = t.1;
-            goes_on = far.goes_on ∙ ap (λ (r : List CsvRecord). far.row_records ++ r) t.2 ∙ sym (append_assoc far.row_records rs (csv_records_in layout.delimiter t.0));
+            goes_on = far.goes_on ∙ ap (λ (r : List CsvRecord). far.row_records ++ r) t.2 ∙ sym (append_assoc far.row_records rs (records_in layout t.0));
             come = come_on rs are.texts None (rw none at are.come);
             counted = omega (arith, far.counted, are.count, length-append far.texts are.texts);
             wrote = wrote_on are.texts rows.text are.text wrote;
             noted = noted_on noted;
           }
 
-      module _ (come : ComeNext layout.delimiter left rs) where
+      module _ (come : ComeNext layout left rs) where
         -- the rows up to one that ends the run
         pub up_to_row : (kind : RowKind) → rows.fault ≡ Some kind → Appends mid new rows.text → Notes now last rows.faults
             → EndsAtRow layout files most [] all (n + 1 + rows.count) kind (output old new log last)
@@ -211,6 +223,6 @@ module _ (layout : Layout) (files : List File) (most : ℕ) (all : List CsvRecor
       → IsSoFar layout files most all left n (output old mid log now) → (why : RunStop) (part : List ℕ) → StartsWith [] part → (part ≡ []) ⊎ (why ≡ stop.WriteFailed) → Appends mid new part
       → EndsAfterLines layout files most [] all why (output old new log now)
   ends_here once sound left n old mid new log now far why part starts exact wrote =
-      let come : ComeNext layout.delimiter left [] = if_some left _ (λ bytes e. (csv_records_in layout.delimiter bytes, refl)) in
+      let come : ComeNext layout left [] = if_some left _ (λ bytes e. (records_in layout bytes, refl)) in
       let none = no_rows layout files most (n + 1) in
       ends_after left n old mid new log now now far [] empty_rows none come once sound [] [] refl empty_rows none part starts refl why exact wrote (notes_none now)

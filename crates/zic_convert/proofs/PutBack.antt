@@ -34,6 +34,7 @@ use Rattle.zic_rows.specs.Count.{count_of, second_of}
 use Rattle.zic_base.specs.Number.{decimal_value, number}
 use Rattle.zic_zones.specs.Zones.{AnswersAt, field_at, is_named, number_of, zone_in}
 use Rattle.zic_convert.specs.LayoutRows.{IsTextBy, beginning, checks_of, count_in, fault_by, file_named, rest_by, start_text, time_by}
+use Rattle.zic_convert.specs.Rows.{is_closed}
 use Rattle.zic_convert.specs.code.Batch.{IsRowQuery, count_at, wanted_by}
 use Rattle.zic_convert.specs.code.Row.{field_start, put_back}
 use Rattle.zic_convert.specs.declared.piece.Piece.{Piece}
@@ -191,10 +192,14 @@ module _ (d : ℕ) (o : IsOutside d) where
         sym (name_kept file (All-contains IsSoundFile files file sound.each among)) ∙ ap (exchanged d) named ∙ sym (field_same fields index)
     zone_named (zone.Name name) fields file among named = named
 
+    closed_same : (fields : List (List ℕ)) → is_closed (map (exchanged d) fields) ≡ is_closed fields
+    closed_same [] = refl
+    closed_same (field ∷ fields) = refl
+
     -- a record whose fields are exchanged has the fault that it has with the same count in its field
     pub fault_same : (layout : Layout) (most n : ℕ) (fields : List (List ℕ)) → fault_by layout files most n (map (exchanged d) fields)
         ≡ first_failed (checks_of layout files most n fields (time_by layout (file_named files (zone_in layout.zone fields)) (count_in layout (map (exchanged d) fields))))
-    fault_same layout most n fields = rw (length-map fields (exchanged d), zone_same layout.zone fields, number_kept layout.zone fields) refl
+    fault_same layout most n fields = rw (closed_same fields, length-map fields (exchanged d), zone_same layout.zone fields, number_kept layout.zone fields) refl
 
 -- what a row begins with, and its rest, exchanged together
 pub row_put_back : (start : RowStart) (d : ℕ) (own name asked rest : List ℕ)

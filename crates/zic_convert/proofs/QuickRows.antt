@@ -1,8 +1,9 @@
 -- Rows of records in which all that they show is at hand.
 use Rattle.std.proofs.Common.{◌≡◌, ◌≤◌, ◌<◌, ◌+◌, ◌∙◌, ℕ, ℤ, Bool, true, List, [], ◌∷◌, ◌++◌, Some, None, Ok, ap, ap₂, append_assoc, arith, length, length-append, refl, subst, sym, take, drop, get_or}
-use Rattle.std.specs.Prelude.{int_le, slice_range, ◌&&◌}
+use Rattle.std.specs.Prelude.{int_le, slice_index_or, slice_range, ◌&&◌}
 use Rattle.std.proofs.lemmas.Int.{ints}
 use Rattle.std.specs.Fmt.{signed_decimal}
+use Rattle.zic_base.specs.Number.{number}
 use Rattle.zic_base.specs.State.{Shown}
 use Rattle.zic_columns.proofs.Spans.{span_both, span_first}
 use Rattle.zic_columns.specs.Exchange.{exchanged}
@@ -18,14 +19,14 @@ use Rattle.zic_plan.specs.declared.layout.Unit.{Unit}
 use Rattle.zic_plan.specs.declared.layout.Unit.TheVariants as unit
 use Rattle.zic_plan.specs.declared.layout.TimeFrom.{TimeFrom}
 use Rattle.zic_plan.specs.declared.layout.ZoneFrom.TheVariants as from
-use Rattle.zic_rows.specs.Count.{counted_rest_text, fraction_of, second_of, timed_rest_text, units_of_second}
+use Rattle.zic_rows.specs.Count.{count_of, counted_rest_text, fraction_of, second_of, timed_rest_text, units_of_second}
 use Rattle.zic_rows.specs.Instant.{IsRowInstant}
 use Rattle.zic_rows.specs.PlainTime.{IsPlainTime}
 use Rattle.zic_rows.specs.declared.limit.TheConstants.{FIRST_INSTANT, LAST_INSTANT}
 use Rattle.zic_rows.specs.declared.row_time.RowTime.{RowTime}
 use Rattle.zic_zones.specs.Zones.{AnswersAt, zone_in}
 use Rattle.zic_convert.specs.LayoutRows.{IsTextBy, asked_text, file_at, rest_by, start_text}
-use Rattle.zic_convert.specs.Rows.{is_row_instant}
+use Rattle.zic_convert.specs.Rows.{is_closed, is_row_instant}
 use Rattle.zic_convert.specs.code.Batch.{AreCountsOf, IsCountFor, IsQuickRow, IsRowQuery, IsTimeIn, count_at, fault_at, time_at, wanted_by, zone_at}
 use Rattle.zic_convert.specs.code.Row.{field_start, put_back}
 use Rattle.zic_convert.specs.declared.piece.Piece.{Piece}
@@ -82,6 +83,16 @@ time_text : (u : Unit) (bytes : List ℕ) (field : Field) (time : RowTime) → I
 time_text u bytes (Plain span) time is = is
 time_text u bytes (Quoted span) time is = absurd is
 
+-- no bytes are no count
+no_count : (u : Unit) → count_of u [] ≡ None
+unfolding count_of number
+no_count u = refl
+
+-- a record with a count has fields
+told_closed : (u : Unit) (fields : List (List ℕ)) (index : ℕ) (count : ℤ) → count_of u (slice_index_or fields index []) ≡ Some count → is_closed fields ≡ true
+told_closed u [] index count says = absurd (let none = no_count u in cc (none, says))
+told_closed u (field ∷ fields) index count says = refl
+
 -- the rest of a row by a time, and by its count
 rest_same : (u : Unit) (field : List ℕ) (time : RowTime) (is : IsPlainTime u field time) (shown : Shown)
     → timed_rest_text time.unit time.second time.fraction shown ≡ counted_rest_text u is.count shown
@@ -107,7 +118,8 @@ module _ (piece : Piece) (given : Record) (row : QuickRow) (split : IsSplit piec
   pub faultless : (number : ℕ) → number ≤ piece.most → is_delimiter piece.layout.now.delimiter ≡ true → fault_at piece number given ≡ None
   faultless number le delimiter =
       let admits = subst (λ (n : ℕ). has_count piece.layout.now.count n ≡ true) split.count is.admitted in
-      no_fault piece number given le admits row.file is.file read.count (time_is delimiter) (may_row (second_of piece.layout.now.unit read.count) read.may)
+      let closed = told_closed piece.layout.now.unit (record_at piece.bytes.now given).fields piece.layout.now.time read.count (ap (count_of piece.layout.now.unit) (sym split.time) ∙ read.says) in
+      no_fault piece number given le closed admits row.file is.file read.count (time_is delimiter) (may_row (second_of piece.layout.now.unit read.count) read.may)
 
   -- its text, as it is made
   pub quick_text_made : (old begun_text all : List ℕ) (start : ℕ) → start ≡ length old → is_delimiter piece.layout.now.delimiter ≡ true → AreSoundFiles piece.zones.now

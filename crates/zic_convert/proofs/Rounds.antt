@@ -3,82 +3,77 @@ use Rattle.std.proofs.Common.{◌≡◌, ◌≢◌, ◌+◌, ◌++◌, ℕ, true
 use Rattle.std.specs.Prelude.{All, AllPairs, Contains, IfSome}
 use Rattle.std.proofs.lemmas.List.{get_or_append_left}
 use Rattle.zic_columns.specs.Own.{CsvRecord}
-use Rattle.zic_columns.specs.Round.{HasNoRecord, TakesPieces, records_of}
+use Rattle.zic_columns.specs.Round.{HasNoRecord}
 use Rattle.zic_counted.specs.Counts.{Counts}
 use Rattle.zic_counted.specs.Written.{FailsWithin}
 use Rattle.zic_tzif.specs.Laws.{FilesAnswerOnce}
 use Rattle.zic_files.specs.File.{File}
 use Rattle.zic_files.specs.Sound.{AreSoundFiles}
-use Rattle.zic_plan.specs.Delimiter.{is_delimiter}
 use Rattle.zic_plan.specs.Plan.{Limits}
 use Rattle.zic_plan.specs.declared.layout.Layout.{Layout}
 use Rattle.zic_base.specs.declared.row_fault.RowFault.{RowFault}
 use Rattle.zic_base.specs.declared.run_stop.RunStop.{RunStop}
 use Rattle.zic_base.specs.declared.run_stop.RunStop.TheVariants as stop
-use Rattle.zic_zones.specs.Zones.{Agree, zone_in}
+use Rattle.zic_zones.specs.Zones.{Agree}
 use Rattle.zic_convert.specs.Run.{EndsByZones}
 use Rattle.zic_convert.specs.code.Halt.{stop_of}
 use Rattle.zic_convert.specs.code.Progress.{ConvertsRest, EndsAtTaking, EndsInRest, IsSoFar, Takes, output}
-use Rattle.zic_convert.specs.code.Row.{RowsOf, csv_records_in, wholes_of_all}
-use Rattle.zic_convert.specs.code.Written.{EndsInRound, EndsInRows, WritesRound, Wrote, pieces_by}
+use Rattle.zic_convert.specs.code.Row.{RowsOf, records_in}
+use Rattle.zic_convert.specs.code.Written.{EndsInRecords, EndsInRows, WritesRecords, Wrote}
 use Rattle.zic_convert.specs.declared.halt.Halt.{Halt}
 use Rattle.zic_convert.specs.declared.halt.Halt.TheVariants as halt
 use Rattle.zic_convert.proofs.Halts.{ends_at_flush, ends_in_rows, ends_still}
 use Rattle.zic_convert.proofs.Options.{if_some}
-use Rattle.zic_convert.proofs.Progress.{all_written, at_start, later, none_taken, round_taken, taken_come_next}
-use Rattle.zic_convert.proofs.Staying.{IsKnownZone, round_known, rows_same}
+use Rattle.zic_convert.proofs.Progress.{all_written, at_start, later, none_taken, taken_come_next}
+use Rattle.zic_convert.proofs.Staying.{IsKnownZone, rows_same}
 
 -- how far a conversion of bytes, where they are known, has come by these files
 abbrev pub IsFarBy : Layout → ℕ → Option (List ℕ) → Option (List ℕ) → ℕ → Option (List ℕ) → Option (List ℕ) → Option (List RowFault) → Option (List RowFault) → List File → Type 0
 IsFarBy layout most known left n held now log noted files =
-    (bytes : List ℕ) → known ≡ Some bytes → IsSoFar layout files most (csv_records_in layout.delimiter bytes) left n (output held now log noted)
+    (bytes : List ℕ) → known ≡ Some bytes → IsSoFar layout files most (records_in layout bytes) left n (output held now log noted)
 
 pub far_at_start : (layout : Layout) (most : ℕ) (known held : Option (List ℕ)) (log : Option (List RowFault)) (files : List File) → IsFarBy layout most known known 0 held held log log files
-far_at_start layout most known held log files bytes e = at_start layout files most (csv_records_in layout.delimiter bytes) known held log bytes e refl
+far_at_start layout most known held log files bytes e = at_start layout files most (records_in layout bytes) known held log bytes e refl
 
 module _ {W : Type 0} (contents : W → Option (List ℕ)) (once : FilesAnswerOnce) (layout : Layout) (plan : Limits) (known left : Option (List ℕ)) (n : ℕ) (held : Option (List ℕ)) (mid : Counts W)
     (log now : Option (List RowFault)) (files : List File) (sound : AreSoundFiles files) (far : IsFarBy layout plan.max_rows known left n held (contents mid.inner) log now files) where
   -- the column can't be read on
   unread_ends : EndsInRest layout plan.max_rows known stop.ReadFailed (output held (contents mid.inner) log now) files
   unread_ends = if_some known _ (λ bytes e.
-      ends_still once layout files plan.max_rows sound (csv_records_in layout.delimiter bytes) left n held (contents mid.inner) log now (far bytes e) stop.ReadFailed)
+      ends_still once layout files plan.max_rows sound (records_in layout bytes) left n held (contents mid.inner) log now (far bytes e) stop.ReadFailed)
 
   -- memory was refused
   memory_ends : EndsInRest layout plan.max_rows known stop.Memory (output held (contents mid.inner) log now) files
   memory_ends = if_some known _ (λ bytes e.
-      ends_still once layout files plan.max_rows sound (csv_records_in layout.delimiter bytes) left n held (contents mid.inner) log now (far bytes e) stop.Memory)
+      ends_still once layout files plan.max_rows sound (records_in layout bytes) left n held (contents mid.inner) log now (far bytes e) stop.Memory)
 
-  -- a round was taken
-  module _ (pieces : List (List ℕ)) (next : Option (List ℕ)) (takes : IfSome left (λ bytes. (rest : List ℕ) × (next ≡ Some rest) × TakesPieces bytes rest pieces))
-      (new : Counts W) (last : Option (List RowFault)) where
-    taken : Takes layout.delimiter left next (wholes_of_all layout.delimiter pieces)
-    taken = round_taken layout.delimiter left next pieces takes
-
-    -- its rows were written
-    far_after_round : (count : ℕ) → WritesRound (pieces_by layout files plan pieces (n + 1)) contents mid new now last count
+  -- some records were taken
+  module _ (rs : List CsvRecord) (next : Option (List ℕ)) (taken : Takes layout left next rs) (new : Counts W) (last : Option (List RowFault)) where
+    -- their rows were written
+    far_after_round : (count : ℕ) → WritesRecords layout files plan.max_rows (n + 1) rs contents mid new now last count
         → IsFarBy layout plan.max_rows known next (n + count) held (contents new.inner) log last files
     far_after_round count (rows, are, wrote) bytes e =
-        rw wrote.1 (later layout files plan.max_rows (csv_records_in layout.delimiter bytes) left n held (contents mid.inner) (contents new.inner) log now last (far bytes e)
-        (wholes_of_all layout.delimiter pieces) rows are next wrote.0 taken wrote.2.0 wrote.3)
+        rw wrote.1 (later layout files plan.max_rows (records_in layout bytes) left n held (contents mid.inner) (contents new.inner) log now last (far bytes e)
+        rs rows are next wrote.0 taken wrote.2.0 wrote.3)
 
-    -- or the conversion ended in it
-    ends_in_round : (why : RunStop) → EndsInRound (pieces_by layout files plan pieces (n + 1)) contents mid new now last why
+    -- or the conversion ended in them
+    ends_in_round : (why : RunStop) → EndsInRecords layout files plan.max_rows (n + 1) rs contents mid new now last why
         → EndsInRest layout plan.max_rows known why (output held (contents new.inner) log last) files
     ends_in_round why (inl memory) = rw (memory.0, memory.1, memory.2) memory_ends
     ends_in_round why (inr (rows, are, ends)) = if_some known _ (λ bytes e.
-        ends_in_rows contents once layout files plan.max_rows sound (csv_records_in layout.delimiter bytes) left n held mid new log now last (far bytes e)
-        (wholes_of_all layout.delimiter pieces) (taken_come_next layout.delimiter left next (wholes_of_all layout.delimiter pieces) taken) rows are why ends)
+        ends_in_rows contents once layout files plan.max_rows sound (records_in layout bytes) left n held mid new log now last (far bytes e)
+        rs (taken_come_next layout left next rs taken) rows are why ends)
 
   -- the writer failed in the end
   flush_ends : (new : Counts W) → FailsWithin contents mid new [] → EndsInRest layout plan.max_rows known stop.WriteFailed (output held (contents new.inner) log now) files
   flush_ends new fails = if_some known _ (λ bytes e.
-      ends_at_flush contents once layout files plan.max_rows sound (csv_records_in layout.delimiter bytes) left n held mid new log now (far bytes e) fails)
+      ends_at_flush contents once layout files plan.max_rows sound (records_in layout bytes) left n held mid new log now (far bytes e) fails)
 
   -- no record is left, and all rows are written and flushed
-  all_done : (next : Option (List ℕ)) → Takes layout.delimiter left next [] → HasNoRecord next → (new : Counts W) → Wrote contents mid new []
+  all_done : (next : Option (List ℕ)) → Takes layout left next [] → HasNoRecord layout.records next → (new : Counts W) → Wrote contents mid new []
       → ConvertsRest layout plan.max_rows known n (output held (contents new.inner) log now) files
   all_done next none end new flushed = if_some known _ (λ bytes e.
-      let all = csv_records_in layout.delimiter bytes in
+      let all = records_in layout bytes in
       let end_far = none_taken layout files plan.max_rows all left next n held (contents mid.inner) log now none (far bytes e) in
       all_written layout files plan.max_rows all next n held (contents mid.inner) (contents new.inner) log now end_far end flushed.0)
 
@@ -88,20 +83,20 @@ all_front P xs ys all = λ k d lt. subst P (get_or_append_left xs ys d k lt) (al
 
 -- ---- a round by the files that are known, and by all that may be
 
-module _ (layout : Layout) (plan : Limits) (pieces : List (List ℕ)) (first : ℕ) (known files : List File) (still : (file : File) → Contains known file → Contains files file)
-    (differ : AllPairs (λ (file other : File). file.name ≢ other.name) files) (only : All (IsKnownZone layout.zone known files) (wholes_of_all layout.delimiter pieces)) {W : Type 0} (contents : W → Option (List ℕ)) (held now : Counts W) (log log' : Option (List RowFault)) where
-  written_alike : (count : ℕ) → WritesRound (pieces_by layout known plan pieces first) contents held now log log' count → WritesRound (pieces_by layout files plan pieces first) contents held now log log' count
-  written_alike count (rows, are, wrote) = (rows, rows_same known files still differ layout plan.max_rows first (wholes_of_all layout.delimiter pieces) rows only are, wrote)
+module _ (layout : Layout) (most : ℕ) (rs : List CsvRecord) (first : ℕ) (known files : List File) (still : (file : File) → Contains known file → Contains files file)
+    (differ : AllPairs (λ (file other : File). file.name ≢ other.name) files) (only : All (IsKnownZone layout.zone known files) rs) {W : Type 0} (contents : W → Option (List ℕ)) (held now : Counts W) (log log' : Option (List RowFault)) where
+  written_alike : (count : ℕ) → WritesRecords layout known most first rs contents held now log log' count → WritesRecords layout files most first rs contents held now log log' count
+  written_alike count (rows, are, wrote) = (rows, rows_same known files still differ layout most first rs rows only are, wrote)
 
-  rows_end_alike : (rows : RowsOf) (why : RunStop) → EndsInRows contents held now log log' layout known plan.max_rows first (wholes_of_all layout.delimiter pieces) rows why
-      → EndsInRows contents held now log log' layout files plan.max_rows first (wholes_of_all layout.delimiter pieces) rows why
+  rows_end_alike : (rows : RowsOf) (why : RunStop) → EndsInRows contents held now log log' layout known most first rs rows why
+      → EndsInRows contents held now log log' layout files most first rs rows why
   rows_end_alike rows (stop.Row row kind) h = h
   rows_end_alike rows stop.WriteFailed h = record {
     done = h.done;
     more = h.more;
     parts = h.parts;
     front = h.front;
-    are = rows_same known files still differ layout plan.max_rows first h.done h.front (all_front (IsKnownZone layout.zone known files) h.done h.more (rw h.parts at only)) h.are;
+    are = rows_same known files still differ layout most first h.done h.front (all_front (IsKnownZone layout.zone known files) h.done h.more (rw h.parts at only)) h.are;
     fails = h.fails;
     noted = h.noted;
   }
@@ -111,10 +106,9 @@ module _ (layout : Layout) (plan : Limits) (pieces : List (List ℕ)) (first : �
   rows_end_alike rows stop.Memory h = absurd h
   rows_end_alike rows stop.NoThread h = absurd h
 
-  ends_alike : (why : RunStop) → EndsInRound (pieces_by layout known plan pieces first) contents held now log log' why → EndsInRound (pieces_by layout files plan pieces first) contents held now log log' why
+  ends_alike : (why : RunStop) → EndsInRecords layout known most first rs contents held now log log' why → EndsInRecords layout files most first rs contents held now log log' why
   ends_alike why (inl memory) = inl memory
-  ends_alike why (inr (rows, are, ends)) =
-      inr (rows, rows_same known files still differ layout plan.max_rows first (wholes_of_all layout.delimiter pieces) rows only are, rows_end_alike rows why ends)
+  ends_alike why (inr (rows, are, ends)) = inr (rows, rows_same known files still differ layout most first rs rows only are, rows_end_alike rows why ends)
 
 -- ---- by zones
 
@@ -147,8 +141,8 @@ module _ {Z : Type 0} (known_of : Z → List File) (settled : Z → List ℕ →
   no_round new (halt.Stop stop.ColumnTooLong) is = absurd is
   no_round new (halt.Stop stop.NoThread) is = absurd is
 
-  -- a round was taken, and its zones made ready
-  module _ (then : Z) (grows : grown zones then) (pieces : List (List ℕ)) (next : Option (List ℕ)) (takes : IfSome left (λ bytes. (rest : List ℕ) × (next ≡ Some rest) × TakesPieces bytes rest pieces)) where
+  -- some records were taken, and their zones made ready
+  module _ (then : Z) (grows : grown zones then) (rs : List CsvRecord) (next : Option (List ℕ)) (takes : Takes layout left next rs) where
     pub grown_on : grown begun then
     grown_on = joins begun zones then grew grows
 
@@ -163,32 +157,29 @@ module _ {Z : Type 0} (known_of : Z → List File) (settled : Z → List ℕ →
     }
 
     -- no record was left
-    pub rounds_done : Takes layout.delimiter left next [] → HasNoRecord next → (new : Counts W) → Wrote contents mid new [] → (files : List File) → may_be then files
+    pub rounds_done : Takes layout left next [] → HasNoRecord layout.records next → (new : Counts W) → Wrote contents mid new [] → (files : List File) → may_be then files
         → ConvertsRest layout plan.max_rows known n (output held (contents new.inner) log now) files
     rounds_done none end new flushed files may =
         all_done contents once layout plan known left n held mid log now files (agrees then files may).sound (far files (narrows zones then files grows may)) next none end new flushed
 
-    module _ (can : is_delimiter layout.delimiter ≡ true) (ready : All (settled then) (map (zone_in layout.zone) (records_of pieces))) (new : Counts W) (last : Option (List RowFault)) where
-      only_known : (files : List File) → may_be then files → All (IsKnownZone layout.zone (known_of then) files) (wholes_of_all layout.delimiter pieces)
-      only_known files may = round_known layout.delimiter can (settled then) (known_of then) files (agrees then files may) layout.zone pieces ready
-
-      -- its rows were written
-      pub far_on : (count : ℕ) → WritesRound (pieces_by layout (known_of then) plan pieces (n + 1)) contents mid new now last count → (files : List File) → may_be then files
+    module _ (only : (files : List File) → may_be then files → All (IsKnownZone layout.zone (known_of then) files) rs) (new : Counts W) (last : Option (List RowFault)) where
+      -- their rows were written
+      pub far_on : (count : ℕ) → WritesRecords layout (known_of then) plan.max_rows (n + 1) rs contents mid new now last count → (files : List File) → may_be then files
           → IsFarBy layout plan.max_rows known next (n + count) held (contents new.inner) log last files
       far_on count writes files may =
-          far_after_round contents once layout plan known left n held mid log now files (agrees then files may).sound (far files (narrows zones then files grows may)) pieces next takes new last count
-          (written_alike layout plan pieces (n + 1) (known_of then) files (agrees then files may).still (agrees then files may).sound.names_differ (only_known files may) contents mid new now last count writes)
+          far_after_round contents once layout plan known left n held mid log now files (agrees then files may).sound (far files (narrows zones then files grows may)) rs next takes new last count
+          (written_alike layout plan.max_rows rs (n + 1) (known_of then) files (agrees then files may).still (agrees then files may).sound.names_differ (only files may) contents mid new now last count writes)
 
-      -- or the conversion ended in it
-      pub round_ends : (why : RunStop) → EndsInRound (pieces_by layout (known_of then) plan pieces (n + 1)) contents mid new now last why
+      -- or the conversion ended in them
+      pub round_ends : (why : RunStop) → EndsInRecords layout (known_of then) plan.max_rows (n + 1) rs contents mid new now last why
           → EndsByZones grown broken may_be begun then why (EndsInRest layout plan.max_rows known why (output held (contents new.inner) log last))
       round_ends why ends = record {
         then = then;
         grown = joins begun zones then grew grows;
         ends = inl refl;
         by = λ files may.
-            ends_in_round contents once layout plan known left n held mid log now files (agrees then files may).sound (far files (narrows zones then files grows may)) pieces next takes new last why
-            (ends_alike layout plan pieces (n + 1) (known_of then) files (agrees then files may).still (agrees then files may).sound.names_differ (only_known files may) contents mid new now last why ends);
+            ends_in_round contents once layout plan known left n held mid log now files (agrees then files may).sound (far files (narrows zones then files grows may)) rs next takes new last why
+            (ends_alike layout plan.max_rows rs (n + 1) (known_of then) files (agrees then files may).still (agrees then files may).sound.names_differ (only files may) contents mid new now last why ends);
       }
 
 -- what follows where a conversion ends by zones

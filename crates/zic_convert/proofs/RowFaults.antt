@@ -14,7 +14,7 @@ use Rattle.zic_rows.specs.Count.{second_of}
 use Rattle.zic_rows.specs.Instant.{IsRowInstant}
 use Rattle.zic_rows.specs.declared.limit.TheConstants.{FIRST_INSTANT, LAST_INSTANT}
 use Rattle.zic_zones.specs.Zones.{is_named, number_of, zone_in}
-use Rattle.zic_convert.specs.Rows.{is_row_instant}
+use Rattle.zic_convert.specs.Rows.{is_closed, is_row_instant}
 use Rattle.zic_convert.specs.code.Batch.{fault_at, time_at, zone_at}
 use Rattle.zic_convert.specs.declared.piece.Piece.{Piece}
 
@@ -64,29 +64,33 @@ name_told files name n told some is =
     here ∙ called
 
 module _ (piece : Piece) (number : ℕ) (given : Record) (le : number ≤ piece.most) where
-  module _ (admits : has_count piece.layout.now.count (length (record_at piece.bytes.now given).fields) ≡ true) where
+  -- it has no field
+  pub no_field : is_closed (record_at piece.bytes.now given).fields ≡ false → fault_at piece number given ≡ Some kind.RowQuote
+  no_field none = rw (le-leb number piece.most le, none) refl
+
+  module _ (closed : is_closed (record_at piece.bytes.now given).fields ≡ true) (admits : has_count piece.layout.now.count (length (record_at piece.bytes.now given).fields) ≡ true) where
     -- its zone has no file
     pub zone_missing : zone_at piece given ≡ None → fault_at piece number given ≡ Some kind.RowZone
-    zone_missing none = rw (le-leb number piece.most le, admits, unnamed piece.zones.now (zone_in piece.layout.now.zone (record_at piece.bytes.now given).fields) none) refl
+    zone_missing none = rw (le-leb number piece.most le, closed, admits, unnamed piece.zones.now (zone_in piece.layout.now.zone (record_at piece.bytes.now given).fields) none) refl
 
     module _ (n : ℕ) (zone : zone_at piece given ≡ Some n) where
       -- it has no instant
       pub time_missing : (fault : RowKind) → time_at piece given ≡ Err fault → fault_at piece number given ≡ Some fault
       time_missing fault none =
-          rw (le-leb number piece.most le, admits, named piece.zones.now (zone_in piece.layout.now.zone (record_at piece.bytes.now given).fields) n zone, none) refl
+          rw (le-leb number piece.most le, closed, admits, named piece.zones.now (zone_in piece.layout.now.zone (record_at piece.bytes.now given).fields) n zone, none) refl
 
       module _ (c : ℤ) (count : time_at piece given ≡ Ok c) where
         -- its instant is out of range
         pub out_of_range : is_row_instant (Some (second_of piece.layout.now.unit c)) ≡ false
             → fault_at piece number given ≡ Some kind.RowRange
         out_of_range out =
-            rw (le-leb number piece.most le, admits, named piece.zones.now (zone_in piece.layout.now.zone (record_at piece.bytes.now given).fields) n zone, count, out) refl
+            rw (le-leb number piece.most le, closed, admits, named piece.zones.now (zone_in piece.layout.now.zone (record_at piece.bytes.now given).fields) n zone, count, out) refl
 
         -- or it has no fault
         pub no_fault : is_row_instant (Some (second_of piece.layout.now.unit c)) ≡ true
             → fault_at piece number given ≡ None
         no_fault may =
-            rw (le-leb number piece.most le, admits, named piece.zones.now (zone_in piece.layout.now.zone (record_at piece.bytes.now given).fields) n zone, count, may) refl
+            rw (le-leb number piece.most le, closed, admits, named piece.zones.now (zone_in piece.layout.now.zone (record_at piece.bytes.now given).fields) n zone, count, may) refl
 
 -- a row may have an instant that passes the check
 pub row_may : (t : ℤ) → is_row_instant (Some t) ≡ true → IsRowInstant t
@@ -106,3 +110,12 @@ digits_pushed old digits a b is_a is_b = is_b ∙ ap (λ (l : List ℕ). l ++ di
 pub rest_pushed : (old digits text a b c : List ℕ) → a ≡ old ++ 44 ∷ [] → b ≡ a ++ digits → c ≡ b ++ text → c ≡ old ++ 44 ∷ (digits ++ text)
 rest_pushed old digits text a b c is_a is_b is_c =
     is_c ∙ ap (λ (l : List ℕ). l ++ text) (digits_pushed old digits a b is_a is_b) ∙ append_assoc old (44 ∷ digits) text
+
+-- a record with fields is closed
+pub closed_counted : (fields : List (List ℕ)) → (length fields ≡ 0 → ⊥) → is_closed fields ≡ true
+closed_counted [] some = absurd (some refl)
+closed_counted (field ∷ fields) some = refl
+
+pub open_counted : (fields : List (List ℕ)) → length fields ≡ 0 → is_closed fields ≡ false
+open_counted [] none = refl
+open_counted (field ∷ fields) none = absurd (omega (arith, none))

@@ -8,7 +8,10 @@ use Rattle.zic_base.proofs.Elements.{contained_passes, get_contained, one_that_p
 use Rattle.zic_base.proofs.OrderedLists.{one_by_key}
 use Rattle.zic_base.specs.Check.{check, first_failed}
 use Rattle.zic_columns.specs.Exchange.{exchanged}
+use Rattle.zic_columns.specs.Lines.{open_record}
 use Rattle.zic_columns.specs.Own.{CsvRecord}
+use Rattle.zic_columns.specs.declared.columns.Taken.{Taken}
+use Rattle.zic_columns.specs.declared.columns.Taken.TheVariants as taken
 use Rattle.zic_columns.specs.Round.{records_of, wholes_of}
 use Rattle.zic_columns.proofs.Exchanges.{twice}
 use Rattle.zic_columns.proofs.Wholes.{pieces_fields}
@@ -24,9 +27,9 @@ use Rattle.zic_base.specs.declared.row_fault.RowKind.{RowKind}
 use Rattle.zic_base.specs.declared.row_fault.RowKind.TheVariants as kind
 use Rattle.zic_rows.specs.Count.{second_of}
 use Rattle.zic_zones.specs.Zones.{Agree, field_at, is_named, number_of, zone_in}
-use Rattle.zic_convert.specs.Rows.{is_row_instant}
+use Rattle.zic_convert.specs.Rows.{is_closed, is_row_instant}
 use Rattle.zic_convert.specs.LayoutRows.{RecordsConvertBy, IsRowAt, IsTextBy, count_in, ending, ends_by, fault_by, faults_by, file_at, file_named, noted, time_by, told_count, told_fault}
-use Rattle.zic_convert.specs.code.Row.{AreRowsOf, RowsOf, fields_of_all, put_back, wholes_of_all}
+use Rattle.zic_convert.specs.code.Row.{AreRowsOf, RowsOf, fields_of_all, put_back, taken_rows, wholes_of_all}
 use Rattle.zic_convert.proofs.Delimited.{field_same, name_as_put, outside}
 use Rattle.zic_convert.proofs.PutBack.{among}
 use Rattle.zic_convert.proofs.RowFaults.{found, named, unnamed}
@@ -42,7 +45,7 @@ abbrev pub IsKnownName : List File → List File → List ℕ → Type 0
 IsKnownName known files name = (file : File) → Contains files file → file.name ≡ name → Contains known file
 
 abbrev pub IsKnownZone : ZoneFrom → List File → List File → CsvRecord → Type 0
-IsKnownZone from known files row_record = IsKnownName known files (zone_in from row_record.fields)
+IsKnownZone from known files row_record = is_closed row_record.fields ≡ true → IsKnownName known files (zone_in from row_record.fields)
 
 -- some file of this name is among them
 named_by : (files : List File) (name : List ℕ) (file : File) → Contains files file → file.name ≡ name → is_named files name ≡ true
@@ -84,16 +87,19 @@ module _ (known files : List File) (still : (file : File) → Contains known fil
 
   module _ (layout : Layout) (most : ℕ) where
     -- the fault of a row
-    fault_same : (number : ℕ) (fields : List (List ℕ)) → IsKnownName known files (zone_in layout.zone fields) → fault_by layout known most number fields ≡ fault_by layout files most number fields
-    fault_same number fields only =
+    fault_same : (number : ℕ) (fields : List (List ℕ)) → (is_closed fields ≡ true → IsKnownName known files (zone_in layout.zone fields)) → fault_by layout known most number fields ≡ fault_by layout files most number fields
+    fault_same number [] only = refl
+    fault_same number (field ∷ others) only =
+        let fields = field ∷ others in
         ap₂ (λ (named : Bool) (time : Result ℤ RowKind). first_failed
         (check (nat_le number most) kind.TooManyRows
+        ∷ check true kind.RowQuote
         ∷ check (has_count layout.count (length fields)) kind.RowFields
         ∷ check named kind.RowZone
         ∷ check (is_some (told_count time)) (told_fault time)
         ∷ check (is_row_instant (option_map (second_of layout.unit) (told_count time))) kind.RowRange
-        ∷ [])) (named_same (zone_in layout.zone fields) only)
-        (ap (λ (file : Option File). time_by layout file (count_in layout fields)) (file_same (zone_in layout.zone fields) only))
+        ∷ [])) (named_same (zone_in layout.zone fields) (only refl))
+        (ap (λ (file : Option File). time_by layout file (count_in layout fields)) (file_same (zone_in layout.zone fields) (only refl)))
 
     -- and the row
     text_same : (row_record : CsvRecord) (text : List ℕ) → IsTextBy layout known row_record text → IsTextBy layout files row_record text
@@ -170,7 +176,7 @@ module _ (d : ℕ) (can : is_delimiter d ≡ true) (settled : List ℕ → Type 
   wholes_known [] all = λ k dflt lt. absurd (omega (arith, lt))
   wholes_known (w ∷ row_records) all =
       All-cons (IsKnownZone from known files) (put_back d w) (map (put_back d) row_records)
-      (zone_known from w.fields (All-head settled (zone_in from w.fields) (map (zone_in from) (fields_of_all row_records)) all))
+      (λ _. zone_known from w.fields (All-head settled (zone_in from w.fields) (map (zone_in from) (fields_of_all row_records)) all))
       (wholes_known row_records (All-tail settled (zone_in from w.fields) (map (zone_in from) (fields_of_all row_records)) all))
 
   -- those of a round
@@ -178,3 +184,10 @@ module _ (d : ℕ) (can : is_delimiter d ≡ true) (settled : List ℕ → Type 
   round_known pieces all =
       subst (All (IsKnownZone from known files)) (sym (all_put d pieces))
       (wholes_known (wholes_of pieces) (subst (λ (records : List (List (List ℕ))). All settled (map (zone_in from) records)) (sym (pieces_fields pieces)) all))
+
+  -- an open line names none
+  pub taken_known : (taken : Taken) (pieces : List (List ℕ)) → All settled (map (zone_in from) (records_of pieces)) → All (IsKnownZone from known files) (taken_rows d taken pieces)
+  taken_known taken.Round pieces all = round_known pieces all
+  taken_known (taken.OpenLine line) pieces all =
+      All-cons (IsKnownZone from known files) (put_back d (open_record line.items)) [] (λ no. absurd (cc no)) (λ k dflt lt. absurd (omega (arith, lt)))
+  taken_known taken.End pieces all = λ k dflt lt. absurd (omega (arith, lt))

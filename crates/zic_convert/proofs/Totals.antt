@@ -1,6 +1,6 @@
 -- That all records come to rows, up to the first fault.
 use Rattle.std.proofs.Common.{◌≡◌, ◌+◌, ℕ, ℤ, suc, Bool, true, false, List, [], ◌∷◌, ◌++◌, length, Option, Some, None, Result, Ok, Err, inl, inr, refl, sym, arith}
-use Rattle.std.specs.Prelude.{All, Contains, bytes_eq, is_some, option_map, slice_get}
+use Rattle.std.specs.Prelude.{All, Contains, bytes_eq, is_some, nat_le, option_map, slice_get}
 use Rattle.std.specs.Cmp.Lexicographic.{bytes_decides}
 use Rattle.std.proofs.lemmas.Bool.{cases_Bool}
 use Rattle.std.proofs.lemmas.List.{append-nil}
@@ -10,11 +10,13 @@ use Rattle.zic_rows.specs.Count.{second_of}
 use Rattle.zic_columns.specs.Exchange.{exchanged}
 use Rattle.zic_columns.specs.Own.{CsvRecord}
 use Rattle.zic_files.specs.File.{File}
+use Rattle.zic_plan.specs.Layout.{has_count}
 use Rattle.zic_plan.specs.declared.layout.Layout.{Layout}
 use Rattle.zic_base.specs.declared.row_fault.RowKind.{RowKind}
+use Rattle.zic_base.specs.declared.row_fault.RowKind.TheVariants as kind
 use Rattle.zic_zones.specs.Zones.{is_named, number_of, zone_in}
-use Rattle.zic_convert.specs.Rows.{is_row_instant}
-use Rattle.zic_convert.specs.LayoutRows.{RecordsConvertBy, IsRowAt, IsRowBy, IsTextBy, count_in, ends_by, fault_by, faulty_text, instant_by, rest_by, start_text, time_by, time_in, told_count}
+use Rattle.zic_convert.specs.Rows.{is_closed, is_row_instant}
+use Rattle.zic_convert.specs.LayoutRows.{RecordsConvertBy, IsRowAt, IsRowBy, IsTextBy, count_in, ends_by, fault_by, faulty_text, instant_by, rest_by, start_text, time_by, time_in, told_count, told_fault}
 use Rattle.zic_convert.specs.code.Row.{AreRowsOf, RowsOf}
 use Rattle.zic_convert.proofs.Coming.{come_after, come_more}
 use Rattle.zic_convert.proofs.PutBack.{among}
@@ -22,12 +24,13 @@ use Rattle.zic_convert.proofs.RowFaults.{found}
 use Rattle.zic_convert.proofs.Sounds.{IsKnown}
 
 -- checks that all pass
-passed : (a b c d e : Bool) (k l m n o : RowKind) → first_failed (check a k ∷ check b l ∷ check c m ∷ check d n ∷ check e o ∷ []) ≡ None → (c ≡ true) × (d ≡ true)
-passed false b c d e k l m n o h = absurd (cc h)
-passed true false c d e k l m n o h = absurd (cc h)
-passed true true false d e k l m n o h = absurd (cc h)
-passed true true true false e k l m n o h = absurd (cc h)
-passed true true true true e k l m n o h = (refl, refl)
+passed : (a b c d e f : Bool) (k l m n o p : RowKind) → first_failed (check a k ∷ check b l ∷ check c m ∷ check d n ∷ check e o ∷ check f p ∷ []) ≡ None → (d ≡ true) × (e ≡ true)
+passed false b c d e f k l m n o p h = absurd (cc h)
+passed true false c d e f k l m n o p h = absurd (cc h)
+passed true true false d e f k l m n o p h = absurd (cc h)
+passed true true true false e f k l m n o p h = absurd (cc h)
+passed true true true true false f k l m n o p h = absurd (cc h)
+passed true true true true true f k l m n o p h = (refl, refl)
 
 -- the count that is there
 the_count : (r : Result ℤ RowKind) → is_some (told_count r) ≡ true → (x : ℤ) × (r ≡ Ok x)
@@ -59,7 +62,8 @@ module _ (layout : Layout) (files : List File) (most : ℕ) (known : All IsKnown
   have_text number row_record none =
       let zone = zone_in layout.zone row_record.fields in
       let time = time_in layout files row_record.fields in
-      let (named, says) = passed _ _ (is_named files zone) (is_some (told_count time)) (is_row_instant (option_map (second_of layout.unit) (told_count time))) _ _ _ _ _ none in
+      let (named, says) = passed (nat_le number most) (is_closed row_record.fields) (has_count layout.count (length row_record.fields)) (is_named files zone) (is_some (told_count time)) (is_row_instant (option_map (second_of layout.unit) (told_count time)))
+      kind.TooManyRows kind.RowQuote kind.RowFields kind.RowZone (told_fault time) kind.RowRange none in
       let (n, number) = numbered files zone named in
       let (file, got, called, is_known) = found files zone n number in
       let has = among files n file got in
@@ -86,7 +90,7 @@ module _ (layout : Layout) (files : List File) (most : ℕ) (known : All IsKnown
   have_row number row_record = by_fault (fault_by layout files most number row_record.fields) refl where
     by_fault : (fault : Option RowKind) → fault_by layout files most number row_record.fields ≡ fault → (text : List ℕ) × IsRowAt layout files fault row_record text
     by_fault None e = have_text number row_record e
-    by_fault (Some kind) e = (faulty_text layout kind row_record, refl)
+    by_fault (Some fault) e = (faulty_text layout fault row_record, refl)
 
   row_first : (number : ℕ) (row_record : CsvRecord) (row_records : List CsvRecord) (fault : Option RowKind) → ends_by layout files most number row_record.fields ≡ fault
       → ((texts : List (List ℕ)) × (last : Option RowKind) × RecordsConvertBy layout files most (number + 1) row_records texts last)

@@ -3,8 +3,9 @@ use Rattle.std.specs.Prelude.{◌≡◌, ℕ, codes, List, [], ◌∷◌, ◌++�
 use Rattle.std.specs.List.{concat}
 use Rattle.csv.specs.Reading.{strip_bom}
 use Rattle.zic_columns.specs.Column.{AreColumnRecords}
-use Rattle.zic_columns.specs.Exchange.{AreDelimitedRecords, exchanged}
-use Rattle.zic_columns.specs.Own.{CsvRecord, beside, delimited_texts, first_text}
+use Rattle.zic_columns.specs.Exchange.{exchanged}
+use Rattle.zic_columns.specs.Lines.{AreRecordsBy, delimited_texts_by}
+use Rattle.zic_columns.specs.Own.{CsvRecord, first_text}
 use Rattle.zic_files.specs.File.{File}
 use Rattle.zic_plan.specs.Layout.{records_before}
 use Rattle.zic_plan.specs.declared.layout.Header.{Header}
@@ -33,11 +34,12 @@ pub record ConvertsBodyTo (files : List File) (most : ℕ) (column : List ℕ) (
   pub rows : RecordsConvertTo files most 1 (drop 1 records) texts fault
 
 -- The records of a column that make rows by a layout, each with its own bytes: those of CSV with the layout's delimiter and double quotes,
--- but for the header, if there is one. A byte order mark at the start is none of the column, and a line without a byte makes no record.
+-- or of each line, as the layout says, but for the header, if there is one. A byte order mark at the start is none of the column, and a
+-- line without a byte makes no record.
 pub record AreRowRecords (layout : Layout) (column : List ℕ) (row_records : List CsvRecord) : Type 0 where
-  pub records : List (List (List ℕ))
-  pub are : AreDelimitedRecords layout.delimiter (strip_bom column) records
-  pub is : row_records ≡ drop (records_before layout.header) (beside (delimited_texts layout.delimiter (strip_bom column)) records)
+  pub all : List CsvRecord
+  pub are : AreRecordsBy layout.records layout.delimiter (strip_bom column) all
+  pub is : row_records ≡ drop (records_before layout.header) all
 
 -- The texts of a column's rows by a layout, up to the first that ends the run, and its fault, or none. Rows count from 1, and there may be
 -- at most this number.
@@ -80,7 +82,7 @@ names_line layout = names_of layout.start layout.header (exchanged layout.delimi
 
 -- and once its header was read
 abbrev pub own_line : Layout → List ℕ → List ℕ
-own_line layout column = header_of layout.start layout.from layout.delimiter (own_header layout.header (delimited_texts layout.delimiter (strip_bom column)))
+own_line layout column = header_of layout.start layout.from layout.delimiter (own_header layout.header (delimited_texts_by layout.records layout.delimiter (strip_bom column)))
 
 -- The header that is written before the rows of a column: own choice. It is the line of names where rows begin with names,
 -- and else the column's own header, with the names of the fields that rows add. It is nothing where the column has none, or it is skipped.

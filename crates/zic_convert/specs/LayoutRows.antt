@@ -28,7 +28,7 @@ use Rattle.zic_base.specs.declared.row_fault.RowKind.{RowKind}
 use Rattle.zic_base.specs.declared.row_fault.RowKind.TheVariants as kind
 use Rattle.zic_zones.specs.Resolved.{resolved}
 use Rattle.zic_zones.specs.Zones.{field_at, is_named, number_of, zone_in}
-use Rattle.zic_convert.specs.Rows.{is_row_instant, row_checks}
+use Rattle.zic_convert.specs.Rows.{is_closed, is_row_instant, row_checks}
 
 -- the count that a field has: of an instant, in decimals or as a date and a time of day with a UT offset, or of a local time
 abbrev pub count_by : TimeFrom → Unit → List ℕ → Option ℤ
@@ -90,7 +90,7 @@ told_fault (Err fault) = fault
 -- the checks of a record with this time as the row of a number, where there is a greatest number of rows
 abbrev pub checks_of : Layout → List File → ℕ → ℕ → List (List ℕ) → Result ℤ RowKind → List (Check RowKind)
 checks_of layout files most number fields time =
-    row_checks (nat_le number most) (has_count layout.count (length fields)) (is_named files (zone_in layout.zone fields)) (is_some (told_count time)) (told_fault time)
+    row_checks (nat_le number most) (is_closed fields) (has_count layout.count (length fields)) (is_named files (zone_in layout.zone fields)) (is_some (told_count time)) (told_fault time)
     (is_row_instant (option_map (second_of layout.unit) (told_count time)))
 
 -- the checks of a record
@@ -146,10 +146,11 @@ timeless_text start.Fields layout row_record =
     row_text (with_delimiter default_writer layout.delimiter) (zone_in layout.zone row_record.fields ∷ field_at row_record.fields layout.time ∷ [] ∷ [] ∷ [] ∷ [] ∷ [])
 timeless_text start.Record layout row_record = row_record.own ++ (empty_fields layout.delimiter ++ 10 ∷ [])
 
--- The text of a row with a fault: one without local time, or, of a record with another number of fields than the layout's, the record's
--- own bytes alone.
+-- The text of a row with a fault: one without local time, or, of an open line or a record with another number of fields than the
+-- layout's, the record's own bytes alone.
 abbrev pub faulty_text : Layout → RowKind → CsvRecord → List ℕ
 faulty_text layout kind.RowFields row_record = row_record.own ++ 10 ∷ []
+faulty_text layout kind.RowQuote row_record = row_record.own ++ 10 ∷ []
 faulty_text layout _ row_record = timeless_text layout.start layout row_record
 
 -- the fault that ends a run: any, or only that of a record that is one too many

@@ -1,6 +1,6 @@
 -- The rows of a column's records: own choice. A record has a zone's name and an instant. Its row has the text of what the file
 -- of that name answers at the instant, or a fault.
-use Rattle.std.specs.Prelude.{◌≡◌, ℕ, ◌+◌, nat_le, ◌==◌, Bool, false, ◌&&◌, ℤ, int_le, List, [], ◌∷◌, length, Option, Some, None, is_some, IsSome, Contains}
+use Rattle.std.specs.Prelude.{◌≡◌, ℕ, ◌+◌, nat_le, ◌==◌, Bool, true, false, ◌&&◌, ℤ, int_le, List, [], ◌∷◌, length, Option, Some, None, is_some, IsSome, Contains}
 use Rattle.zic_base.specs.Check.{Check, check, first_failed}
 use Rattle.zic_base.specs.State.{Shown}
 use Rattle.zic_tzif.specs.Answer.{Answers}
@@ -26,11 +26,17 @@ abbrev pub is_row_instant : Option ℤ → Bool
 is_row_instant None = false
 is_row_instant (Some instant) = int_le FIRST_INSTANT instant && int_le instant LAST_INSTANT
 
--- The checks of a row in order: there may be as many rows, its record has the right number of fields, its zone is known, its field tells
--- an instant, or has this fault, and a row may have that instant.
-abbrev pub row_checks : (may_be has_fields has_zone has_instant : Bool) → RowKind → (is_within : Bool) → List (Check RowKind)
-row_checks may_be has_fields has_zone has_instant fault is_within =
+-- the record has a field: only one of an open line has none
+abbrev pub is_closed : List (List ℕ) → Bool
+is_closed [] = false
+is_closed (field ∷ fields) = true
+
+-- The checks of a row in order: there may be as many rows, the double quotes of its record are closed, its record has the right number of
+-- fields, its zone is known, its field tells an instant, or has this fault, and a row may have that instant.
+abbrev pub row_checks : (may_be closed has_fields has_zone has_instant : Bool) → RowKind → (is_within : Bool) → List (Check RowKind)
+row_checks may_be closed has_fields has_zone has_instant fault is_within =
     check may_be kind.TooManyRows
+    ∷ check closed kind.RowQuote
     ∷ check has_fields kind.RowFields
     ∷ check has_zone kind.RowZone
     ∷ check has_instant fault
@@ -40,7 +46,7 @@ row_checks may_be has_fields has_zone has_instant fault is_within =
 -- the checks of a record as the row of a number, where there is a greatest number of rows
 abbrev pub checks : List File → ℕ → ℕ → List (List ℕ) → List (Check RowKind)
 checks files most number fields =
-    row_checks (nat_le number most) (length fields == 2) (is_named files (name_in fields)) (is_some (instant_in fields)) kind.RowInstant (is_row_instant (instant_in fields))
+    row_checks (nat_le number most) (is_closed fields) (length fields == 2) (is_named files (name_in fields)) (is_some (instant_in fields)) kind.RowInstant (is_row_instant (instant_in fields))
 
 -- the fault of a row: of the first check that fails, or none
 abbrev pub fault_of : List File → ℕ → ℕ → List (List ℕ) → Option RowKind

@@ -3,7 +3,7 @@
 ghost use Rattle.std.specs.Prelude.{◌≡◌, ◌≤◌, ◌<◌, ◌+◌, ◌⊎◌, List, All, IfOk, IfErr, IfSome, length, map};
 ghost use Rattle.std.specs.Io.KnownBytes.{Appends};
 ghost use Rattle.csv.specs.Reading.{strip_bom};
-ghost use Rattle.zic_columns.specs.Own.{own_texts};
+ghost use Rattle.zic_columns.specs.Lines.{texts_by};
 ghost use Rattle.zic_columns.specs.Round.{ArePiecesOf, records_of, unread};
 ghost use Rattle.zic_columns.specs.declared.pieces.TheConstants.{MAX_ROUND_PIECES};
 ghost use Rattle.zic_counted.specs.Counts.{HasFailedSince};
@@ -18,10 +18,12 @@ ghost use Rattle.zic_convert.specs.code.Halt.{IsCauseOfHalt, IsEnd, IsReadingSto
 ghost use Rattle.zic_convert.specs.code.Progress.{BeginsRows, ConvertsColumn, ConvertsRest};
 ghost use Rattle.zic_convert.specs.code.Progress.{EndsInColumn, EndsInRest, HaltsAtHead};
 ghost use Rattle.zic_convert.specs.code.Progress.{EndsAtTaking, TakesNext, own_line_in};
-ghost use Rattle.zic_convert.specs.code.Written.{EndsInRound, WritesRound, pieces_by};
+ghost use Rattle.zic_convert.specs.code.Row.{taken_rows};
+ghost use Rattle.zic_convert.specs.code.Written.{EndsInRecords, WritesRecords};
 
 use crate::halt::Halt;
 use crate::laws::plain_columns_convert_alike;
+use crate::opened::write_open_line;
 use crate::output::{flush, write_header, write_names};
 use crate::pieces::RowPieces;
 use crate::round::convert_round;
@@ -31,8 +33,10 @@ use std::io::{Read, Write};
 use std::sync::Wait;
 use std::thread::Threads;
 use zic_base::{FaultLog, RunStop, Unnoted};
-use zic_columns::laws::{column_records_are_read, records_are_exchanged, texts_are_exchanged};
-use zic_columns::{Column, Exchanged, Round, Unread};
+use zic_columns::laws::{
+    column_records_are_read, records_by_are_exchanged, texts_by_are_exchanged,
+};
+use zic_columns::{Column, Exchanged, Round, Taken, Unread};
 use zic_counted::Counted;
 use zic_files::Files;
 use zic_pieces::Gate;
@@ -78,8 +82,8 @@ fn round_len(plan: &Plan) -> usize {
     usual.clamp(SHORTEST_ROUND, LONGEST_ROUND) as usize
 }
 
-/// Takes the next round of a column, and makes the zones of its records ready. Returns `false` at the
-/// end of the column.
+/// Takes the next round of a column, and makes the zones of its records ready, or the next open line.
+/// Returns what it took.
 ///
 /// # Errors
 ///
@@ -88,7 +92,7 @@ fn next_round<T, G, Z: Zones, R: Read>(
     conversion: &Conversion<'_, T, G>,
     zones: &mut Z,
     column: &mut Column<R>,
-) -> Result<bool, Halt>
+) -> Result<Taken, Halt>
     ensures takes { IfOk result
         (TakesNext R.remaining conversion.now.plan.now.row_piece column.old column.new) }
     ensures grown { IfOk result (λ _. Z.grown zones.old zones.new) }
@@ -98,20 +102,21 @@ fn next_round<T, G, Z: Zones, R: Read>(
 {
     let plan = conversion.plan;
     let size = plan.row_piece() as usize;
-    let some = column.next_round(conversion.alloc, round_len(plan), size)?;
+    let taken = column.next_round(conversion.alloc, round_len(plan), size)?;
     zones.prepare(conversion.alloc, &conversion.layout.zone, &column.round())?;
-    Ok(some)
+    Ok(taken)
 }
 
-/// What the rows of a round begin with: the number of the first, and texts to write them into.
+/// What the next rows are of: what was taken, the number of the first row, and texts to write them into.
 #[derive(Clone, Copy, Drop)]
 struct NextRows<'a> {
+    taken: &'a Taken,
     first: u64,
     spare: &'a SpareTexts,
 }
 
-/// Converts a round by the zones that are ready, writes its rows, and notes their faults. Returns the
-/// number of rows.
+/// Converts what was taken, a round by the zones that are ready or an open line, writes its rows, and
+/// notes their faults. Returns the number of rows.
 ///
 /// # Errors
 ///
@@ -125,15 +130,21 @@ fn convert_ready<T: Threads + Wait + Sync, G: Gate + Sync, Z: Zones, W: Write, L
     log: &mut L,
 ) -> Result<u64, RunStop>
     requires first { next.now.first ≤ MAX_ROWS + 1 }
+    requires some { next.now.taken.now ≡ Taken.End → ⊥ }
     requires few { length round ≤ MAX_ROUND_PIECES }
     requires cut { ArePiecesOf conversion.now.plan.now.row_piece round }
-    ensures ok { IfOk result (WritesRound (pieces_by conversion.now.layout.now (Z.known zones.now)
-        conversion.now.plan.now round.entry next.now.first)
+    ensures ok { IfOk result (WritesRecords conversion.now.layout.now (Z.known zones.now)
+        conversion.now.plan.now.max_rows next.now.first
+        (taken_rows conversion.now.layout.now.delimiter next.now.taken.now round.entry)
         W.contents writer.old writer.new (L.noted log.old) (L.noted log.new)) }
-    ensures stop { IfErr result (EndsInRound (pieces_by conversion.now.layout.now
-        (Z.known zones.now) conversion.now.plan.now round.entry next.now.first)
+    ensures stop { IfErr result (EndsInRecords conversion.now.layout.now (Z.known zones.now)
+        conversion.now.plan.now.max_rows next.now.first
+        (taken_rows conversion.now.layout.now.delimiter next.now.taken.now round.entry)
         W.contents writer.old writer.new (L.noted log.old) (L.noted log.new)) }
 {
+    if let Taken::OpenLine(line) = next.taken {
+        return write_open_line(conversion, line, next.first, writer, log);
+    }
     let ready = zones.ready();
     let pieces = RowPieces::new(
         conversion.layout,
@@ -147,7 +158,8 @@ fn convert_ready<T: Threads + Wait + Sync, G: Gate + Sync, Z: Zones, W: Write, L
 }
 
 /// Converts what is left of a column, round by round: takes a round, has its zones made ready, has it
-/// converted, and writes its rows before it reads on. Returns the number of rows.
+/// converted, and writes its rows before it reads on. An open line is taken by itself, between rounds.
+/// Returns the number of rows.
 ///
 /// # Errors
 ///
@@ -166,6 +178,7 @@ fn convert_rounds<
     writer: &mut Counted<W>,
     log: &mut L,
 ) -> Result<u64, Halt>
+    requires { column.old.by ≡ conversion.now.layout.now.records }
     ensures grown { IfOk result (λ _. Z.grown zones.old zones.new) }
     ensures all { (files : List File) → Z.may_be zones.new files → IfOk result (λ n. ConvertsRest
         conversion.now.layout.now conversion.now.plan.now.max_rows
@@ -186,9 +199,14 @@ fn convert_rounds<
     prove!(conversion.plan.max_rows() <= u64::MAX);
     let spare = SpareTexts::new(conversion.alloc);
     let mut count = 0;
-    while next_round(conversion, zones, column)? {
+    'rounds: loop {
+        let taken = next_round(conversion, zones, column)?;
+        if let Taken::End = taken {
+            break 'rounds;
+        }
         let round = column.round();
         let next = NextRows {
+            taken: &taken,
             first: count + 1,
             spare: &spare,
         };
@@ -217,12 +235,14 @@ fn begin_column<R: Read + Drop>(
     layout: &Layout,
     reader: R,
 ) -> Result<Begun<R>, Unread>
+    ensures by { IfOk result (λ begun. begun.column.by ≡ layout.now.records) }
     ensures begins { IfOk result (λ begun. IfSome (R.remaining reader)
-        (λ bytes. BeginsRows layout.now.header bytes (unread R.remaining begun.column))) }
+        (λ bytes. BeginsRows layout.now bytes (unread R.remaining begun.column))) }
     ensures header { IfOk result (λ begun. IfSome (R.remaining reader)
-        (λ bytes. begun.header.items ≡ own_header layout.now.header (own_texts (strip_bom bytes)))) }
+        (λ bytes. begun.header.items
+        ≡ own_header layout.now.header (texts_by layout.now.records (strip_bom bytes)))) }
 {
-    let mut column = Column::new(alloc, reader, plan.max_bytes())?;
+    let mut column = Column::new(alloc, reader, plan.max_bytes(), layout.records)?;
     match layout.header {
         Header::Absent => {
             let header = Vec::new(alloc);
@@ -253,8 +273,9 @@ fn begin_rows<R: Read + Drop, W: Write>(
     reader: R,
     writer: &mut Counted<W>,
 ) -> Result<Column<R>, Halt>
+    ensures by { IfOk result (λ column. column.by ≡ layout.now.records) }
     ensures begins { IfOk result (λ column. IfSome (R.remaining reader)
-        (λ bytes. BeginsRows layout.now.header bytes (unread R.remaining column))) }
+        (λ bytes. BeginsRows layout.now bytes (unread R.remaining column))) }
     ensures head { IfOk result (λ _. IfSome (R.remaining reader) (λ bytes.
         Appends (W.contents writer.old.inner) (W.contents writer.new.inner)
         (own_line_in layout.now bytes))) }
@@ -299,8 +320,8 @@ fn convert_rows<
 {
     // Also a column that can't be read has rows: each file answers every instant.
     files_answer_once();
-    records_are_exchanged();
-    texts_are_exchanged();
+    records_by_are_exchanged();
+    texts_by_are_exchanged();
     let layout = conversion.layout;
     let exchanged = Exchanged::new(reader, layout.delimiter.byte());
     let mut column = begin_rows(conversion.alloc, conversion.plan, layout, exchanged, writer)?;
@@ -346,8 +367,8 @@ fn ended<R>(
 /// Converts a column by a layout and by zones, and writes its header and its rows. Returns the number
 /// of rows, without the header.
 ///
-/// The layout says which bytes stand between fields, of records and of rows; whether the first
-/// record is a header, which makes no row and isn't counted, and whether one is written; where a
+/// The layout says which bytes stand between fields, of records and of rows; whether a record is one of
+/// CSV or each line is one; whether the first record is a header, which makes no row and isn't counted, and whether one is written; where a
 /// row's zone and its instant come from, and how many fields a record has; and how an instant is
 /// written, and what it counts. An instant is an optional `-` and 1 to 18 digits, and as many more as
 /// a fraction of a second has; or, by the layout's `from`, a date and a time of day with a UT offset.
@@ -365,7 +386,8 @@ fn ended<R>(
 /// As the layout's `at_fault` says, the first row with a fault ends the conversion, or rows with
 /// faults are written. Such a row has the instant or the local time as its record has it, and empty
 /// fields in the place of the other four; where the record has another number of fields than the
-/// layout's, the row is only the record's own bytes. The log takes note of the fault.
+/// layout's, or is a line whose double quotes are open at its end, the row is only the record's own
+/// bytes. The log takes note of the fault. A header that is such a line is one as any other.
 ///
 /// The column is read in rounds. Before a round is converted, its zones are made ready. The plan's
 /// workers convert the pieces of a round, which have the number of records that the plan says, and
@@ -377,7 +399,8 @@ fn ended<R>(
 /// # Errors
 ///
 /// - `Row` at the first row that ends the conversion, with its number, from 1, and the first of its
-///   kinds: a row more than the plan allows, a record of another number of fields than the layout's,
+///   kinds: a row more than the plan allows, a line whose double quotes are open at its end, where each
+///   line is a record, a record of another number of fields than the layout's,
 ///   a name that no file has, no instant, or a whole second out of range. All rows before it were
 ///   written and flushed, and no failure of the writer was counted. Where rows with faults are
 ///   written, only `TooManyRows` ends the conversion as `Row`.

@@ -103,7 +103,12 @@ fn timeless_row(alloc: Global, piece: &Piece<'_, '_>, given: &Record) -> Result<
 
 /// Appends a row of the own bytes of a record and some commas, in which the delimiter and commas
 /// are put back in their places.
-fn push_own(text: &mut Vec<u8>, own: &[u8], commas: &[u8], delimiter: u8) -> Result<(), AllocError>
+pub(crate) fn push_own(
+    text: &mut Vec<u8>,
+    own: &[u8],
+    commas: &[u8],
+    delimiter: u8,
+) -> Result<(), AllocError>
     ensures { OnOk result (text.new.items
         ≡ text.old.items ++ (exchanged delimiter (own.now ++ commas.now) ++ 10 ∷ [])) }
 {
@@ -130,7 +135,7 @@ pub(crate) fn push_faulty(
 {
     let delimiter = piece.layout.delimiter.byte();
     let own = given.own.of(piece.bytes);
-    if matches!(kind, RowKind::RowFields) {
+    if matches!(kind, RowKind::RowFields | RowKind::RowQuote) {
         return push_own(text, own, b"", delimiter);
     }
     match piece.layout.start {

@@ -2,7 +2,9 @@
 
 ghost use Rattle.zic_convert.specs.Laws.{ColumnsConvertOnce, PlainColumnsConvertAlike};
 
-use zic_columns::laws::{column_records_are_read, delimited_records_are_one, records_are_one};
+use zic_columns::laws::{
+    column_records_are_read, delimited_records_are_one, records_are_one, records_by_are_one,
+};
 use zic_tzif::laws::files_answer_once;
 
 /// States that by the files of a source a column converts to one list of texts, and one fault or
@@ -11,7 +13,7 @@ pub fn columns_convert_once()
     ensures { ColumnsConvertOnce }
 {
     records_are_one();
-    delimited_records_are_one();
+    records_by_are_one();
     files_answer_once();
 }
 

@@ -9,6 +9,7 @@ mod halt;
 pub mod laws;
 mod log;
 mod lookup;
+mod opened;
 mod output;
 mod piece;
 mod pieces;

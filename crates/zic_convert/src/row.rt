@@ -119,8 +119,8 @@ fn is_in_range(count: i128, unit: Unit) -> bool
 ///
 /// # Errors
 ///
-/// The first fault of the row: a number above the greatest, another number of fields, a name that no
-/// file has, no instant, or an instant that no row may have.
+/// The first fault of the row: a number above the greatest, no field, another number of fields, a name
+/// that no file has, no instant, or an instant that no row may have.
 #[inline(always)]
 fn query(
     piece: &Piece<'_, '_>,
@@ -135,6 +135,9 @@ fn query(
 {
     if piece.most < number {
         return Err(RowKind::TooManyRows);
+    }
+    if given.count == 0 {
+        return Err(RowKind::RowQuote);
     }
     if !piece.layout.count.admits(given.count) {
         return Err(RowKind::RowFields);

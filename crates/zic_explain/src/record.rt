@@ -30,7 +30,7 @@ impl RecordForm {
             | RowKind::RowLocal
             | RowKind::RowSkipped
             | RowKind::RowRepeated => Some(self.time),
-            RowKind::RowFields | RowKind::TooManyRows => None,
+            RowKind::RowFields | RowKind::TooManyRows | RowKind::RowQuote => None,
         }
     }
 

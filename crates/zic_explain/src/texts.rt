@@ -509,6 +509,23 @@ It prints:
 Right:
   $ names 64 | pzic check -
 ?  A generated source with a different abbreviation for each change.
+@RowQuote?With `--records lines`: a double quote is still open at the end of a line.?  With `--records lines`: a double quote is still open at the end of a line.
+  With `--keep-going` the line is written as it stands, without empty fields
+  of local time, and the next line is a record of its own.
+?  A line that closes each double quote that it opens.
+?
+The examples use:
+  $ echo 'Zone Etc/UTC 0 - UTC' >utc.zi
+
+Wrong:
+  $ printf 'Etc/UTC,"0\nEtc/UTC,1\n' | pzic convert --records lines utc.zi
+
+It prints:
+  row 1: RowQuote
+
+Right:
+  $ printf 'Etc/UTC,"0"\nEtc/UTC,1\n' | pzic convert --records lines utc.zi
+?  A stray double quote. If fields may have line ends, leave the option out.
 @RowFields?A record has too few or too many fields.?  A record has too few or too many fields. There must be two, or one with
   `--zone`; with `--zone-field`, `--time-field` or `--append` as many as are
   read, or more. With `--keep-going` the record is written as it stands,
@@ -529,7 +546,8 @@ Right:
 ?  Another separator, which `--delimiter` names, or more fields, of which
   `--zone-field` and `--time-field` name two. In row 1: a header with other
   columns, which `--header` passes over. Or a stray double quote: the record
-  then goes on over lines, up to the next one or the end of the column.
+  then goes on over lines, up to the next one or the end of the column; with
+  `--records lines` it costs one row.
 @RowZone?The source has no zone or link of that name.?  The source has no zone or link of that name. With `--tree`: the tree has no
   file of that name, or one that can't be read or that `pzic show` refuses. Or
   the file has no TZ string, an offset beyond 24:00:00, or an abbreviation

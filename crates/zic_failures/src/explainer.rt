@@ -12,7 +12,7 @@ use zic_explain::{
     RecordForm, entries, expectation, line_place, nearest_zone, quote_place, row_place, shown_word,
 };
 use zic_io::Failure;
-use zic_plan::{Header, Layout, ZoneFrom};
+use zic_plan::{Header, Layout, Records, ZoneFrom};
 
 /// Explains the failure of a request.
 #[derive(Drop)]
@@ -25,6 +25,8 @@ pub struct Explainer {
     start: Option<u64>,
     /// The number of records before the rows of the column: 1 for a header, else 0.
     before: u64,
+    /// Where a record of the column ends.
+    records: Records,
     /// Where the records of the column have the zone and the instant of a row.
     form: RecordForm,
     /// The folder of the files of zones, if one has them.
@@ -43,6 +45,7 @@ impl Explainer {
             texts: Vec::new(rt.alloc()),
             start: column_start(rt),
             before: records_before(request),
+            records: records_of(request),
             form: form_of(request),
             folder: folder_of(request)?,
         })
@@ -142,6 +145,7 @@ impl Explainer {
         };
         let sought = Sought {
             number: self.before.saturating_add(row),
+            records: self.records,
             delimiter: self.form.delimiter,
             zone: self.form.zone,
         };
@@ -170,6 +174,14 @@ fn records_before(request: &Request) -> u64 {
     match request {
         Request::Convert(order) if order.layout.header != Header::Absent => 1,
         _ => 0,
+    }
+}
+
+/// Returns where a record of the column ends.
+fn records_of(request: &Request) -> Records {
+    match request {
+        Request::Convert(order) => order.layout.records,
+        _ => Records::Csv,
     }
 }
 

@@ -2,6 +2,7 @@
 
 use std::alloc::{AllocError, Global};
 use zic_explain::QuotedLines;
+use zic_plan::Records;
 
 /// The greatest number of bytes that are kept of a record.
 const LONGEST_TEXT: usize = 1_024;
@@ -14,6 +15,8 @@ const LONGEST_NAME: usize = 256;
 pub(crate) struct Sought {
     /// The number of the record, from 1.
     pub(crate) number: u64,
+    /// Where a record ends.
+    pub(crate) records: Records,
     /// The byte between fields.
     pub(crate) delimiter: u8,
     /// The index of the field with the name of the zone, if records have one.
@@ -88,7 +91,11 @@ impl RecordScan {
     pub(crate) fn take(&mut self, byte: u8) -> Result<bool, AllocError> {
         let place = self.place;
         let ends_line = byte == b'\r' || byte == b'\n';
-        if ends_line && !matches!(place, Place::Before | Place::Quoted) {
+        let ends_record = match (place, self.sought.records) {
+            (Place::Before, _) | (Place::Quoted, Records::Csv) => false,
+            _ => ends_line,
+        };
+        if ends_record {
             return Ok(self.end_record(byte));
         }
         if self.number == self.sought.number {

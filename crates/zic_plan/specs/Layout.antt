@@ -6,6 +6,7 @@ use Rattle.zic_plan.specs.declared.layout.FieldCount.{FieldCount}
 use Rattle.zic_plan.specs.declared.layout.FieldCount.TheVariants as fields
 use Rattle.zic_plan.specs.declared.layout.Header.{Header}
 use Rattle.zic_plan.specs.declared.layout.Header.TheVariants as header
+use Rattle.zic_plan.specs.declared.layout.Records.TheVariants as by
 use Rattle.zic_plan.specs.declared.layout.RowStart.TheVariants as starts
 use Rattle.zic_plan.specs.declared.layout.TimeFrom.TheVariants as times
 use Rattle.zic_plan.specs.declared.layout.Unit.TheVariants as units
@@ -22,8 +23,8 @@ records_before header.Absent = 0
 records_before header.First = 1
 records_before header.Skipped = 1
 
--- A record has two fields, the name of a zone and seconds, with a comma between them. Rows begin with these fields, and the first fault
--- ends the conversion.
+-- A record is one of CSV and has two fields, the name of a zone and seconds, with a comma between them. Rows begin with these fields, and
+-- the first fault ends the conversion.
 pub record HasPlainRows (layout : Layout) : Type 0 where
   pub zone : layout.zone ≡ from.Field 0
   pub time : layout.time ≡ 1
@@ -31,5 +32,6 @@ pub record HasPlainRows (layout : Layout) : Type 0 where
   pub count : layout.count ≡ fields.Exactly 2
   pub unit : layout.unit ≡ units.Second
   pub delimiter : layout.delimiter ≡ 44
+  pub records : layout.records ≡ by.Csv
   pub start : layout.start ≡ starts.Fields
   pub at_fault : layout.at_fault ≡ at.End

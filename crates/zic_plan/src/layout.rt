@@ -55,6 +55,17 @@ impl FieldCount {
     }
 }
 
+/// Where a record of a column ends.
+#[derive(Clone, Copy, Debug, PartialEq, Eq)]
+pub enum Records {
+    /// At a line end outside double quotes, as RFC 4180 has it: a field between double quotes may have
+    /// line ends.
+    Csv,
+    /// At each line end, also between double quotes. A line whose double quotes are open at its end is
+    /// a record without fields.
+    Lines,
+}
+
 /// Whether the first record of a column is a header, which makes no row and isn't counted, and
 /// whether a header is written before the rows.
 #[derive(Clone, Copy, Debug, PartialEq, Eq)]
@@ -101,6 +112,8 @@ pub struct Layout {
     pub unit: Unit,
     /// What stands between fields, of records and of rows.
     pub delimiter: Delimiter,
+    /// Where a record ends.
+    pub records: Records,
     /// Whether there is a header.
     pub header: Header,
     /// What a row begins with.
@@ -111,7 +124,8 @@ pub struct Layout {
 
 impl Layout {
     /// Returns the layout of plain columns: two fields, the name of a zone and seconds, with a
-    /// comma between them. Rows begin with these fields, and the first fault ends the conversion.
+    /// comma between them, and records of CSV. Rows begin with these fields, and the first fault ends
+    /// the conversion.
     pub fn plain(header: Header) -> Layout
         ensures rows { HasPlainRows result }
         ensures header { result.header ≡ header }
@@ -123,6 +137,7 @@ impl Layout {
             count: FieldCount::Exactly(2),
             unit: Unit::Second,
             delimiter: Delimiter::comma(),
+            records: Records::Csv,
             header,
             start: RowStart::Fields,
             at_fault: AtFault::End,

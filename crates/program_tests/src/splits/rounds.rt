@@ -6,7 +6,8 @@ use crate::samples::{Device, count_of, expect, expect_text, must};
 use std::alloc::Global;
 use std::io::ErrorKind;
 use std::process::Abort;
-use zic_columns::{BATCH, Column, Field, Record, Round, Span, Splitter, Wanted, push_field};
+use zic_columns::{BATCH, Column, Field, Record, Round, Span, Splitter, Taken, Wanted, push_field};
+use zic_plan::Records;
 
 /// The fields of a record that are shown.
 const SHOWN: Wanted = Wanted {
@@ -56,8 +57,8 @@ pub(super) fn push_records(rt: &impl Abort, text: &mut Vec<u8>, piece: &[u8]) ->
     total
 }
 
-/// Adds the records of the next round to a text. Returns whether there was one, or `None` where the
-/// column could not be read or a piece has more than `size` records.
+/// Adds the records of the next round to a text, or an open line and `!|`. Returns whether there was
+/// one, or `None` where the column could not be read or a piece has more than `size` records.
 fn push_round(
     rt: &impl Abort,
     alloc: Global,
@@ -66,8 +67,13 @@ fn push_round(
     (wanted, size): (usize, usize),
 ) -> Option<bool> {
     let size = size.max(1);
-    if !column.next_round(alloc, wanted, size).ok()? {
-        return Some(false);
+    match column.next_round(alloc, wanted, size).ok()? {
+        Taken::Round => {}
+        Taken::OpenLine(line) => {
+            must(rt, text.extend_from_slice(&line));
+            must(rt, text.extend_from_slice(b"!|"));
+        }
+        Taken::End => return Some(false),
     }
     if size < push_pieces(rt, text, &column.round()) {
         return None;
@@ -123,7 +129,7 @@ pub(super) fn shown(
     most: u64,
     plan: (usize, usize),
 ) -> Option<(Vec<u8>, u32)> {
-    let column = Column::new(alloc, device, most).ok()?;
+    let column = Column::new(alloc, device, most, Records::Csv).ok()?;
     rest_of(rt, alloc, column, plan)
 }
 
@@ -174,9 +180,15 @@ fn records_come_in_rounds(rt: HostRuntime) {
 
 /// Returns the own bytes of the first record of a column and `>`, and then its other records, in
 /// reads of this length.
-fn after_first(rt: &impl Abort, alloc: Global, column: &[u8], step: usize) -> Vec<u8> {
+fn after_first(
+    rt: &impl Abort,
+    alloc: Global,
+    column: &[u8],
+    records: Records,
+    step: usize,
+) -> Vec<u8> {
     let mut device = Device::new(column, step, Ok(()));
-    let mut column = must(rt, Column::new(alloc, &mut device, 100));
+    let mut column = must(rt, Column::new(alloc, &mut device, 100, records));
     let mut text = must(rt, column.pass_record(alloc, 1000));
     let (rest, _) = must(rt, rest_of(rt, alloc, column, (1000, 2)).ok_or(()));
     must(rt, text.push(b'>'));
@@ -201,8 +213,31 @@ static PASSED: [(&[u8], &[u8]); 6] = [
 fn the_first_record_is_passed_over(rt: HostRuntime) {
     for (column, want) in &PASSED {
         for step in STEPS {
-            let text = after_first(&rt, rt.alloc(), *column, step);
+            let text = after_first(&rt, rt.alloc(), *column, Records::Csv, step);
             expect_text(&rt, &text, *want, "the records after the first");
+        }
+    }
+}
+
+/// Columns in which each line is a record, and the own bytes of their first record with the others.
+static LINES: [(&[u8], &[u8]); 6] = [
+    (b"\n", b">"),
+    (b"z,i\na,0\nb,\"1\nc,2\n", b"z,i>a=0|b,\"1!|c=2|"),
+    (b"\"z,i\na,0\n\"b\",\"1\"", b"\"z,i>a=0|b=1|"),
+    (
+        b"z\n\"a,0\r\n\r\n\"b\",1\rc\"c,2\n\"d",
+        b"z>\"a,0!|b=1|c\"c=2|\"d!|",
+    ),
+    (b"z\na,\"0\n\"\n", b"z>a,\"0!|\"!|"),
+    (b"z\n\"a\"\"\",0\n\"b\"\",1\nc,2\n", b"z>a\"=0|\"b\"\",1!|c=2|"),
+];
+
+#[test]
+fn an_open_line_is_taken_by_itself(rt: HostRuntime) {
+    for (column, want) in &LINES {
+        for step in STEPS {
+            let text = after_first(&rt, rt.alloc(), *column, Records::Lines, step);
+            expect_text(&rt, &text, *want, "the records of lines");
         }
     }
 }
@@ -401,6 +436,6 @@ static FIRST_READS: [(&[u8], usize, usize); 9] = [
 /// Ends the test where a column in reads of this length isn't begun, or in another number of reads.
 fn expect_first_reads(rt: &impl Abort, alloc: Global, column: &[u8], step: usize, want: usize) {
     let mut device = Device::new(column, step, Ok(()));
-    let begun = Column::new(alloc, &mut device, 100).is_ok();
+    let begun = Column::new(alloc, &mut device, 100, Records::Csv).is_ok();
     expect(rt, begun && device.reads() == want, "the first reads");
 }

@@ -1,12 +1,21 @@
 -- The bytes in hand.
-use Rattle.std.specs.Prelude.{◌≡◌, ◌<◌, ◌≤◌, ◌⊎◌, ℕ, List, [], length, take, drop, Option, Some, MatchOption, IfSome}
+use Rattle.std.specs.Prelude.{◌≡◌, ◌<◌, ◌≤◌, ◌⊎◌, ℕ, List, [], ◌∷◌, ◌++◌, length, take, drop, Option, Some, None, MatchOption, IfSome}
 use Rattle.std.specs.Io.KnownBytes.{IsAtEnd}
 use Rattle.csv.specs.declared.parser.State.TheVariants as st
+use Rattle.zic_plan.specs.declared.layout.Records.{Records}
+use Rattle.zic_plan.specs.declared.layout.Records.TheVariants as by
 use Rattle.zic_columns.specs.Column.{AreWholeRecords, HasNoQuote, column_records}
+use Rattle.zic_columns.specs.Lines.{open_record, records_by}
+use Rattle.zic_columns.specs.code.LineScan.{AllClosed, HasNoLineEnd, IsLineScan}
+use Rattle.zic_columns.specs.declared.columns.AtHand.{AtHand}
+use Rattle.zic_columns.specs.declared.columns.AtHand.TheVariants as hand
+use Rattle.zic_columns.specs.declared.line_scan.OpenLine.{OpenLine}
+use Rattle.zic_columns.specs.declared.scan.Scan.{Scan}
+use Rattle.zic_columns.specs.declared.scan.Scan.TheVariants as scan
 use Rattle.zic_columns.specs.code.Line.{AreWholeLines}
-use Rattle.zic_columns.specs.Round.{ColumnOf, TakesPieces, with_past}
+use Rattle.zic_columns.specs.Round.{ColumnOf, with_past}
 use Rattle.zic_columns.specs.code.Machine.{BeginsRecord, ReadsTo, state_at}
-use Rattle.zic_columns.specs.declared.hand.Scan.{Scan}
+use Rattle.zic_columns.specs.declared.hand.CsvScan.{CsvScan}
 
 -- the first `count` bytes are whole lines without a double quote, and the next byte, if there is
 -- one, ends no line
@@ -18,7 +27,7 @@ pub record BeginWithLines (bytes : List ℕ) (count : ℕ) : Type 0 where
 
 -- the first `whole` bytes are whole records, and the others none or the first of a record, up to a
 -- place in it
-pub record IsScanned (bytes : List ℕ) (scan : Scan) : Type 0 where
+pub record IsScanned (bytes : List ℕ) (scan : CsvScan) : Type 0 where
   pub within : scan.whole ≤ length bytes
   pub whole : AreWholeRecords (take scan.whole bytes)
   pub begun : MatchOption scan.begun (drop scan.whole bytes ≡ [])
@@ -32,10 +41,49 @@ to_come remaining column = with_past column.past (remaining column.reader)
 abbrev pub AreSomeRecords : List ℕ → Type 0
 AreSomeRecords bytes = AreWholeRecords bytes × (0 < length (column_records bytes))
 
--- the first `count` bytes in hand are some records, or all up to the end of the column
-abbrev pub CanBeCut : List ℕ → Option (List ℕ) → ℕ → Type 0
-CanBeCut held come count = (count ≤ length held) × (AreSomeRecords (take count held) ⊎ ((count ≡ length held) × IsAtEnd come))
+-- no line is open, where each line is a record
+abbrev pub ClosedBy : Records → List ℕ → Type 0
+ClosedBy by.Csv bytes = Unit {0}
+ClosedBy by.Lines bytes = AllClosed bytes
 
--- The records of these pieces come first, where the bytes before and after are known.
-abbrev pub Takes : Option (List ℕ) → Option (List ℕ) → List (List ℕ) → Type 0
-Takes old new pieces = IfSome old (λ bytes. (rest : List ℕ) × (new ≡ Some rest) × TakesPieces bytes rest pieces)
+-- The first `count` bytes in hand are some records, or all up to the end of the column. Where each line is a record, none of them is open.
+pub record CanBeCut (by : Records) (held : List ℕ) (come : Option (List ℕ)) (count : ℕ) : Type 0 where
+  pub within : count ≤ length held
+  pub closed : ClosedBy by (take count held)
+  pub some : AreSomeRecords (take count held) ⊎ ((count ≡ length held) × IsAtEnd come)
+
+-- the first line in hand is open
+pub record OpensWith (by : Records) (held : List ℕ) (come : Option (List ℕ)) (line : OpenLine) : Type 0 where
+  pub few : line.own ≤ line.len
+  pub within : line.len ≤ length held
+  pub opens : IfSome come (λ more. records_by by (held ++ more) ≡ open_record (take line.own held) ∷ records_by by (drop line.len held ++ more))
+
+-- what is in hand first
+abbrev pub IsAtHand : Records → List ℕ → Option (List ℕ) → AtHand → Type 0
+IsAtHand by held come (hand.Records count) = CanBeCut by held come count
+IsAtHand by held come (hand.Line line) = OpensWith by held come line
+
+-- the mode of a scan
+abbrev pub mode_of : Scan → Records
+mode_of (scan.Csv found) = by.Csv
+mode_of (scan.Lines found) = by.Lines
+
+-- what was scanned
+abbrev pub IsScannedBy : List ℕ → Scan → Type 0
+IsScannedBy bytes (scan.Csv found) = IsScanned bytes found
+IsScannedBy bytes (scan.Lines found) = IsLineScan bytes found
+
+-- the number of bytes in whole records
+abbrev pub whole_of_scan : Scan → ℕ
+whole_of_scan (scan.Csv found) = found.whole
+whole_of_scan (scan.Lines found) = found.whole
+
+-- the open line after them
+abbrev pub open_of_scan : Scan → Option OpenLine
+open_of_scan (scan.Csv found) = None
+open_of_scan (scan.Lines found) = found.opened
+
+-- where each line is a record, no line ends in the bytes
+abbrev pub UnendedBy : Records → List ℕ → Type 0
+UnendedBy by.Csv bytes = Unit {0}
+UnendedBy by.Lines bytes = HasNoLineEnd bytes

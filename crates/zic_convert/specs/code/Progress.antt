@@ -1,16 +1,19 @@
 -- How far a conversion has come.
-use Rattle.std.specs.Prelude.{◌≡◌, ◌≤◌, ◌<◌, ◌↔◌, ℕ, Bool, false, IsTrue, List, [], ◌++◌, length, drop, Option, Some, None, IfSome}
+use Rattle.std.specs.Prelude.{◌≡◌, ◌≤◌, ◌<◌, ◌↔◌, ℕ, List, [], ◌++◌, length, drop, Option, Some, None, IfSome}
 use Rattle.std.specs.List.{concat}
 use Rattle.std.specs.Io.KnownBytes.{Appends}
 use Rattle.csv.specs.Reading.{strip_bom}
 use Rattle.zic_columns.specs.Exchange.{exchanged}
-use Rattle.zic_columns.specs.Own.{CsvRecord, own_texts, csv_records}
-use Rattle.zic_columns.specs.Round.{ArePiecesOf, ColumnOf, HasNoRecord, TakesRound, unread}
+use Rattle.zic_columns.specs.Lines.{records_by, texts_by}
+use Rattle.zic_columns.specs.Own.{CsvRecord}
+use Rattle.zic_columns.specs.Round as Columns
+use Rattle.zic_columns.specs.Round.{ArePiecesOf, ColumnOf, HasNoRecord, taken_records, unread}
+use Rattle.zic_columns.specs.declared.columns.Taken.{Taken}
+use Rattle.zic_columns.specs.declared.columns.Taken.TheVariants as taken
 use Rattle.zic_columns.specs.declared.pieces.TheConstants.{MAX_ROUND_PIECES}
 use Rattle.zic_counted.specs.Counts.{Counts, HasFailedSince}
 use Rattle.zic_counted.specs.Written.{FailsWithin}
 use Rattle.zic_plan.specs.Layout.{records_before}
-use Rattle.zic_plan.specs.declared.layout.Header.{Header}
 use Rattle.zic_plan.specs.declared.layout.Layout.{Layout}
 use Rattle.zic_base.specs.declared.row_fault.RowFault.{RowFault}
 use Rattle.zic_base.specs.declared.run_stop.RunStop.{RunStop}
@@ -19,7 +22,7 @@ use Rattle.zic_files.specs.File.{File}
 use Rattle.zic_convert.specs.Column.{AreRowRecords, header_of, own_header, own_line}
 use Rattle.zic_convert.specs.LayoutRows.{RecordsConvertBy, faults_by}
 use Rattle.zic_convert.specs.Run.{EndsIn, Notes, Output, WritesRows}
-use Rattle.zic_convert.specs.code.Row.{csv_records_in}
+use Rattle.zic_convert.specs.code.Row.{records_in}
 use Rattle.zic_convert.specs.declared.halt.Halt.{Halt}
 use Rattle.zic_convert.specs.declared.halt.Halt.TheVariants as halt
 
@@ -28,12 +31,12 @@ output held held' log log' = record { held = held; held' = held'; log = log; log
 
 -- Where the bytes that are left of a column are known, these records come next, and then those of the bytes that are left then. Their
 -- own bytes have the delimiter put back.
-abbrev pub Takes : ℕ → Option (List ℕ) → Option (List ℕ) → List CsvRecord → Type 0
-Takes delimiter old new row_records = IfSome old (λ bytes. (rest : List ℕ) × (new ≡ Some rest) × (csv_records_in delimiter bytes ≡ row_records ++ csv_records_in delimiter rest))
+abbrev pub Takes : Layout → Option (List ℕ) → Option (List ℕ) → List CsvRecord → Type 0
+Takes layout old new row_records = IfSome old (λ bytes. (rest : List ℕ) × (new ≡ Some rest) × (records_in layout bytes ≡ row_records ++ records_in layout rest))
 
 -- Where the bytes that are left are known, these records come next.
-abbrev pub ComeNext : ℕ → Option (List ℕ) → List CsvRecord → Type 0
-ComeNext delimiter left row_records = IfSome left (λ bytes. (more : List CsvRecord) × (csv_records_in delimiter bytes ≡ row_records ++ more))
+abbrev pub ComeNext : Layout → Option (List ℕ) → List CsvRecord → Type 0
+ComeNext layout left row_records = IfSome left (λ bytes. (more : List CsvRecord) × (records_in layout bytes ≡ row_records ++ more))
 
 -- Of these records this number was converted and written, none of which ends the run, and the bytes that are left have the others.
 pub record IsSoFar (layout : Layout) (files : List File) (most : ℕ) (all : List CsvRecord) (left : Option (List ℕ)) (count : ℕ) (out : Output) : Type 0 where
@@ -41,7 +44,7 @@ pub record IsSoFar (layout : Layout) (files : List File) (most : ℕ) (all : Lis
   pub texts : List (List ℕ)
   pub rest : List ℕ
   pub bytes : left ≡ Some rest
-  pub goes_on : all ≡ row_records ++ csv_records_in layout.delimiter rest
+  pub goes_on : all ≡ row_records ++ records_in layout rest
   pub come : RecordsConvertBy layout files most 1 row_records texts None
   pub counted : count ≡ length texts
   pub wrote : Appends out.held out.held' (concat texts)
@@ -49,11 +52,11 @@ pub record IsSoFar (layout : Layout) (files : List File) (most : ℕ) (all : Lis
 
 -- by these files, all rows of the bytes that were left, where they are known, were written, there are n, and their faults were noted
 abbrev pub ConvertsRest : Layout → ℕ → Option (List ℕ) → ℕ → Output → List File → Type 0
-ConvertsRest layout most known n out files = IfSome known (λ bytes. WritesRows layout files most [] (csv_records_in layout.delimiter bytes) n out)
+ConvertsRest layout most known n out files = IfSome known (λ bytes. WritesRows layout files most [] (records_in layout bytes) n out)
 
 -- the conversion of those bytes ended early
 abbrev pub EndsInRest : Layout → ℕ → Option (List ℕ) → RunStop → Output → List File → Type 0
-EndsInRest layout most known why out files = IfSome known (λ bytes. EndsIn layout files most [] (csv_records_in layout.delimiter bytes) why out)
+EndsInRest layout most known why out files = IfSome known (λ bytes. EndsIn layout files most [] (records_in layout bytes) why out)
 
 -- by these files, all rows of a column were written below its own header
 abbrev pub ConvertsColumn : Layout → ℕ → Option (List ℕ) → ℕ → Output → List File → Type 0
@@ -67,11 +70,11 @@ EndsInColumn layout most known why out files = IfSome known (λ column.
 
 -- the column's own header with names added, but for the delimiter of the column
 abbrev pub own_line_in : Layout → List ℕ → List ℕ
-own_line_in layout column = header_of layout.start layout.from layout.delimiter (exchanged layout.delimiter (own_header layout.header (own_texts (strip_bom column))))
+own_line_in layout column = header_of layout.start layout.from layout.delimiter (exchanged layout.delimiter (own_header layout.header (texts_by layout.records (strip_bom column))))
 
 -- The bytes that are left of a column have its records after those that are a header.
-abbrev pub BeginsRows : Header → List ℕ → Option (List ℕ) → Type 0
-BeginsRows header column left = (rest : List ℕ) × (left ≡ Some rest) × (csv_records rest ≡ drop (records_before header) (csv_records (strip_bom column)))
+abbrev pub BeginsRows : Layout → List ℕ → Option (List ℕ) → Type 0
+BeginsRows layout column left = (rest : List ℕ) × (left ≡ Some rest) × (records_by layout.records rest ≡ drop (records_before layout.header) (records_by layout.records (strip_bom column)))
 
 -- the conversion of a column, where its bytes are known, ended before its rows began
 abbrev pub HaltsAtHead : {W : Type 0} → (W → Option (List ℕ)) → Counts W → Counts W → Layout → Option (List ℕ) → Halt → Type 0
@@ -80,11 +83,12 @@ HaltsAtHead contents old new layout known (halt.Stop stop.Memory) = new ≡ old
 HaltsAtHead contents old new layout known (halt.Stop stop.WriteFailed) = HasFailedSince new old.failures × IfSome known (λ column. FailsWithin contents old new (own_line_in layout column))
 HaltsAtHead contents old new layout known (halt.Stop _) = ⊥
 
--- a column was taken to its next round, in pieces of so many records, or to its end
-pub record TakesNext {R : Type 0} (remaining : R → Option (List ℕ)) (size : ℕ) (old new : ColumnOf R) (more : Bool) : Type 0 where
-  pub takes : TakesRound remaining old new
-  pub some : IsTrue more ↔ (0 < length new.round)
-  pub end : more ≡ false → HasNoRecord (unread remaining new)
+-- a column was taken to its next round, in pieces of so many records, to its next open line, or to its end
+pub record TakesNext {R : Type 0} (remaining : R → Option (List ℕ)) (size : ℕ) (old new : ColumnOf R) (next : Taken) : Type 0 where
+  pub by : new.by ≡ old.by
+  pub takes : Columns.Takes old.by (unread remaining old) (unread remaining new) (taken_records next new.round)
+  pub some : next ≡ taken.Round ↔ (0 < length new.round)
+  pub end : next ≡ taken.End → HasNoRecord old.by (unread remaining new)
   pub few : length new.round ≤ MAX_ROUND_PIECES
   pub cut : ArePiecesOf size new.round
 

@@ -2,7 +2,10 @@
 use Rattle.std.specs.Prelude.{◌≡◌, ◌+◌, ℕ, List, [], ◌∷◌, ◌++◌, length, map, Option, Some, None, MatchOption}
 use Rattle.std.specs.List.{concat, flat_map}
 use Rattle.zic_columns.specs.Exchange.{exchanged}
+use Rattle.zic_columns.specs.Lines.{open_record, records_by}
 use Rattle.zic_columns.specs.Own.{CsvRecord, csv_records}
+use Rattle.zic_columns.specs.declared.columns.Taken.{Taken}
+use Rattle.zic_columns.specs.declared.columns.Taken.TheVariants as taken
 use Rattle.zic_files.specs.File.{File}
 use Rattle.zic_plan.specs.declared.layout.Layout.{Layout}
 use Rattle.zic_plan.specs.declared.layout.RowStart.{RowStart}
@@ -19,9 +22,19 @@ put_back delimiter row_record = record { own = exchanged delimiter row_record.ow
 abbrev pub csv_records_in : ℕ → List ℕ → List CsvRecord
 csv_records_in delimiter bytes = map (put_back delimiter) (csv_records bytes)
 
--- those of pieces, one piece after another
+-- the records that are left of a column, by where they end, with the two put back
+abbrev pub records_in : Layout → List ℕ → List CsvRecord
+records_in layout bytes = map (put_back layout.delimiter) (records_by layout.records bytes)
+
+-- the records of pieces, one piece after another
 abbrev pub wholes_of_all : ℕ → List (List ℕ) → List CsvRecord
 wholes_of_all delimiter pieces = flat_map (csv_records_in delimiter) pieces
+
+-- the records that were taken of a column, with the two put back: those of the pieces of a round, or that of an open line
+abbrev pub taken_rows : ℕ → Taken → List (List ℕ) → List CsvRecord
+taken_rows delimiter taken.Round pieces = wholes_of_all delimiter pieces
+taken_rows delimiter (taken.OpenLine line) pieces = put_back delimiter (open_record line.items) ∷ []
+taken_rows delimiter taken.End pieces = []
 
 -- the fields of each record
 abbrev pub fields_of_all : List CsvRecord → List (List (List ℕ))

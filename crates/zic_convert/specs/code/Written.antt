@@ -56,10 +56,14 @@ EndsAtHead contents old new head stop.WriteFailed = FailsWithin contents old new
 EndsAtHead contents old new head stop.Memory = new ≡ old
 EndsAtHead contents old new head _ = ⊥
 
--- the rows of a round were all written, and this is their count
+-- the rows of these records, the first of which is the row of a number, were all written, and this is their count
+abbrev pub WritesRecords : {W : Type 0} → Layout → List File → ℕ → ℕ → List CsvRecord → (W → Option (List ℕ)) → Counts W → Counts W → Option (List RowFault) → Option (List RowFault) → ℕ → Type 0
+WritesRecords layout files most first row_records contents old new log log' count =
+    (rows : RowsOf) × AreRowsOf layout files most first row_records rows × WroteRows contents old new log log' rows count
+
+-- those of a round
 abbrev pub WritesRound : {W : Type 0} → Pieces → (W → Option (List ℕ)) → Counts W → Counts W → Option (List RowFault) → Option (List RowFault) → ℕ → Type 0
-WritesRound p contents old new log log' count =
-    (rows : RowsOf) × AreRowsOf p.layout p.files p.most p.first (wholes_of_all p.layout.delimiter p.pieces) rows × WroteRows contents old new log log' rows count
+WritesRound p contents old new log log' count = WritesRecords p.layout p.files p.most p.first (wholes_of_all p.layout.delimiter p.pieces) contents old new log log' count
 
 -- of the rows of these records, those of the first records were written, and their faults noted, and then the writer failed
 pub record FailsInRows {W : Type 0} (contents : W → Option (List ℕ)) (old new : Counts W) (log log' : Option (List RowFault))
@@ -79,12 +83,15 @@ EndsInRows contents old new log log' layout files most first row_records rows (s
 EndsInRows contents old new log log' layout files most first row_records rows stop.WriteFailed = FailsInRows contents old new log log' layout files most first row_records rows
 EndsInRows contents old new log log' layout files most first row_records rows _ = ⊥
 
--- the rows of a round before one that ends the run were written, or the writer failed, or memory ran out
-abbrev pub EndsInRound : {W : Type 0} → Pieces → (W → Option (List ℕ)) → Counts W → Counts W → Option (List RowFault) → Option (List RowFault) → RunStop → Type 0
-EndsInRound p contents old new log log' why =
+-- the rows of these records before one that ends the run were written, or the writer failed, or memory ran out
+abbrev pub EndsInRecords : {W : Type 0} → Layout → List File → ℕ → ℕ → List CsvRecord → (W → Option (List ℕ)) → Counts W → Counts W → Option (List RowFault) → Option (List RowFault) → RunStop → Type 0
+EndsInRecords layout files most first row_records contents old new log log' why =
     ((why ≡ stop.Memory) × (new ≡ old) × (log' ≡ log))
-    ⊎ ((rows : RowsOf) × AreRowsOf p.layout p.files p.most p.first (wholes_of_all p.layout.delimiter p.pieces) rows
-    × EndsInRows contents old new log log' p.layout p.files p.most p.first (wholes_of_all p.layout.delimiter p.pieces) rows why)
+    ⊎ ((rows : RowsOf) × AreRowsOf layout files most first row_records rows × EndsInRows contents old new log log' layout files most first row_records rows why)
+
+-- those of a round
+abbrev pub EndsInRound : {W : Type 0} → Pieces → (W → Option (List ℕ)) → Counts W → Counts W → Option (List RowFault) → Option (List RowFault) → RunStop → Type 0
+EndsInRound p contents old new log log' why = EndsInRecords p.layout p.files p.most p.first (wholes_of_all p.layout.delimiter p.pieces) contents old new log log' why
 
 -- the pieces of a round by a layout, files and a plan; the first record is the row of this number
 abbrev pub pieces_by : Layout → List File → Limits → List (List ℕ) → ℕ → Pieces

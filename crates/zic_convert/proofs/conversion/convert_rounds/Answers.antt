@@ -1,15 +1,17 @@
 use Rattle.std.proofs.Common.{◌<◌, ◌+◌, ◌∙◌, length, rules, arith, refl}
 use Rattle.std.proofs.lemmas.Result.{err_from_is_err_and}
 use Rattle.zic_columns.specs.Round.{unread}
-use Rattle.zic_convert.specs.code.Row.{wholes_of_all}
+use Rattle.zic_convert.specs.code.Row.{taken_rows}
 use Rattle.zic_convert.proofs.Halts.{as_many, no_more}
-use Rattle.zic_convert.proofs.Joining.{some_records}
-use Rattle.zic_convert.proofs.Progress.{no_piece, round_taken}
+use Rattle.zic_convert.proofs.Joining.{taken_some}
+use Rattle.zic_convert.proofs.Progress.{rows_taken}
 use Rattle.zic_convert.proofs.Rounds.{far_at_start, far_on, flush_fails, no_round, round_ends, rounds_done}
+use Rattle.zic_convert.proofs.Staying.{taken_known}
 use Rattle.zic_convert.proofs.conversion.convert_rounds.Goals as goal
 
-pub loop-spare-init : goal.loop-spare-init
-loop-spare-init g c = record {
+pub rounds-init : goal.rounds-init
+rounds-init g c = record {
+  by = c.requires;
   within = search rules;
   failures = refl;
   grown = g.met.Z.Zones.same c.args.zones.now;
@@ -18,9 +20,9 @@ loop-spare-init g c = record {
       (g.L.FaultLog.noted c.args.log.now) files;
 }
 
-pub returns-in_err-next_round-clause-halt : goal.returns-in_err-next_round-clause-halt
-returns-in_err-next_round-clause-halt g c =
-    let l = c.loop-spare in
+pub returns-in_err-taken-clause-halt : goal.returns-in_err-taken-clause-halt
+returns-in_err-taken-clause-halt g c =
+    let l = c.rounds in
     let layout = c.args.conversion.now.layout.now in
     let plan = c.args.conversion.now.plan.now in
     let contents = g.W.Write.contents in
@@ -32,11 +34,11 @@ returns-in_err-next_round-clause-halt g c =
     let p = err_from_is_err_and c.from_residual.result c.from_residual.ensures.1 in
     rw (p.1, p.2) (no_round g.Z.Zones.known g.Z.Zones.settled g.Z.Zones.may_be g.Z.Zones.grown g.Z.Zones.broken g.met.Z.Zones.same g.met.Z.Zones.then g.met.Z.Zones.narrows g.met.Z.Zones.agrees contents
     c.files_answer_once.ensures layout plan known left l.count held l.writer log now c.args.zones.now l.zones l.invariant.grown l.invariant.far
-    c.next_round.new.zones c.in_err-next_round.field-0.0 c.in_err-next_round.ensures.halt)
+    c.next_round.new.zones c.in_err-taken.field-0.0 c.in_err-taken.ensures.halt)
 
 pub returns-in_err-count-clause-halt : goal.returns-in_err-count-clause-halt
 returns-in_err-count-clause-halt g c =
-    let l = c.loop-spare in
+    let l = c.rounds in
     let layout = c.args.conversion.now.layout.now in
     let plan = c.args.conversion.now.plan.now in
     let contents = g.W.Write.contents in
@@ -48,17 +50,20 @@ returns-in_err-count-clause-halt g c =
     let pieces = c.next_round.new.column.round in
     let next = unread g.R.Read.remaining c.next_round.new.column in
     let then = c.next_round.new.zones in
-    let takes = c.in_ok-next_round.ensures.takes in
-    let grows = c.in_ok-next_round.ensures.grown in
+    let takes = c.in_ok-taken.ensures.takes in
+    let taken = c.in_ok-taken.taken in
+    let rs = taken_rows layout.delimiter taken pieces in
+    let rows_next = rows_taken layout l.column.by l.invariant.by left next taken pieces takes.takes in
+    let grows = c.in_ok-taken.ensures.grown in
     let ends = rw c.round-round.ensures at c.in_err-count.ensures.stop in
     let p = err_from_is_err_and c.from_residual-in_err-count.result c.from_residual-in_err-count.ensures.1 in
     rw (p.1, p.2) (round_ends g.Z.Zones.known g.Z.Zones.settled g.Z.Zones.may_be g.Z.Zones.grown g.Z.Zones.broken g.met.Z.Zones.same g.met.Z.Zones.then g.met.Z.Zones.narrows g.met.Z.Zones.agrees contents
     c.files_answer_once.ensures layout plan known left l.count held l.writer log now c.args.zones.now l.zones l.invariant.grown l.invariant.far
-    then grows pieces next takes.takes c.byte.ensures.sound c.in_ok-next_round.ensures.settled c.convert_ready.new.writer (g.L.FaultLog.noted c.convert_ready.new.log) c.in_err-count.field-0.0 ends)
+    then grows rs next rows_next (λ files may. taken_known layout.delimiter c.byte.ensures.sound (g.Z.Zones.settled then) (g.Z.Zones.known then) files (g.met.Z.Zones.agrees then files may) layout.zone taken pieces c.in_ok-taken.ensures.settled) c.convert_ready.new.writer (g.L.FaultLog.noted c.convert_ready.new.log) c.in_err-count.field-0.0 ends)
 
 pub overflow_add-count : goal.overflow_add-count
 overflow_add-count g c =
-    let l = c.loop-spare in
+    let l = c.rounds in
     let layout = c.args.conversion.now.layout.now in
     let plan = c.args.conversion.now.plan.now in
     let contents = g.W.Write.contents in
@@ -70,16 +75,19 @@ overflow_add-count g c =
     let pieces = c.next_round.new.column.round in
     let next = unread g.R.Read.remaining c.next_round.new.column in
     let then = c.next_round.new.zones in
-    let takes = c.in_ok-next_round.ensures.takes in
-    let grows = c.in_ok-next_round.ensures.grown in
+    let takes = c.in_ok-taken.ensures.takes in
+    let taken = c.in_ok-taken.taken in
+    let rs = taken_rows layout.delimiter taken pieces in
+    let rows_next = rows_taken layout l.column.by l.invariant.by left next taken pieces takes.takes in
+    let grows = c.in_ok-taken.ensures.grown in
     let (rows, are, wrote) = rw c.round-round.ensures at c.in_ok-count.ensures.ok in
-    let within = no_more layout (g.Z.Zones.known then) plan.max_rows l.count (wholes_of_all layout.delimiter pieces) rows are wrote.0 l.invariant.within in
+    let within = no_more layout (g.Z.Zones.known then) plan.max_rows l.count rs rows are wrote.0 l.invariant.within in
     let fits : l.count + c.in_ok-count.field-0 < 18446744073709551616 = omega (arith, wrote.1, within, c.max_rows.ensures.plan.max_rows) in
     search (rules, fits)
 
-pub loop-spare-smaller : goal.loop-spare-smaller
-loop-spare-smaller g c =
-    let l = c.loop-spare in
+pub rounds-smaller : goal.rounds-smaller
+rounds-smaller g c =
+    let l = c.rounds in
     let layout = c.args.conversion.now.layout.now in
     let plan = c.args.conversion.now.plan.now in
     let contents = g.W.Write.contents in
@@ -91,16 +99,19 @@ loop-spare-smaller g c =
     let pieces = c.next_round.new.column.round in
     let next = unread g.R.Read.remaining c.next_round.new.column in
     let then = c.next_round.new.zones in
-    let takes = c.in_ok-next_round.ensures.takes in
-    let grows = c.in_ok-next_round.ensures.grown in
+    let takes = c.in_ok-taken.ensures.takes in
+    let taken = c.in_ok-taken.taken in
+    let rs = taken_rows layout.delimiter taken pieces in
+    let rows_next = rows_taken layout l.column.by l.invariant.by left next taken pieces takes.takes in
+    let grows = c.in_ok-taken.ensures.grown in
     let (rows, are, wrote) = rw c.round-round.ensures at c.in_ok-count.ensures.ok in
-    let many = as_many layout (g.Z.Zones.known then) plan.max_rows (l.count + 1) (wholes_of_all layout.delimiter pieces) rows are wrote.0 in
-    let filled = some_records layout.delimiter plan.row_piece pieces (takes.some.0 c.if-branch.true) (omega (arith, c.max_rows.ensures.plan.row_piece.0)) takes.cut in
+    let many = as_many layout (g.Z.Zones.known then) plan.max_rows (l.count + 1) rs rows are wrote.0 in
+    let filled = taken_some layout.delimiter plan.row_piece taken pieces c.in_default.not-End takes.some.0 (omega (arith, c.max_rows.ensures.plan.row_piece.0)) takes.cut in
     omega (arith, wrote.1, many, filled, l.invariant.within)
 
-pub loop-spare-preserved : goal.loop-spare-preserved
-loop-spare-preserved g c =
-    let l = c.loop-spare in
+pub rounds-preserved : goal.rounds-preserved
+rounds-preserved g c =
+    let l = c.rounds in
     let layout = c.args.conversion.now.layout.now in
     let plan = c.args.conversion.now.plan.now in
     let contents = g.W.Write.contents in
@@ -112,23 +123,59 @@ loop-spare-preserved g c =
     let pieces = c.next_round.new.column.round in
     let next = unread g.R.Read.remaining c.next_round.new.column in
     let then = c.next_round.new.zones in
-    let takes = c.in_ok-next_round.ensures.takes in
-    let grows = c.in_ok-next_round.ensures.grown in
+    let takes = c.in_ok-taken.ensures.takes in
+    let taken = c.in_ok-taken.taken in
+    let rs = taken_rows layout.delimiter taken pieces in
+    let rows_next = rows_taken layout l.column.by l.invariant.by left next taken pieces takes.takes in
+    let grows = c.in_ok-taken.ensures.grown in
     let ok = rw c.round-round.ensures at c.in_ok-count.ensures.ok in
     let (rows, are, wrote) = ok in
-    let within = no_more layout (g.Z.Zones.known then) plan.max_rows l.count (wholes_of_all layout.delimiter pieces) rows are wrote.0 l.invariant.within in
+    let within = no_more layout (g.Z.Zones.known then) plan.max_rows l.count rs rows are wrote.0 l.invariant.within in
     record {
+      by = takes.by ∙ l.invariant.by;
       within = omega (arith, wrote.1, within);
       failures = wrote.2.1 ∙ l.invariant.failures;
       grown = g.met.Z.Zones.then c.args.zones.now l.zones then l.invariant.grown grows;
       far = far_on g.Z.Zones.known g.Z.Zones.settled g.Z.Zones.may_be g.Z.Zones.grown g.Z.Zones.broken g.met.Z.Zones.same g.met.Z.Zones.then g.met.Z.Zones.narrows g.met.Z.Zones.agrees contents
           c.files_answer_once.ensures layout plan known left l.count held l.writer log now c.args.zones.now l.zones l.invariant.grown l.invariant.far
-          then grows pieces next takes.takes c.byte.ensures.sound c.in_ok-next_round.ensures.settled c.convert_ready.new.writer (g.L.FaultLog.noted c.convert_ready.new.log) c.in_ok-count.field-0 ok;
+          then grows rs next rows_next (λ files may. taken_known layout.delimiter c.byte.ensures.sound (g.Z.Zones.settled then) (g.Z.Zones.known then) files (g.met.Z.Zones.agrees then files may) layout.zone taken pieces c.in_ok-taken.ensures.settled) c.convert_ready.new.writer (g.L.FaultLog.noted c.convert_ready.new.log) c.in_ok-count.field-0 ok;
+    }
+
+pub rounds-preserved-in_ok-count : goal.rounds-preserved-in_ok-count
+rounds-preserved-in_ok-count g c =
+    let l = c.rounds in
+    let layout = c.args.conversion.now.layout.now in
+    let plan = c.args.conversion.now.plan.now in
+    let contents = g.W.Write.contents in
+    let known = unread g.R.Read.remaining c.args.column.now in
+    let left = unread g.R.Read.remaining l.column in
+    let held = contents c.args.writer.now.inner in
+    let log = g.L.FaultLog.noted c.args.log.now in
+    let now = g.L.FaultLog.noted l.log in
+    let pieces = c.next_round.new.column.round in
+    let next = unread g.R.Read.remaining c.next_round.new.column in
+    let then = c.next_round.new.zones in
+    let takes = c.in_ok-taken.ensures.takes in
+    let taken = c.in_ok-taken.taken in
+    let rs = taken_rows layout.delimiter taken pieces in
+    let rows_next = rows_taken layout l.column.by l.invariant.by left next taken pieces takes.takes in
+    let grows = c.in_ok-taken.ensures.grown in
+    let ok = rw c.round-round.ensures at c.in_ok-count.ensures.ok in
+    let (rows, are, wrote) = ok in
+    let within = no_more layout (g.Z.Zones.known then) plan.max_rows l.count rs rows are wrote.0 l.invariant.within in
+    record {
+      by = takes.by ∙ l.invariant.by;
+      within = omega (arith, wrote.1, within);
+      failures = wrote.2.1 ∙ l.invariant.failures;
+      grown = g.met.Z.Zones.then c.args.zones.now l.zones then l.invariant.grown grows;
+      far = far_on g.Z.Zones.known g.Z.Zones.settled g.Z.Zones.may_be g.Z.Zones.grown g.Z.Zones.broken g.met.Z.Zones.same g.met.Z.Zones.then g.met.Z.Zones.narrows g.met.Z.Zones.agrees contents
+          c.files_answer_once.ensures layout plan known left l.count held l.writer log now c.args.zones.now l.zones l.invariant.grown l.invariant.far
+          then grows rs next rows_next (λ files may. taken_known layout.delimiter c.byte.ensures.sound (g.Z.Zones.settled then) (g.Z.Zones.known then) files (g.met.Z.Zones.agrees then files may) layout.zone taken pieces c.in_ok-taken.ensures.settled) c.convert_ready.new.writer (g.L.FaultLog.noted c.convert_ready.new.log) c.in_ok-count.field-0 ok;
     }
 
 pub returns-in_err-flush-clause-halt : goal.returns-in_err-flush-clause-halt
 returns-in_err-flush-clause-halt g c =
-    let l = c.loop-spare in
+    let l = c.rounds in
     let layout = c.args.conversion.now.layout.now in
     let plan = c.args.conversion.now.plan.now in
     let contents = g.W.Write.contents in
@@ -140,19 +187,22 @@ returns-in_err-flush-clause-halt g c =
     let pieces = c.next_round.new.column.round in
     let next = unread g.R.Read.remaining c.next_round.new.column in
     let then = c.next_round.new.zones in
-    let takes = c.in_ok-next_round.ensures.takes in
-    let grows = c.in_ok-next_round.ensures.grown in
+    let takes = c.in_ok-taken.ensures.takes in
+    let taken = c.in_ok-taken.taken in
+    let rs = taken_rows layout.delimiter taken pieces in
+    let rows_next = rows_taken layout l.column.by l.invariant.by left next taken pieces takes.takes in
+    let grows = c.in_ok-taken.ensures.grown in
     let p = err_from_is_err_and c.from_residual-in_err-flush.result c.from_residual-in_err-flush.ensures.1 in
     rw (p.1, p.2, c.in_err-flush.ensures.err.0) (flush_fails g.Z.Zones.known g.Z.Zones.settled g.Z.Zones.may_be g.Z.Zones.grown g.Z.Zones.broken g.met.Z.Zones.same g.met.Z.Zones.then g.met.Z.Zones.narrows g.met.Z.Zones.agrees contents
     c.files_answer_once.ensures layout plan known left l.count held l.writer log now c.args.zones.now l.zones l.invariant.grown l.invariant.far
-    then grows pieces next takes.takes c.flush.new.writer c.in_err-flush.ensures.err.1)
+    then grows rs next rows_next c.flush.new.writer c.in_err-flush.ensures.err.1)
 
 pub returns-clause-grown : goal.returns-clause-grown
-returns-clause-grown g c = g.met.Z.Zones.then c.args.zones.now c.loop-spare.zones c.next_round.new.zones c.loop-spare.invariant.grown c.in_ok-next_round.ensures.grown
+returns-clause-grown g c = g.met.Z.Zones.then c.args.zones.now c.rounds.zones c.next_round.new.zones c.rounds.invariant.grown c.in_ok-taken.ensures.grown
 
 pub returns-clause-all : goal.returns-clause-all
 returns-clause-all g c =
-    let l = c.loop-spare in
+    let l = c.rounds in
     let layout = c.args.conversion.now.layout.now in
     let plan = c.args.conversion.now.plan.now in
     let contents = g.W.Write.contents in
@@ -164,10 +214,13 @@ returns-clause-all g c =
     let pieces = c.next_round.new.column.round in
     let next = unread g.R.Read.remaining c.next_round.new.column in
     let then = c.next_round.new.zones in
-    let takes = c.in_ok-next_round.ensures.takes in
-    let grows = c.in_ok-next_round.ensures.grown in
-    let none : 0 < length pieces → ⊥ = λ filled. (let yes = rw c.if-branch.false at (takes.some.1 filled) in cc yes) in
-    let nothing = no_piece layout.delimiter left next pieces none (round_taken layout.delimiter left next pieces takes.takes) in
+    let takes = c.in_ok-taken.ensures.takes in
+    let taken = c.in_ok-taken.taken in
+    let rs = taken_rows layout.delimiter taken pieces in
+    let rows_next = rows_taken layout l.column.by l.invariant.by left next taken pieces takes.takes in
+    let grows = c.in_ok-taken.ensures.grown in
+    let nothing = rw c.in-End.is at rows_next in
+    let end = rw l.invariant.by at (takes.end c.in-End.is) in
     rounds_done g.Z.Zones.known g.Z.Zones.settled g.Z.Zones.may_be g.Z.Zones.grown g.Z.Zones.broken g.met.Z.Zones.same g.met.Z.Zones.then g.met.Z.Zones.narrows g.met.Z.Zones.agrees contents
     c.files_answer_once.ensures layout plan known left l.count held l.writer log now c.args.zones.now l.zones l.invariant.grown l.invariant.far
-    then grows pieces next takes.takes nothing (takes.end c.if-branch.false) c.flush.new.writer c.in_ok-flush.ensures.ok
+    then grows rs next rows_next nothing end c.flush.new.writer c.in_ok-flush.ensures.ok

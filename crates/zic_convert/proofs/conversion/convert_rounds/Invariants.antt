@@ -4,8 +4,9 @@ use Rattle.zic_files.specs.File.{File}
 use Rattle.zic_convert.proofs.Rounds.{IsFarBy}
 use Rattle.zic_convert.proofs.conversion.convert_rounds.Given as goal
 
-abbrev pub invariant-loop-spare : goal.invariant-loop-spare
-invariant-loop-spare g l = record {
+abbrev pub invariant-rounds : goal.invariant-rounds
+invariant-rounds g l = record {
+  by : l.column.by ≡ l.fn.conversion.layout.now.records;
   within : l.count ≤ l.fn.conversion.plan.now.max_rows;
   failures : l.writer.failures ≡ l.fn.writer.failures;
   grown : g.Z.Zones.grown l.fn.zones l.zones;
@@ -14,5 +15,5 @@ invariant-loop-spare g l = record {
       (g.W.Write.contents l.writer.inner) (g.L.FaultLog.noted l.fn.log) (g.L.FaultLog.noted l.log) files;
 }
 
-abbrev pub decreases-loop-spare : goal.decreases-loop-spare
-decreases-loop-spare g l = l.fn.conversion.plan.now.max_rows + 1 - l.count
+abbrev pub decreases-rounds : goal.decreases-rounds
+decreases-rounds g l = l.fn.conversion.plan.now.max_rows + 1 - l.count

@@ -1,26 +1,29 @@
 use Rattle.std.proofs.Common.{◌∙◌, FitsSigned, rules, sym, to_z-of_z}
 use Rattle.std.specs.Int.{w128}
-use Rattle.zic_convert.proofs.RowFaults.{time_missing, no_fault, out_of_range, row_may, zone_missing}
+use Rattle.zic_convert.proofs.RowFaults.{closed_counted, no_fault, no_field, open_counted, out_of_range, row_may, time_missing, zone_missing}
 use Rattle.zic_convert.proofs.row.query.Goals as goal
 
 pub returns-in_default : goal.returns-in_default
 returns-in_default c =
+    let closed = closed_counted _ (λ none. c.if-given-eq0.false (c.requires.split.count ∙ none)) in
     let admits = sym (rw c.requires.split.count at c.if-not-admits.ensures) in
-    zone_missing c.args.piece.now c.args.number c.args.given.now c.if-piece-number.false admits (sym c.requires.lookup.file ∙ c.in_default.is)
+    zone_missing c.args.piece.now c.args.number c.args.given.now c.if-piece-number.false closed admits (sym c.requires.lookup.file ∙ c.in_default.is)
 
 pub returns-in-Err : goal.returns-in-Err
 returns-in-Err c =
+    let closed = closed_counted _ (λ none. c.if-given-eq0.false (c.requires.split.count ∙ none)) in
     let admits = sym (rw c.requires.split.count at c.if-not-admits.ensures) in
-    time_missing c.args.piece.now c.args.number c.args.given.now c.if-piece-number.false admits c.in-Some.file (sym c.requires.lookup.file ∙ c.in-Some.is)
+    time_missing c.args.piece.now c.args.number c.args.given.now c.if-piece-number.false closed admits c.in-Some.file (sym c.requires.lookup.file ∙ c.in-Some.is)
     c.in-Err.kind (rw c.in-Err.is at c.requires.lookup.times)
 
 pub returns-then-not-is_in_range : goal.returns-then-not-is_in_range
 returns-then-not-is_in_range c =
+    let closed = closed_counted _ (λ none. c.if-given-eq0.false (c.requires.split.count ∙ none)) in
     let admits = sym (rw c.requires.split.count at c.if-not-admits.ensures) in
     let count = c.in-Ok.counts.count in
     let row_record : FitsSigned w128 count = search rules in
     let counts = rw c.in-Ok.is at c.requires.lookup.times in
-    out_of_range c.args.piece.now c.args.number c.args.given.now c.if-piece-number.false admits c.in-Some.file (sym c.requires.lookup.file ∙ c.in-Some.is)
+    out_of_range c.args.piece.now c.args.number c.args.given.now c.if-piece-number.false closed admits c.in-Some.file (sym c.requires.lookup.file ∙ c.in-Some.is)
     count counts.time (sym (rw (to_z-of_z row_record) at c.if-not-is_in_range.ensures))
 
 pub returns : goal.returns
@@ -28,6 +31,7 @@ returns c =
     let piece = c.args.piece.now in
     let given = c.args.given.now in
     let count = c.in-Ok.counts.count in
+    let closed = closed_counted _ (λ none. c.if-given-eq0.false (c.requires.split.count ∙ none)) in
     let admits = sym (rw c.requires.split.count at c.if-not-admits.ensures) in
     let row_record : FitsSigned w128 count = search rules in
     let file_is = sym c.requires.lookup.file ∙ c.in-Some.is in
@@ -36,7 +40,10 @@ returns c =
     let may = row_may _ in_range in
     let state = rw (c.in-Some.is, c.in-Ok.is) at c.requires.lookup.state in
     record {
-      sound = no_fault piece c.args.number given c.if-piece-number.false admits c.in-Some.file file_is count counts.time in_range;
+      sound = no_fault piece c.args.number given c.if-piece-number.false closed admits c.in-Some.file file_is count counts.time in_range;
       is = record { file = file_is; counts = counts; may = may };
       state = state may;
     }
+
+pub returns-then-given-eq0 : goal.returns-then-given-eq0
+returns-then-given-eq0 c = no_field c.args.piece.now c.args.number c.args.given.now c.if-piece-number.false (open_counted _ (sym c.requires.split.count ∙ c.if-given-eq0.true))

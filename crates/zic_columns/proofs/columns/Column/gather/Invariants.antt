@@ -1,10 +1,10 @@
-use Rattle.std.proofs.Common.{[]}
-use Rattle.zic_columns.specs.Round.{StaysWithin, unread}
-use Rattle.zic_columns.specs.code.Hand.{Takes}
+use Rattle.std.proofs.Common.{◌≡◌, []}
+use Rattle.zic_columns.specs.Round.{StaysWithin, Takes, unread}
 use Rattle.zic_columns.proofs.columns.Column.gather.Given as goal
 
 abbrev pub invariant-loop : goal.invariant-loop
 invariant-loop g l = record {
-  takes : Takes (unread g.R.Read.remaining l.fn.self) (unread g.R.Read.remaining l.self) [];
+  by : l.self.by ≡ l.fn.self.by;
+  takes : Takes l.fn.self.by (unread g.R.Read.remaining l.fn.self) (unread g.R.Read.remaining l.self) [];
   limit : StaysWithin g.R.Read.remaining l.fn.self l.self;
 }

@@ -1,7 +1,6 @@
 use Rattle.std.proofs.Common.{◌≡◌, ◌≤◌, ◌∙◌, ap, length}
 use Rattle.std.proofs.lemmas.List.Elements.{All-nil}
 use Rattle.zic_columns.specs.code.Window.{taken_bytes}
-use Rattle.zic_columns.proofs.Scanned.{scanned_none}
 use Rattle.std.proofs.KnownBytes.{prepend_known-nil}
 use Rattle.zic_columns.specs.Round.{ColumnOf}
 use Rattle.zic_columns.specs.code.Hand.{to_come}
@@ -20,5 +19,9 @@ returns-clause-bytes g c =
     rw (c.pass.ensures, c.without_mark.ensures, held) (mark_dropped (g.R.Read.remaining c.args.reader)
     (to_come g.R.Read.remaining mid) mid.held keeps c.in_ok-read_mark.ensures.shows)
 
+pub returns-clause-limit : goal.returns-clause-limit
+returns-clause-limit g c = rw c.pass.ensures (rw (c.new.ensures.inner, c.new.ensures.none, c.new.ensures.left) at c.in_ok-read_mark.ensures.limit)
+
 pub invariant_of-column : goal.invariant_of-column
-invariant_of-column g c = rw (c.new-3.ensures.items, c.new-2.ensures) (All-nil (λ range. (range.start ≤ range.end) × (range.end ≤ length (taken_bytes c.new-2.result))), scanned_none)
+invariant_of-column g c =
+    rw (c.new-4.ensures.items, c.new-2.ensures) (All-nil (λ range. (range.start ≤ range.end) × (range.end ≤ length (taken_bytes c.new-2.result))), c.new-3.ensures.scanned)

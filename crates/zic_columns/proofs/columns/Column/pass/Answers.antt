@@ -8,4 +8,4 @@ invariant_of-self g c =
     let held = held_bytes c.self.inside.window in
     let size : length (taken_bytes c.take.new.self) ≡ c.args.count = ap length c.take.ensures.taken
     ∙ length-take-le c.args.count held (rw (← c.self.view_is) at c.requires.within) in
-    rw (size, c.take.ensures.held) (c.requires.ranges, rw c.held.ensures at c.scan_rest-scan.ensures)
+    rw (size, c.take.ensures.held) (c.requires.ranges, rw c.held.ensures at c.rest-scan.ensures.scanned)

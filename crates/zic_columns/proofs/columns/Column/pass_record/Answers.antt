@@ -1,33 +1,27 @@
-use Rattle.std.proofs.Common.{◌∙◌, ap, rules}
+use Rattle.std.proofs.Common.{◌∙◌, ap, refl, rules, sym}
+use Rattle.std.proofs.lemmas.Result.{IfOk-weaker}
 use Rattle.zic_columns.specs.Round.{ColumnOf, unread}
 use Rattle.zic_columns.specs.code.Hand.{to_come}
-use Rattle.zic_columns.proofs.Passing.{are_first_own, own_next, passes_first, passes_next, within}
+use Rattle.zic_columns.proofs.Passing.{is_open_own, own_next, passes_next, passes_open}
+use Rattle.zic_columns.proofs.Taking.{within_both}
 use Rattle.zic_columns.proofs.columns.Column.pass_record.Goals as goal
 
-pub pass-requires-clause-within : goal.pass-requires-clause-within
-pass-requires-clause-within g c =
+pub returns-in-Records-clause-passes : goal.returns-in-Records-clause-passes
+returns-in-Records-clause-passes g c =
+    let old = c.args.self.now in
     let mid = c.gather.new.self in
-    let held = c.held.ensures ∙ ap (λ (column : ColumnOf _). column.held) c.self.view_is in
-    let cut = rw held at c.split_records.ensures in
-    within mid.held c.in_ok-count.count c.split_records.result.0.now c.split_records.result.1.now cut
+    let new = c.pass_first.new.self in
+    IfOk-weaker c.pass_first.result _ _
+    (λ own is. passes_next old.by (unread g.R.Read.remaining old) (unread g.R.Read.remaining mid) (unread g.R.Read.remaining new) c.in_ok-count.ensures.takes (rw c.gather.ensures.by at is))
+    c.pass_first.ensures.passes
 
-pub returns-clause-passes : goal.returns-clause-passes
-returns-clause-passes g c =
+pub returns-in-Records-clause-own : goal.returns-in-Records-clause-own
+returns-in-Records-clause-own g c =
+    let old = c.args.self.now in
     let mid = c.gather.new.self in
-    let held = c.held.ensures ∙ ap (λ (column : ColumnOf _). column.held) c.self.view_is in
-    let cut = rw held at c.split_records.ensures in
-    rw c.pass.ensures (passes_next (unread g.R.Read.remaining c.args.self.now) (unread g.R.Read.remaining mid) _ c.in_ok-count.ensures.takes
-    (passes_first mid.held c.in_ok-count.count c.split_records.result.0.now c.split_records.result.1.now cut
-    (to_come g.R.Read.remaining mid) c.in_ok-count.ensures.cut))
+    IfOk-weaker c.pass_first.result _ _
+    (λ own is. own_next old.by own.items (unread g.R.Read.remaining old) (unread g.R.Read.remaining mid) c.in_ok-count.ensures.takes (rw c.gather.ensures.by at is))
+    c.pass_first.ensures.own
 
-pub returns-clause-own : goal.returns-clause-own
-returns-clause-own g c =
-    let mid = c.gather.new.self in
-    let held = c.held.ensures ∙ ap (λ (column : ColumnOf _). column.held) c.self.view_is in
-    let cut = rw held at c.split_records.ensures in
-    rw c.in_ok-own.ensures (own_next _ (unread g.R.Read.remaining c.args.self.now) (unread g.R.Read.remaining mid) c.in_ok-count.ensures.takes
-    (are_first_own mid.held c.in_ok-count.count c.split_records.result.0.now c.split_records.result.1.now cut
-    (to_come g.R.Read.remaining mid) c.in_ok-count.ensures.cut))
-
-pub returns-clause-none : goal.returns-clause-none
-returns-clause-none c = search rules
+pub returns-in-Records-clause-limit : goal.returns-in-Records-clause-limit
+returns-in-Records-clause-limit g c = within_both g.R.Read.remaining c.args.self.now c.gather.new.self c.pass_first.new.self c.gather.ensures.limit c.pass_first.ensures.limit

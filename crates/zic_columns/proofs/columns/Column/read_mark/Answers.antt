@@ -1,4 +1,4 @@
-use Rattle.std.proofs.Common.{◌≤◌, arith, inl, length}
+use Rattle.std.proofs.Common.{◌≤◌, ◌∙◌, ap, arith, inl, length, length-append, refl}
 use Rattle.std.proofs.KnownBytes.{Keeps-refl, Keeps-trans}
 use Rattle.zic_columns.specs.Round.{unread}
 use Rattle.zic_columns.proofs.MarkFacts.{mark_shown}
@@ -7,6 +7,7 @@ use Rattle.zic_columns.proofs.columns.Column.read_mark.Goals as goal
 
 pub loop-init : goal.loop-init
 loop-init g c = record {
+  by = refl;
   keeps = Keeps-refl (unread g.R.Read.remaining c.args.self.now);
   grows = omega arith;
   limit = within_none g.R.Read.remaining c.args.self.now;
@@ -17,7 +18,8 @@ loop-preserved g c =
     let bytes = unread g.R.Read.remaining in
     record {
       keeps = Keeps-trans (bytes c.args.self.now) (bytes c.loop.self) (bytes c.read_on.new.self) c.loop.invariant.keeps c.in_ok-read_on.ensures.keeps;
-      grows = omega (arith, c.loop.invariant.grows, c.in_ok-read_on.ensures.grows, c.if-branch-eq0.false);
+      by = c.read_on.ensures.by ∙ c.loop.invariant.by;
+      grows = omega (arith, c.loop.invariant.grows, c.in_ok-read_on.ensures.grows.1, ap length c.in_ok-read_on.ensures.grows.2, length-append c.loop.self.held c.in_ok-read_on.ensures.grows.0, c.if-branch-eq0.false);
       limit = within_both g.R.Read.remaining c.args.self.now c.loop.self c.read_on.new.self c.loop.invariant.limit c.read_on.ensures.limit;
     }
 

@@ -1,0 +1,37 @@
+use Rattle.std.proofs.Common.{◌∙◌, sym}
+use Rattle.zic_columns.specs.code.Hand.{mode_of, whole_of_scan}
+use Rattle.zic_columns.specs.code.Window.{held_bytes}
+use Rattle.zic_columns.proofs.Cuts.{has_none, has_record}
+use Rattle.zic_columns.proofs.ScannedBy.{cut_at_hand, opens_with, unended_by, whole_closed, whole_records, within_scan}
+use Rattle.zic_columns.proofs.Taking.{takes_blank}
+use Rattle.zic_columns.proofs.columns.Column.at_hand.Goals as goal
+
+pub returns-then-is_some-clause-hand : goal.returns-then-is_some-clause-hand
+returns-then-is_some-clause-hand g c =
+    let column = c.self.inside in
+    let some = rw (c.held.ensures, c.whole-whole.ensures) at (has_record _ c.first_record.result c.first_record.ensures (sym c.if-is_some.ensures)) in
+    rw (c.whole-whole.ensures, ← c.self.view_is) (cut_at_hand (held_bytes column.window) column.scan _ c.self.invariant.1 some)
+
+pub returns-in-Some-clause-takes : goal.returns-in-Some-clause-takes
+returns-in-Some-clause-takes g c =
+    let column = c.self.inside in
+    let held = held_bytes column.window in
+    let none = rw (c.held.ensures, c.whole-whole.ensures) at (has_none _ c.first_record.result c.first_record.ensures (sym c.if-is_some.ensures)) in
+    rw (c.pass.ensures, c.whole-whole.ensures, ← c.self.view_is) (takes_blank (mode_of column.scan) held _ (whole_of_scan column.scan) (whole_records held column.scan c.self.invariant.1) (whole_closed held column.scan c.self.invariant.1) none)
+
+pub returns-in-Some-clause-hand : goal.returns-in-Some-clause-hand
+returns-in-Some-clause-hand g c =
+    let column = c.self.inside in
+    rw (c.pass.ensures, c.whole-whole.ensures, ← c.self.view_is) (opens_with (held_bytes column.window) column.scan c.in-Some.line _ c.self.invariant.1 (sym c.opened-opened.ensures ∙ c.in-Some.is))
+
+pub returns-in-None-clause-takes : goal.returns-in-None-clause-takes
+returns-in-None-clause-takes g c =
+    let column = c.self.inside in
+    let held = held_bytes column.window in
+    let none = rw (c.held.ensures, c.whole-whole.ensures) at (has_none _ c.first_record.result c.first_record.ensures (sym c.if-is_some.ensures)) in
+    rw (c.pass.ensures, c.whole-whole.ensures, ← c.self.view_is) (takes_blank (mode_of column.scan) held _ (whole_of_scan column.scan) (whole_records held column.scan c.self.invariant.1) (whole_closed held column.scan c.self.invariant.1) none)
+
+pub returns-in-None-clause-none : goal.returns-in-None-clause-none
+returns-in-None-clause-none g c = λ _.
+    let column = c.self.inside in
+    rw (c.pass.ensures, c.whole-whole.ensures, ← c.self.view_is) (unended_by (held_bytes column.window) column.scan c.self.invariant.1 (sym c.opened-opened.ensures ∙ c.in-None.is))

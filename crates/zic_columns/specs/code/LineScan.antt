@@ -1,0 +1,39 @@
+-- Whole lines among bytes, where each line is a record.
+use Rattle.std.specs.Prelude.{◌≡◌, ◌<◌, ◌≤◌, ℕ, false, List, ◌∷◌, ◌++◌, length, take, drop, MatchOption, All}
+use Rattle.zic_columns.specs.Column.{AreWholeRecords, ends_line, lines_of}
+use Rattle.zic_columns.specs.Lines.{is_open, line_records, open_record}
+use Rattle.zic_columns.specs.declared.line_scan.FirstLine.{FirstLine}
+use Rattle.zic_columns.specs.declared.line_scan.FirstLine.TheVariants as first
+use Rattle.zic_columns.specs.declared.line_scan.LineScan.{LineScan}
+use Rattle.zic_columns.specs.declared.line_scan.OpenLine.{OpenLine}
+
+-- no line ends in these bytes
+abbrev pub HasNoLineEnd : List ℕ → Type 0
+HasNoLineEnd bytes = All (λ byte. ends_line byte ≡ false) bytes
+
+-- no line is open
+abbrev pub AllClosed : List ℕ → Type 0
+AllClosed bytes = All (λ line. is_open 44 line ≡ false) (lines_of bytes)
+
+-- whole records, each of which is one line
+pub record AreClosedLines (bytes : List ℕ) : Type 0 where
+  pub records : AreWholeRecords bytes
+  pub closed : AllClosed bytes
+
+-- the first line is open, whatever follows
+pub record IsOpenLine (bytes : List ℕ) (line : OpenLine) : Type 0 where
+  pub few : line.own ≤ line.len
+  pub within : line.len ≤ length bytes
+  pub opens : (more : List ℕ) → line_records (bytes ++ more) ≡ open_record (take line.own bytes) ∷ line_records (drop line.len bytes ++ more)
+
+-- the first line of some bytes, with its line end
+abbrev pub IsFirstLine : List ℕ → FirstLine → Type 0
+IsFirstLine bytes (first.Closed len) = (0 < len) × (len ≤ length bytes) × AreClosedLines (take len bytes)
+IsFirstLine bytes (first.Open line) = IsOpenLine bytes line
+IsFirstLine bytes first.Unended = HasNoLineEnd bytes
+
+-- the first `whole` bytes are whole records, each of which is one line, and the others begin with an open line, or have no line end
+pub record IsLineScan (bytes : List ℕ) (scan : LineScan) : Type 0 where
+  pub within : scan.whole ≤ length bytes
+  pub closed : AreClosedLines (take scan.whole bytes)
+  pub then : MatchOption scan.opened (HasNoLineEnd (drop scan.whole bytes)) (IsOpenLine (drop scan.whole bytes))
