@@ -9,5 +9,7 @@ mod plan;
 
 pub use delimiter::Delimiter;
 pub use disambiguation::Disambiguation;
-pub use layout::{AtFault, FieldCount, Header, Layout, Records, RowStart, TimeFrom, Unit, ZoneFrom};
+pub use layout::{
+    AtFault, FieldCount, Header, Layout, Records, RowStart, TimeFrom, Unit, ZoneFrom,
+};
 pub use plan::{MAX_BYTES, MAX_OF_PIECE, MAX_ROWS, MAX_WORKERS, Plan};

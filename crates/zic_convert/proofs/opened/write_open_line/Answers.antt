@@ -36,6 +36,9 @@ returns-clause-stop g c =
     on_err c.write_rows.result _ _
     (λ why ends files.
     let are = rw c.max_rows-most.ensures.rows at (c.in-Ok.ensures files) in
-    inr (joined (c.in-Ok.row ∷ []), alone layout files most c.args.number given c.in-Ok.row are,
-    alone_ends contents c.args.writer.now c.write_rows.new.writer log log' layout files most c.args.number given c.in-Ok.row are why ends))
+    inr (
+      joined (c.in-Ok.row ∷ []),
+      alone layout files most c.args.number given c.in-Ok.row are,
+      alone_ends contents c.args.writer.now c.write_rows.new.writer log log' layout files most c.args.number given c.in-Ok.row are why ends,
+    ))
     c.write_rows.ensures.err
