@@ -51,6 +51,12 @@ pub enum Request {
         /// Whether the files are on the disk when the command ends.
         sync: bool,
     },
+    /// Compile sources and look whether a folder has their files.
+    Verify {
+        folder: String,
+        sources: Vec<String>,
+        plan: Plan,
+    },
     /// Convert a column by the files of a source, which is compiled, or of a folder.
     Convert(Conversion),
     /// Tell what a file says of an instant.
@@ -147,6 +153,7 @@ fn command(alloc: Global, matches: &ArgMatches<'_>) -> Result<Request, NoRequest
     match matches.subcommand() {
         Some(("check", m)) => check(alloc, m),
         Some(("build", m)) => build(alloc, m),
+        Some(("verify", m)) => verify(alloc, m),
         Some(("convert", m)) => convert(alloc, m),
         Some(("show", m)) => show(alloc, m),
         Some(("dump", m)) => dump(alloc, m),
@@ -195,6 +202,28 @@ fn check(alloc: Global, matches: &ArgMatches<'_>) -> Result<Request, NoRequest> 
 
 fn build(alloc: Global, matches: &ArgMatches<'_>) -> Result<Request, NoRequest> {
     let folder = word(alloc, matches, "DIR")?;
+    let sources = sources(alloc, matches)?;
+    let plan = plan(alloc, matches)?;
+    let links = links_of(alloc, matches)?;
+    Ok(Request::Build {
+        folder,
+        sources,
+        plan,
+        links,
+        sync: matches.get_flag("sync"),
+    })
+}
+
+fn verify(alloc: Global, matches: &ArgMatches<'_>) -> Result<Request, NoRequest> {
+    Ok(Request::Verify {
+        folder: word(alloc, matches, "DIR")?,
+        sources: sources(alloc, matches)?,
+        plan: plan(alloc, matches)?,
+    })
+}
+
+/// Returns the words for sources, of which one may be standard input.
+fn sources(alloc: Global, matches: &ArgMatches<'_>) -> Result<Vec<String>, NoRequest> {
     let Some(words) = matches.get_strs("SOURCE") else {
         return Err(usage(alloc, "no SOURCE"));
     };
@@ -206,15 +235,7 @@ fn build(alloc: Global, matches: &ArgMatches<'_>) -> Result<Request, NoRequest> 
     for word in words {
         sources.push(String::from_str(alloc, word)?)?;
     }
-    let plan = plan(alloc, matches)?;
-    let links = links_of(alloc, matches)?;
-    Ok(Request::Build {
-        folder,
-        sources,
-        plan,
-        links,
-        sync: matches.get_flag("sync"),
-    })
+    Ok(sources)
 }
 
 /// Returns what the names of Link lines are made as.

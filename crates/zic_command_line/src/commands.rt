@@ -144,6 +144,22 @@ static BUILD: [Word; 7] = [
     EXPLAIN,
 ];
 
+static VERIFY: [Word; 5] = [
+    Word {
+        name: "DIR",
+        help: "The folder that is to have the files",
+        form: Form::Required,
+    },
+    Word {
+        name: "SOURCE",
+        help: "Files of Rule, Zone and Link lines; one may be -",
+        form: Form::Several,
+    },
+    WORKERS,
+    ZONE_PIECE,
+    EXPLAIN,
+];
+
 static CONVERT: [Word; 20] = [
     Word {
         name: "SOURCE",
@@ -296,7 +312,7 @@ static NAMES: [Word; 1] = [Word {
     form: Form::Optional,
 }];
 
-static COMMANDS: [Described; 6] = [
+static COMMANDS: [Described; 7] = [
     Described {
         name: "check",
         about: "Compiles a source and lists its files: NAME BYTES FOOTER",
@@ -306,6 +322,11 @@ static COMMANDS: [Described; 6] = [
         name: "build",
         about: "Compiles sources together and writes their files, as zic -d DIR does",
         after: "Example:\n  pzic build ~/zoneinfo /usr/share/zoneinfo/tzdata.zi acme.zi",
+    },
+    Described {
+        name: "verify",
+        about: "Compiles sources and lists the files that DIR lacks or has otherwise",
+        after: "Each line is missing NAME or differs NAME; with none the status is 0.\n\nExample:\n  pzic verify ~/zoneinfo /usr/share/zoneinfo/tzdata.zi acme.zi",
     },
     Described {
         name: "convert",
@@ -367,6 +388,7 @@ fn words<'a>(command: &str) -> &'a [Word] {
     match command {
         "check" => &CHECK,
         "build" => &BUILD,
+        "verify" => &VERIFY,
         "convert" => &CONVERT,
         "show" => &SHOW,
         "dump" => &DUMP,

@@ -13,5 +13,5 @@ pub use zic_io::{
     Disk, Durability, Failure, LinkKind, LinkedFolder, MAX_SOURCE, Progress, ProgressLine, Tree,
     Unplaced, read_file, read_file_bytes, read_source_text, read_sources,
 };
-pub use zic_source_commands::{build, build_linked, check};
+pub use zic_source_commands::{build, build_linked, check, verify};
 pub use zic_zones::TreeZones;

@@ -223,7 +223,7 @@ fn named_in(request: &Request) -> &[String] {
             Zones::Source(source) => slice::from_ref(source),
             Zones::Tree(_) => &[],
         },
-        Request::Build { sources, .. } => sources,
+        Request::Build { sources, .. } | Request::Verify { sources, .. } => sources,
         Request::Show { file, .. } | Request::ShowLocal { file, .. } | Request::Dump { file, .. } =>
             slice::from_ref(file),
         Request::Explain { .. } | Request::Version { .. } => &[],
@@ -243,6 +243,7 @@ fn name_of(failure: &Failure) -> &'static str {
         Failure::CannotWriteRows => "cannot write rows",
         Failure::CannotWriteOutput => "cannot write output",
         Failure::UnknownZone(_) => "unknown zone NAME",
+        Failure::Unlike => "tree differs",
         Failure::Memory => "out of memory",
         Failure::NoThread => "no thread",
     }

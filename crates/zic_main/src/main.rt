@@ -100,6 +100,14 @@ fn answer<
             build(rt, &plan, texts, &mut disk, folder.as_str(), links)?;
             disk.sync()
         }
+        Request::Verify {
+            folder,
+            sources,
+            plan,
+        } => {
+            read(rt, &sources, texts)?;
+            verify(rt, &plan, texts, &folder)
+        }
         Request::Convert(order) => convert(rt, &order, errors, texts),
         Request::Show { file, instant } => show(rt, file.as_str(), instant),
         Request::ShowLocal { file, local } => show_local(rt, file.as_str(), &local),
@@ -173,6 +181,19 @@ fn build<R: Files + AllocGlobal + Threads + Wait + Sync>(
     };
     let folder = LinkedFolder { path: folder, kind };
     zic_commands::build_linked(rt, alloc, plan, texts, disk, &folder)
+}
+
+/// Tells which files of the texts a folder doesn't have as they are.
+fn verify<R: Files + Print + AllocGlobal + Threads + Wait + Sync>(
+    rt: &R,
+    plan: &Plan,
+    texts: &[Vec<u8>],
+    path: &String,
+) -> Result<(), Failure> {
+    expect_folder(rt, path)?;
+    let mut folder = ZoneFolder::new(rt, path.as_str());
+    let mut output = Counted::new(io::writer(rt));
+    zic_commands::verify(rt, rt.alloc(), plan, texts, &mut folder, &mut output)
 }
 
 /// Returns a random number, which no other run has and nobody knows before, or 0 where the system gives

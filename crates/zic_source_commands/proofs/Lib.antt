@@ -4,3 +4,4 @@ pub mod NameLemmas
 pub mod TreeLemmas
 pub mod OnePlacing
 pub mod WayLemmas
+pub mod VerifyLemmas

@@ -2,4 +2,5 @@ pub mod Text
 pub mod Tree
 pub mod Linking
 pub mod Failing
+pub mod Verifying
 pub mod Laws
