@@ -10,6 +10,7 @@ use std::alloc::{AllocError, Global};
 use std::rt::Env;
 use std::{env, io};
 use zic_base::STANDARD_INPUT;
+use zic_diff::Compared;
 use zic_dump::Years;
 use zic_explain::{Unexplained, entries, explanation, index, shown_word};
 use zic_local::LocalTime;
@@ -56,6 +57,14 @@ pub enum Request {
         folder: String,
         sources: Vec<String>,
         plan: Plan,
+    },
+    /// Compile two sources, and list when their files answer differently.
+    Diff {
+        /// The old source and the new one.
+        sources: Vec<String>,
+        plan: Plan,
+        years: Years,
+        compared: Compared,
     },
     /// Convert a column by the files of a source, which is compiled, or of a folder.
     Convert(Conversion),
@@ -154,6 +163,7 @@ fn command(alloc: Global, matches: &ArgMatches<'_>) -> Result<Request, NoRequest
         Some(("check", m)) => check(alloc, m),
         Some(("build", m)) => build(alloc, m),
         Some(("verify", m)) => verify(alloc, m),
+        Some(("diff", m)) => diff(alloc, m),
         Some(("convert", m)) => convert(alloc, m),
         Some(("show", m)) => show(alloc, m),
         Some(("dump", m)) => dump(alloc, m),
@@ -219,6 +229,37 @@ fn verify(alloc: Global, matches: &ArgMatches<'_>) -> Result<Request, NoRequest>
         folder: word(alloc, matches, "DIR")?,
         sources: sources(alloc, matches)?,
         plan: plan(alloc, matches)?,
+    })
+}
+
+fn diff(alloc: Global, matches: &ArgMatches<'_>) -> Result<Request, NoRequest> {
+    let (old, new) = (word(alloc, matches, "OLD")?, word(alloc, matches, "NEW")?);
+    if old == STANDARD_INPUT && new == STANDARD_INPUT {
+        return Err(usage(alloc, "-, standard input, can be only one of OLD and NEW"));
+    }
+    let mut sources = Vec::new(alloc);
+    sources.push(old)?;
+    sources.push(new)?;
+    Ok(Request::Diff {
+        sources,
+        plan: plan(alloc, matches)?,
+        years: years(alloc, matches)?,
+        compared: compared(alloc, matches)?,
+    })
+}
+
+/// Returns what is compared of answers.
+fn compared(alloc: Global, matches: &ArgMatches<'_>) -> Result<Compared, NoRequest> {
+    let (daylight, abbreviation) = match matches.get_str("ignore") {
+        None => (true, true),
+        Some("daylight") => (false, true),
+        Some("abbreviation") => (true, false),
+        Some("daylight,abbreviation" | "abbreviation,daylight") => (false, false),
+        Some(_) => return Err(usage(alloc, "--ignore is daylight, abbreviation, or both")),
+    };
+    Ok(Compared {
+        daylight,
+        abbreviation,
     })
 }
 
@@ -295,11 +336,18 @@ fn show(alloc: Global, matches: &ArgMatches<'_>) -> Result<Request, NoRequest> {
 }
 
 fn dump(alloc: Global, matches: &ArgMatches<'_>) -> Result<Request, NoRequest> {
-    let file = word(alloc, matches, "FILE")?;
+    Ok(Request::Dump {
+        file: word(alloc, matches, "FILE")?,
+        years: years(alloc, matches)?,
+    })
+}
+
+/// Returns the years of two options.
+fn years(alloc: Global, matches: &ArgMatches<'_>) -> Result<Years, NoRequest> {
     let from = number(alloc, matches, "from")?;
     let to = number(alloc, matches, "to")?;
     match Years::new(from, to) {
-        Some(years) => Ok(Request::Dump { file, years }),
+        Some(years) => Ok(years),
         None => Err(usage(alloc, "the year of --from is after that of --to")),
     }
 }

@@ -1006,8 +1006,8 @@ Right:
   $ echo 'Etc/UTC,0' | pzic convert utc.zi >rows
 ?  A full disk, or a program at the other end of the pipe, such as `head`, that
   has exited.
-@cannot write output?The output of `check`, `verify`, `show`, `dump`, `explain` or `--version` can't be written.?  The output of `check`, `verify`, `show`, `dump`, `explain` or `--version`
-  can't be written. Status 3.
+@cannot write output?The output of `check`, `verify`, `diff`, `show`, `dump`, `explain` or `--version` can't be written.?  The output of `check`, `verify`, `diff`, `show`, `dump`, `explain` or
+  `--version` can't be written. Status 3.
 ?  Standard output that accepts all of the output.
 ?
 The examples use:

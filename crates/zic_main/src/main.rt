@@ -3,6 +3,8 @@
 //! are read.
 #![tactic(auto)]
 
+ghost use Rattle.std.specs.Prelude.{◌≤ℤ◌};
+
 mod failure;
 mod own_file;
 mod standard;
@@ -22,7 +24,8 @@ use std::time::Clock;
 use zic_base::FaultLog;
 use zic_command_line::{Conversion, Links, Request, Zones};
 use zic_commands::{
-    Disk, Durability, Failure, LinkKind, LinkedFolder, Progress, ProgressLine, TreeZones,
+    Comparison, Disk, Durability, Failure, LinkKind, LinkedFolder, Progress, ProgressLine,
+    Releases, TreeZones,
 };
 use zic_counted::{Counted, flush, write_all};
 use zic_dump::Years;
@@ -107,6 +110,16 @@ fn answer<
         } => {
             read(rt, &sources, texts)?;
             verify(rt, &plan, texts, &folder)
+        }
+        Request::Diff {
+            sources,
+            plan,
+            years,
+            compared,
+        } => {
+            read(rt, &sources, texts)?;
+            let bounds = years.instants();
+            diff(rt, &plan, texts, &Comparison { compared, bounds })
         }
         Request::Convert(order) => convert(rt, &order, errors, texts),
         Request::Show { file, instant } => show(rt, file.as_str(), instant),
@@ -194,6 +207,27 @@ fn verify<R: Files + Print + AllocGlobal + Threads + Wait + Sync>(
     let mut folder = ZoneFolder::new(rt, path.as_str());
     let mut output = Counted::new(io::writer(rt));
     zic_commands::verify(rt, rt.alloc(), plan, texts, &mut folder, &mut output)
+}
+
+/// Lists when the files of the second text answer otherwise than those of the first.
+fn diff<R: Print + AllocGlobal + Threads + Wait + Sync>(
+    rt: &R,
+    plan: &Plan,
+    texts: &[Vec<u8>],
+    how: &Comparison,
+) -> Result<(), Failure>
+    requires { how.now.bounds.first ≤ℤ how.now.bounds.last }
+{
+    let (old, new) = texts.split_at(texts.len().min(1));
+    let mut output = Counted::new(io::writer(rt));
+    zic_commands::diff(
+        rt,
+        rt.alloc(),
+        plan,
+        &Releases { old, new },
+        how,
+        &mut output,
+    )
 }
 
 /// Returns a random number, which no other run has and nobody knows before, or 0 where the system gives

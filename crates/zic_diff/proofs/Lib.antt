@@ -1,0 +1,3 @@
+pub mod RunLemmas
+pub mod SameLemmas
+pub mod FilesLemmas

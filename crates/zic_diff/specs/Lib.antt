@@ -1,0 +1,6 @@
+pub mod Answers
+pub mod Differences
+pub mod Files
+pub mod Laws
+pub mod Text
+pub mod code
