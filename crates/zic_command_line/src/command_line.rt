@@ -10,7 +10,7 @@ use std::alloc::{AllocError, Global};
 use std::rt::Env;
 use std::{env, io};
 use zic_base::STANDARD_INPUT;
-use zic_diff::Compared;
+use zic_compare::Compared;
 use zic_dump::Years;
 use zic_explain::{Unexplained, entries, explanation, index, shown_word};
 use zic_local::LocalTime;

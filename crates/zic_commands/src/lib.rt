@@ -8,11 +8,10 @@ mod convert_command;
 
 pub use convert_command::convert_source;
 pub use zic_convert::Conversion;
-pub use zic_diff::{Compared, Comparison};
 pub use zic_file_commands::{convert, dump, show, show_local};
 pub use zic_io::{
     Disk, Durability, Failure, LinkKind, LinkedFolder, MAX_SOURCE, Progress, ProgressLine, Tree,
     Unplaced, read_file, read_file_bytes, read_source_text, read_sources,
 };
-pub use zic_source_commands::{Releases, build, build_linked, check, diff, verify};
+pub use zic_source_commands::{build, build_linked, check};
 pub use zic_zones::TreeZones;

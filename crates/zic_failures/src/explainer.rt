@@ -245,7 +245,6 @@ fn name_of(failure: &Failure) -> &'static str {
         Failure::CannotWriteRows => "cannot write rows",
         Failure::CannotWriteOutput => "cannot write output",
         Failure::UnknownZone(_) => "unknown zone NAME",
-        Failure::Unlike => "tree differs",
         Failure::Memory => "out of memory",
         Failure::NoThread => "no thread",
     }

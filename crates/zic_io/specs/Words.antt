@@ -25,11 +25,10 @@ failure_text (failures.CannotWrite path) = codes "cannot write " ++ string_bytes
 failure_text failures.CannotWriteRows = codes "cannot write rows"
 failure_text failures.CannotWriteOutput = codes "cannot write output"
 failure_text (failures.UnknownZone name) = codes "unknown zone " ++ string_bytes name
-failure_text failures.Unlike = codes "tree differs"
 failure_text failures.Memory = codes "out of memory"
 failure_text failures.NoThread = codes "no thread"
 
--- The status with which the program ends: 1 where what is read is at fault or differs, 2 where the words are,
+-- The status with which the program ends: 1 where what is read is at fault, 2 where the words are,
 -- by a zone that isn't there, 3 where something can't be read or written, 4 where memory runs out or
 -- no thread starts.
 abbrev pub status_of : Failure → ℕ
@@ -45,6 +44,5 @@ status_of (failures.CannotWrite path) = 3
 status_of failures.CannotWriteRows = 3
 status_of failures.CannotWriteOutput = 3
 status_of (failures.UnknownZone name) = 2
-status_of failures.Unlike = 1
 status_of failures.Memory = 4
 status_of failures.NoThread = 4

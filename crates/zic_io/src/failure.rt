@@ -40,8 +40,6 @@ pub enum Failure {
     CannotWriteOutput,
     /// All rows are to be in a zone that no file has the name of: `unknown zone NAME`.
     UnknownZone(String),
-    /// A tree doesn't have each file that a source gives, as it is: `tree differs`.
-    Unlike,
     /// Memory ran out: `out of memory`.
     Memory,
     /// No thread could be started: `no thread`. Never answered.
@@ -58,7 +56,7 @@ impl Failure {
         match self {
             Failure::Line { .. } | Failure::TextLine { .. } => 1,
             Failure::Row { .. } | Failure::Rows { .. } => 1,
-            Failure::ColumnTooLong | Failure::File(_) | Failure::Unlike => 1,
+            Failure::ColumnTooLong | Failure::File(_) => 1,
             Failure::UnknownZone(_) => 2,
             Failure::CannotRead(_) | Failure::CannotReadColumn => 3,
             Failure::CannotWrite(_) | Failure::CannotWriteRows | Failure::CannotWriteOutput => 3,
@@ -80,7 +78,6 @@ impl Failure {
             Failure::CannotWrite(_) => "cannot write ",
             Failure::CannotWriteRows | Failure::CannotWriteOutput => "cannot write ",
             Failure::UnknownZone(_) => "unknown zone ",
-            Failure::Unlike => "tree ",
             Failure::Memory => "out of ",
             Failure::NoThread => "no ",
         }
@@ -100,7 +97,6 @@ impl Failure {
             Failure::CannotReadColumn => "column",
             Failure::CannotWriteRows => "rows",
             Failure::CannotWriteOutput => "output",
-            Failure::Unlike => "differs",
             Failure::Memory => "memory",
             Failure::NoThread => "thread",
         }

@@ -4,4 +4,3 @@ pub mod NameLemmas
 pub mod TreeLemmas
 pub mod OnePlacing
 pub mod WayLemmas
-pub mod VerifyLemmas

@@ -20,7 +20,6 @@ first_words (failures.CannotWrite path) = codes "cannot write "
 first_words failures.CannotWriteRows = codes "cannot write "
 first_words failures.CannotWriteOutput = codes "cannot write "
 first_words (failures.UnknownZone name) = codes "unknown zone "
-first_words failures.Unlike = codes "tree "
 first_words failures.Memory = codes "out of "
 first_words failures.NoThread = codes "no "
 
@@ -38,6 +37,5 @@ name_in (failures.CannotWrite path) = string_bytes path
 name_in failures.CannotWriteRows = codes "rows"
 name_in failures.CannotWriteOutput = codes "output"
 name_in (failures.UnknownZone name) = string_bytes name
-name_in failures.Unlike = codes "differs"
 name_in failures.Memory = codes "memory"
 name_in failures.NoThread = codes "thread"

@@ -1,6 +1,0 @@
-pub mod Answers
-pub mod Differences
-pub mod Files
-pub mod Laws
-pub mod Text
-pub mod code

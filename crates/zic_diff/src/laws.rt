@@ -1,8 +1,0 @@
-//! Laws of differences, each the contract of a function. No function here does anything.
-
-ghost use Rattle.zic_diff.specs.Laws.{NoFileDiffersFromItself};
-
-/// States that a file doesn't differ from itself.
-pub fn no_file_differs_from_itself()
-    ensures { NoFileDiffersFromItself }
-{}
