@@ -1049,16 +1049,15 @@ The examples use:
   $ echo 'Zone Etc/UTC 0 - UTC' >utc.zi
 
 Wrong:
-  $ mkdir -p folder; pzic verify folder utc.zi
+  $ mkdir -p empty; pzic verify empty utc.zi >list
 
 It prints:
-  missing Etc/UTC
   tree differs
 
 Right:
   $ pzic build folder utc.zi; pzic verify folder utc.zi
 ?  A tree of another release or of another compiler, or a build that was cut
-  off.
+  off. The lines of standard output have the names.
 @out of memory?The system refused memory.?  The system refused memory. Status 4.
 ?  A few MB for a release of the tz database, some 60 MB for a column with 4
   threads, and up to three times the longest record of it.
