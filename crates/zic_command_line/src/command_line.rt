@@ -234,7 +234,7 @@ fn verify(alloc: Global, matches: &ArgMatches<'_>) -> Result<Request, NoRequest>
 
 fn diff(alloc: Global, matches: &ArgMatches<'_>) -> Result<Request, NoRequest> {
     let (old, new) = (word(alloc, matches, "OLD")?, word(alloc, matches, "NEW")?);
-    if old == STANDARD_INPUT && new == STANDARD_INPUT {
+    if old.as_str() == STANDARD_INPUT && new.as_str() == STANDARD_INPUT {
         return Err(usage(alloc, "-, standard input, can be only one of OLD and NEW"));
     }
     let mut sources = Vec::new(alloc);
