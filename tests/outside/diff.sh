@@ -14,7 +14,7 @@ cp "$release" "$work/old"
 cd "$work"
 # Days of rules, an abbreviation of Irish time, local mean times by a second, a name less and a name more.
 sed -e 's/Su>=8/Su>=2/; s/^Z America\/Bogota /Z America\/Medellin /; s/ IST\/GMT/ IRS\/GMT/' \
-    -e 's/^\(Z [A-M][^ ]* [^ ]*:[0-9]*:[0-9]\)[0-9] /\17 /' -e '/ America\/Bogota /d' "$release" >new
+    -e 's/^\(Z E[^ ]* [^ ]*:[0-9]*:[0-9]\)[0-9] /\17 /' -e '/ America\/Bogota /d' "$release" >new
 for source in old new; do
     "$program" build "$source.tree" "$source"
     "$program" diff "$source" "$source" >none
@@ -30,9 +30,9 @@ compare() {
     python3 "$witness" "$1.tree" "$2.tree" "$3" "$4" listing "${words[@]}"
 }
 
-echo "diff: $(compare old new 1850 2060)"
-echo "diff, the other way: $(compare new old 1850 2060)"
-echo "diff, offsets alone: $(compare old new 1900 2040 daylight,abbreviation)"
+echo "diff: $(compare old new 1850 2045)"
+echo "diff, the other way: $(compare new old 1990 2030)"
+echo "diff, offsets alone: $(compare old new 2000 2015 daylight,abbreviation)"
 for workers in 1 2 64; do
     "$program" diff --workers "$workers" old new | cmp - <("$program" diff old new)
 done

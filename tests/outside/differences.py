@@ -65,8 +65,8 @@ class File:
         return found
 
 
-def spans(name, old, new, first, last):
-    """Yields the lines of a name of both trees."""
+def spans(old, new, first, last):
+    """Yields the lines of two files, without their name."""
     edges = sorted({first, *old.changes(first, last), *new.changes(first, last)})
     run = None
     for at in [*edges, None]:
@@ -74,7 +74,7 @@ def spans(name, old, new, first, last):
         if run and pair != run[1]:
             begin, (one, other) = run
             if one != other:
-                yield ','.join([name, '' if begin == first else str(begin), '' if at is None else str(at), *one, *other])
+                yield ','.join(['' if begin == first else str(begin), '' if at is None else str(at), *one, *other])
             run = None
         if at is not None and run is None:
             run = at, pair
@@ -88,13 +88,15 @@ def main(old_tree, new_tree, first_year, last_year, listing, *ignored):
     old_tree, new_tree = Path(old_tree), Path(new_tree)
     first, last = year_start(int(first_year)), year_start(int(last_year))
     olds, news = names(old_tree), names(new_tree)
-    wanted = []
+    wanted, known = [], {}
     for name in sorted(olds | news):
         old = File(old_tree / name, ignored) if name in olds else None
         new = File(new_tree / name, ignored) if name in news else None
         if old and new:
-            if (old_tree / name).read_bytes() != (new_tree / name).read_bytes():
-                wanted += spans(name, old, new, first, last)
+            pair = (old_tree / name).read_bytes(), (new_tree / name).read_bytes()
+            if pair not in known:
+                known[pair] = [] if pair[0] == pair[1] else list(spans(old, new, first, last))
+            wanted += [f'{name},{line}' for line in known[pair]]
         else:
             none = ['', '', '']
             wanted.append(','.join([name, '', '', *(old.at(first) if old else none), *(new.at(first) if new else none)]))
