@@ -6,12 +6,13 @@ _pzic() {
     COMPREPLY=()
     if [ "$COMP_CWORD" -eq 1 ]; then
         # shellcheck disable=SC2207
-        COMPREPLY=($(compgen -W "$([[ $current = -* ]] && echo --help --version || echo check build convert show dump explain)" -- "$current"))
+        COMPREPLY=($(compgen -W "$([[ $current = -* ]] && echo --help --version || echo check build verify diff convert show dump explain)" -- "$current"))
         return
     fi
     case ${COMP_WORDS[1]} in
-    check) options='--workers --zone-piece --explain --help' ;;
+    check | verify) options='--workers --zone-piece --explain --help' ;;
     build) options='--links --sync --workers --zone-piece --explain --help' ;;
+    diff) options='--from --to --ignore --workers --zone-piece --explain --help' ;;
     convert) options='--workers --zone-piece --row-piece --max-rows --max-bytes --tree --header --skip-header --zone --zone-field --time-field --delimiter --unit --from --records --append --keep-going --faults --progress --explain --help' ;;
     show) options='--local --explain --help' ;;
     dump) options='--from --to --explain --help' ;;
@@ -33,6 +34,11 @@ _pzic() {
     --links)
         # shellcheck disable=SC2207
         COMPREPLY=($(compgen -W 'copy hard symlink' -- "$current"))
+        return
+        ;;
+    --ignore)
+        # shellcheck disable=SC2207
+        COMPREPLY=($(compgen -W 'daylight abbreviation daylight,abbreviation' -- "$current"))
         return
         ;;
     --unit)

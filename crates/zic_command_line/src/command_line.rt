@@ -10,6 +10,7 @@ use std::alloc::{AllocError, Global};
 use std::rt::Env;
 use std::{env, io};
 use zic_base::STANDARD_INPUT;
+use zic_compare::Compared;
 use zic_dump::Years;
 use zic_explain::{Unexplained, entries, explanation, index, shown_word};
 use zic_local::LocalTime;
@@ -50,6 +51,20 @@ pub enum Request {
         links: Links,
         /// Whether the files are on the disk when the command ends.
         sync: bool,
+    },
+    /// Compile sources and look whether a folder has their files.
+    Verify {
+        folder: String,
+        sources: Vec<String>,
+        plan: Plan,
+    },
+    /// Compile two sources, and list when their files answer differently.
+    Diff {
+        /// The old source and the new one.
+        sources: Vec<String>,
+        plan: Plan,
+        years: Years,
+        compared: Compared,
     },
     /// Convert a column by the files of a source, which is compiled, or of a folder.
     Convert(Conversion),
@@ -147,6 +162,8 @@ fn command(alloc: Global, matches: &ArgMatches<'_>) -> Result<Request, NoRequest
     match matches.subcommand() {
         Some(("check", m)) => check(alloc, m),
         Some(("build", m)) => build(alloc, m),
+        Some(("verify", m)) => verify(alloc, m),
+        Some(("diff", m)) => diff(alloc, m),
         Some(("convert", m)) => convert(alloc, m),
         Some(("show", m)) => show(alloc, m),
         Some(("dump", m)) => dump(alloc, m),
@@ -195,6 +212,59 @@ fn check(alloc: Global, matches: &ArgMatches<'_>) -> Result<Request, NoRequest> 
 
 fn build(alloc: Global, matches: &ArgMatches<'_>) -> Result<Request, NoRequest> {
     let folder = word(alloc, matches, "DIR")?;
+    let sources = sources(alloc, matches)?;
+    let plan = plan(alloc, matches)?;
+    let links = links_of(alloc, matches)?;
+    Ok(Request::Build {
+        folder,
+        sources,
+        plan,
+        links,
+        sync: matches.get_flag("sync"),
+    })
+}
+
+fn verify(alloc: Global, matches: &ArgMatches<'_>) -> Result<Request, NoRequest> {
+    Ok(Request::Verify {
+        folder: word(alloc, matches, "DIR")?,
+        sources: sources(alloc, matches)?,
+        plan: plan(alloc, matches)?,
+    })
+}
+
+fn diff(alloc: Global, matches: &ArgMatches<'_>) -> Result<Request, NoRequest> {
+    let (old, new) = (word(alloc, matches, "OLD")?, word(alloc, matches, "NEW")?);
+    if old.as_str() == STANDARD_INPUT && new.as_str() == STANDARD_INPUT {
+        return Err(usage(alloc, "-, standard input, can be only one of OLD and NEW"));
+    }
+    let mut sources = Vec::new(alloc);
+    sources.push(old)?;
+    sources.push(new)?;
+    Ok(Request::Diff {
+        sources,
+        plan: plan(alloc, matches)?,
+        years: years(alloc, matches)?,
+        compared: compared(alloc, matches)?,
+    })
+}
+
+/// Returns what is compared of answers.
+fn compared(alloc: Global, matches: &ArgMatches<'_>) -> Result<Compared, NoRequest> {
+    let (daylight, abbreviation) = match matches.get_str("ignore") {
+        None => (true, true),
+        Some("daylight") => (false, true),
+        Some("abbreviation") => (true, false),
+        Some("daylight,abbreviation" | "abbreviation,daylight") => (false, false),
+        Some(_) => return Err(usage(alloc, "--ignore is daylight, abbreviation, or both")),
+    };
+    Ok(Compared {
+        daylight,
+        abbreviation,
+    })
+}
+
+/// Returns the words for sources, of which one may be standard input.
+fn sources(alloc: Global, matches: &ArgMatches<'_>) -> Result<Vec<String>, NoRequest> {
     let Some(words) = matches.get_strs("SOURCE") else {
         return Err(usage(alloc, "no SOURCE"));
     };
@@ -206,15 +276,7 @@ fn build(alloc: Global, matches: &ArgMatches<'_>) -> Result<Request, NoRequest> 
     for word in words {
         sources.push(String::from_str(alloc, word)?)?;
     }
-    let plan = plan(alloc, matches)?;
-    let links = links_of(alloc, matches)?;
-    Ok(Request::Build {
-        folder,
-        sources,
-        plan,
-        links,
-        sync: matches.get_flag("sync"),
-    })
+    Ok(sources)
 }
 
 /// Returns what the names of Link lines are made as.
@@ -274,11 +336,18 @@ fn show(alloc: Global, matches: &ArgMatches<'_>) -> Result<Request, NoRequest> {
 }
 
 fn dump(alloc: Global, matches: &ArgMatches<'_>) -> Result<Request, NoRequest> {
-    let file = word(alloc, matches, "FILE")?;
+    Ok(Request::Dump {
+        file: word(alloc, matches, "FILE")?,
+        years: years(alloc, matches)?,
+    })
+}
+
+/// Returns the years of two options.
+fn years(alloc: Global, matches: &ArgMatches<'_>) -> Result<Years, NoRequest> {
     let from = number(alloc, matches, "from")?;
     let to = number(alloc, matches, "to")?;
     match Years::new(from, to) {
-        Some(years) => Ok(Request::Dump { file, years }),
+        Some(years) => Ok(years),
         None => Err(usage(alloc, "the year of --from is after that of --to")),
     }
 }

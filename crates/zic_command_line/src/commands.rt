@@ -12,6 +12,14 @@ const VERSION: &str = "0.1.0\nproved with rattle-kit-13f logic dac8208d650f15bf"
 /// The words for what the names of Link lines are made as.
 const LINK_WORDS: [&str; 3] = ["copy", "hard", "symlink"];
 
+/// The words for what isn't compared.
+const IGNORE_WORDS: [&str; 4] = [
+    "daylight",
+    "abbreviation",
+    "daylight,abbreviation",
+    "abbreviation,daylight",
+];
+
 /// The words for what an instant counts.
 const UNIT_WORDS: [&str; 4] = ["s", "ms", "us", "ns"];
 
@@ -41,6 +49,8 @@ enum Form {
     Number(Number),
     /// An option that is one of `LINK_WORDS`, the first by default.
     Links,
+    /// An option that is one of `IGNORE_WORDS`.
+    Ignore,
     /// An option that is the name of a zone.
     Zone,
     /// An option that is the number of a field, from 1.
@@ -148,6 +158,63 @@ static BUILD: [Word; 7] = [
         name: "sync",
         help: "Returns once all is on the disk",
         form: Form::Flag,
+    },
+    WORKERS,
+    ZONE_PIECE,
+    EXPLAIN,
+];
+
+static VERIFY: [Word; 5] = [
+    Word {
+        name: "DIR",
+        help: "The folder that is to have the files",
+        form: Form::Required,
+    },
+    Word {
+        name: "SOURCE",
+        help: "Files of Rule, Zone and Link lines; one may be -",
+        form: Form::Several,
+    },
+    WORKERS,
+    ZONE_PIECE,
+    EXPLAIN,
+];
+
+static DIFF: [Word; 8] = [
+    Word {
+        name: "OLD",
+        help: "A file of Rule, Zone and Link lines, or -",
+        form: Form::Required,
+    },
+    Word {
+        name: "NEW",
+        help: "Another one, or - for standard input",
+        form: Form::Required,
+    },
+    Word {
+        name: "from",
+        help: "From the start of which year, 2 to 9999",
+        form: Form::Number(Number {
+            label: "YEAR",
+            default: "1900",
+            least: FIRST_YEAR as i64,
+            most: LAST_YEAR as i64,
+        }),
+    },
+    Word {
+        name: "to",
+        help: "Up to the start of which year, 2 to 9999",
+        form: Form::Number(Number {
+            label: "YEAR",
+            default: "2500",
+            least: FIRST_YEAR as i64,
+            most: LAST_YEAR as i64,
+        }),
+    },
+    Word {
+        name: "ignore",
+        help: "What isn't compared: daylight, abbreviation, or both",
+        form: Form::Ignore,
     },
     WORKERS,
     ZONE_PIECE,
@@ -316,7 +383,7 @@ static NAMES: [Word; 1] = [Word {
     form: Form::Optional,
 }];
 
-static COMMANDS: [Described; 6] = [
+static COMMANDS: [Described; 8] = [
     Described {
         name: "check",
         about: "Compiles a source and lists its files: NAME BYTES FOOTER",
@@ -326,6 +393,16 @@ static COMMANDS: [Described; 6] = [
         name: "build",
         about: "Compiles sources together and writes their files, as zic -d DIR does",
         after: "Example:\n  pzic build ~/zoneinfo /usr/share/zoneinfo/tzdata.zi acme.zi",
+    },
+    Described {
+        name: "verify",
+        about: "Compiles sources and lists the files that DIR lacks or has otherwise",
+        after: "Each line is missing NAME or differs NAME; with none the status is 0.\n\nExample:\n  pzic verify ~/zoneinfo /usr/share/zoneinfo/tzdata.zi acme.zi",
+    },
+    Described {
+        name: "diff",
+        about: "Compiles two sources and lists when their zones differ",
+        after: "Each line is ZONE,FROM,UNTIL and the offset, daylight flag and abbreviation\nof OLD and then of NEW.\n\nExample:\n  pzic diff old/tzdata.zi /usr/share/zoneinfo/tzdata.zi",
     },
     Described {
         name: "convert",
@@ -387,6 +464,8 @@ fn words<'a>(command: &str) -> &'a [Word] {
     match command {
         "check" => &CHECK,
         "build" => &BUILD,
+        "verify" => &VERIFY,
+        "diff" => &DIFF,
         "convert" => &CONVERT,
         "show" => &SHOW,
         "dump" => &DUMP,
@@ -429,6 +508,7 @@ fn option<'a>(argument: Arg<'a>, form: &'a Form) -> Arg<'a> {
         Form::Time => choice(argument.value_name("FORM"), &TIME_WORDS).default_value("count"),
         Form::Choice => choice(argument.value_name("C"), &CHOICE_WORDS),
         Form::Records => choice(argument.value_name("KIND"), &RECORD_WORDS).default_value("csv"),
+        Form::Ignore => choice(argument.value_name("WHAT"), &IGNORE_WORDS),
         Form::Zone => argument.value_name("NAME"),
         Form::Path => argument.value_name("FILE"),
         Form::Folder => argument.value_name("DIR"),

@@ -7,6 +7,7 @@ ghost use Rattle.zic_dump.specs.code.Listed.{IsListed};
 
 use std::marker::Model;
 use zic_calendar::{On, SECONDS_OF_DAY, day_of};
+use zic_tzif::Instants;
 
 /// The first year from which changes are listed. Local time at its start is in the years 1 to
 /// 9999 by any UT offset of a file, and so it is at the start of the last year.
@@ -44,6 +45,19 @@ impl Years {
             Some(Years { from, to })
         } else {
             None
+        }
+    }
+
+    /// Returns the instants from the start of the first year, in UT, up to and including that of the
+    /// second, in seconds from 1970-01-01T00:00:00 UT.
+    pub fn instants(&self) -> Instants
+        ensures first { result.first ≡ year_instant self.now.from }
+        ensures last { result.last ≡ year_instant self.now.to }
+        ensures order { result.first ≤ℤ result.last }
+    {
+        Instants {
+            first: self.first_instant(),
+            last: self.last_instant(),
         }
     }
 

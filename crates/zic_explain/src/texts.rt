@@ -1084,8 +1084,8 @@ Right:
   $ echo 'Etc/UTC,0' | pzic convert utc.zi >rows
 ?  A full disk, or a program at the other end of the pipe, such as `head`, that
   has exited.
-@cannot write output?The output of `check`, `show`, `dump`, `explain` or `--version` can't be written.?  The output of `check`, `show`, `dump`, `explain` or `--version` can't be
-  written. Status 3.
+@cannot write output?The output of `check`, `verify`, `diff`, `show`, `dump`, `explain` or `--version` can't be written.?  The output of `check`, `verify`, `diff`, `show`, `dump`, `explain` or
+  `--version` can't be written. Status 3.
 ?  Standard output that accepts all of the output.
 ?
 The examples use:
@@ -1118,6 +1118,24 @@ Right:
   $ echo 0 | pzic convert --zone Etc/UTC utc.zi
 ?  A name of another release or of `backward`: `pzic check` lists all names of a
   source. With `--tree`, list the folder.
+@tree differs?`verify` listed files of the sources that the folder doesn't have as `build` writes them.?  `verify` listed files of the sources that the folder doesn't have as `build`
+  writes them. Status 1.
+?  For each Zone and Link line a file DIR/NAME with just the bytes that `build`
+  gives it. Other files don't count.
+?
+The examples use:
+  $ echo 'Zone Etc/UTC 0 - UTC' >utc.zi
+
+Wrong:
+  $ mkdir -p empty; pzic verify empty utc.zi >list
+
+It prints:
+  tree differs
+
+Right:
+  $ pzic build folder utc.zi; pzic verify folder utc.zi
+?  A tree of another release or of another compiler, or a build that was cut
+  off. The lines of standard output have the names.
 @out of memory?The system refused memory.?  The system refused memory. Status 4.
 ?  A few MB for a release of the tz database, some 60 MB for a column with 4
   threads, and up to three times the longest record of it.

@@ -235,7 +235,9 @@ fn named_in(request: &Request) -> &[String] {
             Zones::Source(source) => slice::from_ref(source),
             Zones::Tree(_) => &[],
         },
-        Request::Build { sources, .. } => sources,
+        Request::Build { sources, .. }
+        | Request::Verify { sources, .. }
+        | Request::Diff { sources, .. } => sources,
         Request::Show { file, .. } | Request::ShowLocal { file, .. } | Request::Dump { file, .. } =>
             slice::from_ref(file),
         Request::Explain { .. } | Request::Version { .. } => &[],

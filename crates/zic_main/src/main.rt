@@ -3,6 +3,8 @@
 //! are read.
 #![tactic(auto)]
 
+ghost use Rattle.std.specs.Prelude.{◌≤ℤ◌};
+
 mod failure;
 mod own_file;
 mod standard;
@@ -24,9 +26,11 @@ use zic_command_line::{Conversion, Links, Request, Zones};
 use zic_commands::{
     Disk, Durability, Failure, LinkKind, LinkedFolder, Progress, ProgressLine, TreeZones,
 };
+use zic_compare::Comparison;
 use zic_counted::{Counted, flush, write_all};
 use zic_dump::Years;
 use zic_failures::Explainer;
+use zic_files::Files as ZoneFiles;
 use zic_io::{FaultList, ListFile, ZoneFolder};
 use zic_local::LocalTime;
 use zic_pieces::Open;
@@ -57,13 +61,28 @@ fn run<
     expect_own_file(rt, &asked.request)?;
     if !asked.explain {
         let mut texts = Vec::new(rt.alloc());
-        answer(rt, errors, asked.request, &mut texts)?;
-        return Ok(());
+        return ended(answer(rt, errors, asked.request, &mut texts)?);
     }
     let mut explainer = Explainer::new(rt, &asked.request)?;
     match answer(rt, errors, asked.request, &mut explainer.texts) {
-        Ok(()) => Ok(()),
+        Ok(ending) => ended(ending),
         Err(failure) => Err(explained(rt, &explainer, failure)),
+    }
+}
+
+/// How a command ends that doesn't give up.
+#[derive(Clone, Copy, Debug, PartialEq, Eq)]
+enum Ending {
+    Done,
+    /// A folder lacks files of sources, or has others.
+    Differs,
+}
+
+/// Returns whether the program ends well.
+fn ended(ending: Ending) -> Result<(), Refusal> {
+    match ending {
+        Ending::Done => Ok(()),
+        Ending::Differs => Err(Refusal::Differs),
     }
 }
 
@@ -80,9 +99,9 @@ fn explained<R: Files + AllocGlobal>(rt: &R, explainer: &Explainer, failure: Fai
 fn answer<
     R: Files + Input + Print + Clock + RandomSource + AllocGlobal + Threads + Wait + Sync,
     E: Write + IsTerminal + Drop,
->(rt: &R, errors: E, request: Request, texts: &mut Vec<Vec<u8>>) -> Result<(), Failure> {
+>(rt: &R, errors: E, request: Request, texts: &mut Vec<Vec<u8>>) -> Result<Ending, Failure> {
     match request {
-        Request::Check { source, plan } => check(rt, source, &plan, texts),
+        Request::Check { source, plan } => check(rt, source, &plan, texts)?,
         Request::Build {
             folder,
             sources,
@@ -98,14 +117,33 @@ fn answer<
             };
             let mut disk = Disk::new(rt.alloc(), rt, random_number(rt), durability);
             build(rt, &plan, texts, &mut disk, folder.as_str(), links)?;
-            disk.sync()
+            disk.sync()?;
         }
-        Request::Convert(order) => convert(rt, &order, errors, texts),
-        Request::Show { file, instant } => show(rt, file.as_str(), instant),
-        Request::ShowLocal { file, local } => show_local(rt, file.as_str(), &local),
-        Request::Dump { file, years } => dump(rt, file.as_str(), &years),
-        Request::Explain { text } | Request::Version { text } => tell(rt, text.as_str()),
+        Request::Verify {
+            folder,
+            sources,
+            plan,
+        } => {
+            read(rt, &sources, texts)?;
+            return verify(rt, &plan, texts, &folder);
+        }
+        Request::Diff {
+            sources,
+            plan,
+            years,
+            compared,
+        } => {
+            read(rt, &sources, texts)?;
+            let bounds = years.instants();
+            diff(rt, &plan, texts, &Comparison { compared, bounds })?;
+        }
+        Request::Convert(order) => convert(rt, &order, errors, texts)?,
+        Request::Show { file, instant } => show(rt, file.as_str(), instant)?,
+        Request::ShowLocal { file, local } => show_local(rt, file.as_str(), &local)?,
+        Request::Dump { file, years } => dump(rt, file.as_str(), &years)?,
+        Request::Explain { text } | Request::Version { text } => tell(rt, text.as_bytes())?,
     }
+    Ok(Ending::Done)
 }
 
 /// Reads the texts of the sources that the words name.
@@ -175,6 +213,53 @@ fn build<R: Files + AllocGlobal + Threads + Wait + Sync>(
     zic_commands::build_linked(rt, alloc, plan, texts, disk, &folder)
 }
 
+/// Tells which files of the texts a folder doesn't have as they are, and returns whether there are any.
+fn verify<R: Files + Print + AllocGlobal + Threads + Wait + Sync>(
+    rt: &R,
+    plan: &Plan,
+    texts: &[Vec<u8>],
+    path: &String,
+) -> Result<Ending, Failure> {
+    expect_folder(rt, path)?;
+    let files = zic_source_commands::files_of(rt, rt.alloc(), plan, texts)?;
+    let mut folder = ZoneFolder::new(rt, path.as_str());
+    let lines = zic_compare::verify(rt.alloc(), &files, &mut folder)?;
+    tell(rt, &lines)?;
+    if lines.is_empty() {
+        Ok(Ending::Done)
+    } else {
+        Ok(Ending::Differs)
+    }
+}
+
+/// Lists when the files of the second text answer otherwise than those of the first.
+fn diff<R: Print + AllocGlobal + Threads + Wait + Sync>(
+    rt: &R,
+    plan: &Plan,
+    texts: &[Vec<u8>],
+    how: &Comparison,
+) -> Result<(), Failure>
+    requires { how.now.bounds.first ≤ℤ how.now.bounds.last }
+{
+    let (old, new) = texts.split_at(texts.len().min(1));
+    let old = side_files(rt, plan, old, 1)?;
+    let new = side_files(rt, plan, new, 2)?;
+    tell(rt, &zic_compare::diff(rt.alloc(), &old, &new, how)?)
+}
+
+/// Returns the files of the text of this number. A fault of it is that of several texts.
+fn side_files<R: AllocGlobal + Threads + Wait + Sync>(
+    rt: &R,
+    plan: &Plan,
+    texts: &[Vec<u8>],
+    text: u64,
+) -> Result<ZoneFiles, Failure> {
+    match zic_source_commands::files_of(rt, rt.alloc(), plan, texts) {
+        Err(Failure::Line { line, kind }) => Err(Failure::TextLine { text, line, kind }),
+        answer => answer,
+    }
+}
+
 /// Returns a random number, which no other run has and nobody knows before, or 0 where the system gives
 /// none.
 fn random_number<R: RandomSource>(rt: &R) -> u64 {
@@ -184,9 +269,9 @@ fn random_number<R: RandomSource>(rt: &R) -> u64 {
 }
 
 /// Writes a text.
-fn tell<R: Print>(rt: &R, text: &str) -> Result<(), Failure> {
+fn tell<R: Print>(rt: &R, text: &[u8]) -> Result<(), Failure> {
     let mut output = Counted::new(io::writer(rt));
-    write_all(&mut output, text.as_bytes())?;
+    write_all(&mut output, text)?;
     flush(&mut output)?;
     Ok(())
 }

@@ -1,0 +1,5 @@
+pub mod RunLemmas
+pub mod SameLemmas
+pub mod FilesLemmas
+pub mod VerifyLemmas
+pub mod LineLemmas

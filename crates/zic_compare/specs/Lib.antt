@@ -1,0 +1,7 @@
+pub mod Answers
+pub mod Differences
+pub mod Files
+pub mod Laws
+pub mod Text
+pub mod Verifying
+pub mod code
