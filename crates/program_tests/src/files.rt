@@ -56,7 +56,8 @@ impl Gate for Counter {
 }
 
 /// Nine zones.
-const NINE_NAMES: &str = "Zone Z/1 0 - AAA\nZone Z/2 0 - AAA\nZone Z/3 0 - AAA\nZone Z/4 0 - AAA\nZone Z/5 0 - AAA\n\
+const NINE_NAMES: &str =
+    "Zone Z/1 0 - AAA\nZone Z/2 0 - AAA\nZone Z/3 0 - AAA\nZone Z/4 0 - AAA\nZone Z/5 0 - AAA\n\
 Zone Z/6 0 - AAA\nZone Z/7 0 - AAA\nZone Z/8 0 - AAA\nZone Z/9 0 - AAA\n";
 
 /// Nine zones. The fourth and the eighth have a fault.
