@@ -13,7 +13,7 @@ _pzic() {
     check | verify) options='--workers --zone-piece --explain --help' ;;
     build) options='--links --sync --workers --zone-piece --explain --help' ;;
     diff) options='--from --to --ignore --workers --zone-piece --explain --help' ;;
-    convert) options='--workers --zone-piece --row-piece --max-rows --max-bytes --tree --header --skip-header --zone --zone-field --time-field --delimiter --unit --from --records --append --keep-going --faults --progress --explain --help' ;;
+    convert) options='--workers --zone-piece --row-piece --max-rows --max-bytes --tree --header --skip-header --zone --zone-field --time-field --delimiter --unit --from --ambiguous --records --append --keep-going --faults --progress --explain --help' ;;
     show) options='--local --explain --help' ;;
     dump) options='--from --to --explain --help' ;;
     explain)

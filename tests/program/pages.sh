@@ -271,7 +271,7 @@ for name in check build convert show dump explain; do
     [ "$words" = "$(options_of "$name")" ] || differ "bash completes 'pzic $name --' by '$words'"
 done
 words=$(completed pzic '')
-[ "$words" = $'build\ncheck\nconvert\ndump\nexplain\nshow' ] || differ "bash completes 'pzic' by '$words'"
+[ "$words" = $'build\ncheck\nconvert\ndiff\ndump\nexplain\nshow\nverify' ] || differ "bash completes 'pzic' by '$words'"
 ! has 'the completions of zsh' zsh || zsh -n completions/_pzic || differ 'zsh can not read completions/_pzic'
 
 # ------------------------------------------------------------------ the pages themselves
