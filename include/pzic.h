@@ -375,7 +375,7 @@ static inline int32_t pzic_zone_of(const pzic_handle *files, size_t number, pzic
 typedef struct pzic_row_fault {
     /* The number of the row, from 1. */
     uint64_t row;
-    /* The number of the kind, 35 to 42. pzic_name_of_fault tells its name. */
+    /* The number of the kind, 35 to 43. pzic_name_of_fault tells its name. */
     uint32_t kind;
 } pzic_row_fault;
 
@@ -406,7 +406,7 @@ static inline int32_t pzic_rows_text(const pzic_handle *rows, uint8_t *room, siz
                                      size_t *length);
 
 /*
- * Copies the name of a fault's kind, 1 to 42, or of a reason, 1 to 14, as the program prints it: as
+ * Copies the name of a fault's kind, 1 to 43, or of a reason, 1 to 14, as the program prints it: as
  * much as there is room for, without a NUL. Tells the whole length, at most 17.
  *
  * PZIC_OK       *length is the whole length, and the first bytes are copied

@@ -865,9 +865,10 @@ static void name_faults(void) {
     expect_name(pzic_name_of_fault, 35, "RowFields");
     expect_name(pzic_name_of_fault, 39, "TooManyRows");
     expect_name(pzic_name_of_fault, 42, "RowRepeated");
+    expect_name(pzic_name_of_fault, 43, "RowQuote");
     expect_name(pzic_name_of_reason, PZIC_REASON_SHORT, "Short");
     expect_name(pzic_name_of_reason, PZIC_REASON_TOO_LARGE, "TooLarge");
-    static const uint32_t others[] = {0, 31, 43, UINT32_MAX};
+    static const uint32_t others[] = {0, 31, 44, UINT32_MAX};
     for (int i = 0; i < 4; i++) expect_no_name(pzic_name_of_fault, others[i]);
     expect_no_name(pzic_name_of_reason, 0);
     expect_no_name(pzic_name_of_reason, 15);
