@@ -8,7 +8,7 @@ use Rattle.zic_convert.proofs.Staying.{named_same}
 
 module _ (settled : List ℕ → Type 0) (known files : List File) (agree : Agree settled known files) (name : List ℕ) (has : settled name) where
   named_alike : is_named known name ≡ is_named files name
-  named_alike = named_same known files agree.still name (λ file among is. agree.only file among (subst settled (sym is) has))
+  named_alike = named_same known files agree.still agree.sound.names_differ name (λ file among is. agree.only file among (subst settled (sym is) has))
 
   -- a file that may be has the name of one that is known
   pub still_named : (n : ℕ) → number_of known name ≡ Some n → is_named files name ≡ true

@@ -333,8 +333,8 @@ fn expect_folder<R: Files>(rt: &R, path: &String) -> Result<(), Failure> {
 }
 
 /// Converts standard input, and writes the faults of rows to the file of this path. The file is made or
-/// emptied at the first fault, or at the end: a fault of the source, an unknown zone or lack of memory
-/// before the first fault leaves it as it is.
+/// emptied once some 8,000 bytes of faults are there, or at the end: a fault of the source, an unknown
+/// zone or lack of memory before the first fault leaves it as it is.
 fn convert_noted<
     R: Files + Input + Print + Clock + RandomSource + AllocGlobal + Threads + Wait + Sync,
     E: Write + Drop,
