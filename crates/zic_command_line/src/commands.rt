@@ -203,7 +203,7 @@ static DIFF: [Word; 8] = [
     },
     Word {
         name: "to",
-        help: "Up to the start of which year, 2 to 9999",
+        help: "To the start of which year, 2 to 9999",
         form: Form::Number(Number {
             label: "YEAR",
             default: "2500",
