@@ -137,10 +137,11 @@ def files(program):
 # ------------------------------------------------------------------ records
 
 def records(program):
-    """columns of one record. Its bytes are held in a buffer that grows by an eighth, and those of a quoted field once more"""
+    """columns of one record. Its bytes are held in a buffer that grows by an eighth, and is moved as it grows, and those of a quoted field
+    once more"""
     source = written("utc.zi", [b"Zone Etc/UTC 0 - UTC\n"])
     size = 48
-    plain, quoted = (0.5, size * 1.2 + 24), (1, size * 2.3 + 24)
+    plain, quoted = (0.5, size * 2.3 + 24), (1, size * 2.3 + 24)
     column = written("column", [b'Etc/UTC,"0\n' + b"Etc/UTC,0\n" * (size * MIB // 10)])
     run(f"a stray quote before {size} MiB", [program, "convert", source], column, quoted, (1, "row 1: RowInstant"))
     run(f"a stray quote before {size} MiB, explained", [program, "convert", "--explain", source], column, quoted,
