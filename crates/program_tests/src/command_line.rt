@@ -91,7 +91,7 @@ static REQUESTS: [(&str, &str); 21] = [
     ),
     (
         "pzic convert --zone-field 3 --time-field 1 --from local --ambiguous later --tree a",
-        "Convert(Conversion { zones: Tree(\"a\"), plan: Plan { workers: 4, zone_piece: 16, row_piece: 1024, max_rows: 100000000, max_bytes: 4294967296 }, layout: Layout { zone: Field(2), time: 0, from: Local(Later), count: AtLeast(3), unit: Second, delimiter: Delimiter { byte: 44 }, header: Absent, start: Fields, at_fault: End }, faults: None, progress: false })",
+        "Convert(Conversion { zones: Tree(\"a\"), plan: Plan { workers: 4, zone_piece: 16, row_piece: 1024, max_rows: 100000000, max_bytes: 4294967296 }, layout: Layout { zone: Field(2), time: 0, from: Local(Later), count: AtLeast(3), unit: Second, delimiter: Delimiter { byte: 44 }, records: Csv, header: Absent, start: Fields, at_fault: End }, faults: None, progress: false })",
     ),
 ];
 
